@@ -1,0 +1,5 @@
+-- Laws, from the definitions upward: of any events, of one word's digits, of a row of words, of a set.
+pub mod Bits
+pub mod Events
+pub mod Sets
+pub mod Words

@@ -1,0 +1,183 @@
+-- Read as 000 writes terms, a rewriting is one by the printed rules, and an instant an instant by them.
+use Prim.Native.Nat.{ℕ, zero, suc, _-_}
+use native.Mathlib.Numerals.{sub-one}
+use native.Mathlib.Omega.{arith}
+use mathlib.Core.Bool.{Bool, true, false}
+use mathlib.Core.Path.{_≡_, refl, ap, ap₂}
+use mathlib.Core.Logic.{_≢_, inl, inr}
+use Rattle.junior.specs.declared.Flag.{Flag}
+use Rattle.junior.specs.declared.Flag.the-variants.{SUSP, STOP, TERM}
+use Rattle.junior.specs.Configuration.{Env, with-event}
+use Rattle.junior.specs.Program.{Program}
+use Rattle.junior.specs.Term.{Term, local, prog, fresh, leave}
+use Rattle.junior.specs.Trace.{Place}
+use Rattle.junior.specs.Rules.{Result, again, sign, Rewrites, r1, r1-on, r2, r3, r4, r4-on, r5, r8, r10, r11}
+use Rattle.junior.specs.Rules.{r12, r13, r4-loop, r5-loop, r14, r15, r4-repeat, r5-repeat, r16, r17, r17-on}
+use Rattle.junior.specs.Rules.{r18, r19, r19-on, r20, r21, r22, r23, r24, r25, r26, r27, r28, r29, r30, r31}
+use Rattle.junior.specs.Rules.{r31-on, r32, r33, r34, r35-39}
+use Rattle.junior.specs.Instant.{Instant, r47, r48, r49}
+use Rattle.junior.specs.Printed.{Abstract, Seq, Par, Repeat, Until, Control, Local-, leaves, tr, reads}
+use Rattle.junior.specs.Printed.{_∣_—[_]→_∣_, _∣_—[_]—_passes→_∣_, rule1, rule2, rule3, rule4, rule5, rule8}
+use Rattle.junior.specs.Printed.{rule10, rule11, rule12, rule13, rule14, rule15, rule16, rule17, rule18, rule19}
+use Rattle.junior.specs.Printed.{rule20, rule21, rule22, rule23, rule24, rule25, rule26, rule27, rule28, rule29}
+use Rattle.junior.specs.Printed.{rule30, rule31, rule32, rule33, rule34, rule35, rule36, rule37, rule38, rule39}
+use Rattle.junior.specs.Printed.{rule47, rule48, rule49}
+use Rattle.junior.proofs.Kept.{prog-fresh, kept}
+
+pub reads-fresh : (p : Program) → reads (fresh p) ≡ tr p
+unfolding reads fresh tr
+reads-fresh Program.Nothing = refl
+reads-fresh Program.Stop = refl
+reads-fresh (Program.Atom a) = refl
+reads-fresh (Program.Seq p q) = ap (λ t. Seq t (tr q)) (reads-fresh p)
+reads-fresh (Program.Par p q) = ap₂ (Par SUSP SUSP) (reads-fresh p) (reads-fresh q)
+reads-fresh (Program.Loop p) = refl
+reads-fresh (Program.Repeat n p) = refl
+reads-fresh (Program.Generate s) = refl
+reads-fresh (Program.Await c) = refl
+reads-fresh (Program.When c p q) = refl
+reads-fresh (Program.Until c p q) = ap (λ t. Until c t (tr q)) (reads-fresh p)
+reads-fresh (Program.Control s p) = ap (Control s) (reads-fresh p)
+reads-fresh (Program.Local s p) = ap (Local- s) (reads-fresh p)
+
+pub reads-leave : (α : Flag) (t : Term) → reads (leave α t) ≡ leaves α (reads t)
+unfolding reads leave leaves
+reads-leave SUSP t = refl
+reads-leave STOP t = refl
+reads-leave TERM t = refl
+
+leaves-on : (α : Flag) (t : Abstract) → α ≢ TERM → leaves α t ≡ t
+unfolding leaves
+leaves-on SUSP t h = refl
+leaves-on STOP t h = refl
+leaves-on TERM t h = absurd (h refl)
+
+leaves-twice : (α : Flag) (t : Abstract) → leaves α (leaves α t) ≡ leaves α t
+unfolding leaves
+leaves-twice SUSP t = refl
+leaves-twice STOP t = refl
+leaves-twice TERM t = refl
+
+-- by the printed rules too, what answers TERM leaves Nothing
+pub leaves-nothing : {t t′ : Abstract} {E E′ : Env} {α : Flag} → t ∣ E —[ α ]→ t′ ∣ E′ → leaves α t′ ≡ t′
+unfolding leaves
+leaves-nothing rule1 = refl
+leaves-nothing rule2 = refl
+leaves-nothing rule3 = refl
+leaves-nothing (rule4 d e) = leaves-nothing e
+leaves-nothing (rule5 d h) = leaves-on _ _ h
+leaves-nothing (rule8 d e) = rw leaves-twice
+leaves-nothing (rule10 h d) = rw leaves-twice
+leaves-nothing (rule11 h d) = rw leaves-twice
+leaves-nothing (rule12 d h) = leaves-on _ _ h
+leaves-nothing (rule13 d e) = leaves-nothing e
+leaves-nothing (rule14 h) = refl
+leaves-nothing (rule15 h d) = leaves-nothing d
+leaves-nothing rule16 = refl
+leaves-nothing (rule17 s h d) = leaves-nothing d
+leaves-nothing (rule18 s h) = refl
+leaves-nothing (rule19 s h d) = leaves-nothing d
+leaves-nothing (rule20 s h) = refl
+leaves-nothing (rule21 s) = refl
+leaves-nothing (rule22 s h) = refl
+leaves-nothing (rule23 s h) = refl
+leaves-nothing (rule24 s) = refl
+leaves-nothing (rule25 s) = refl
+leaves-nothing (rule26 s d) = rw leaves-twice
+leaves-nothing (rule27 s) = refl
+leaves-nothing (rule28 s) = refl
+leaves-nothing (rule29 d h) = rw leaves-twice
+leaves-nothing (rule30 d e) = leaves-nothing e
+leaves-nothing (rule31 s h d) = leaves-nothing d
+leaves-nothing (rule32 s h) = refl
+leaves-nothing (rule33 s) = refl
+leaves-nothing (rule34 s) = refl
+leaves-nothing (rule35 d h) = refl
+leaves-nothing (rule36 d h) = refl
+leaves-nothing (rule37 d) = refl
+leaves-nothing (rule38 d h) = rw leaves-twice
+leaves-nothing (rule39 d h) = rw leaves-twice
+
+-- what is left of a Repeat when k more runs are due answers as Repeat(k)
+runs-due : (n k : ℕ) (p : Program) {x : Abstract} {E F : Env} {α : Flag}
+    → reads (again n k p) ∣ E —[ α ]→ x ∣ F
+    → Repeat k (tr p) ∣ E —[ α ]→ x ∣ F
+unfolding reads
+runs-due n zero p rule1 = rule14 {n = 0} (omega arith)
+runs-due n (suc k) p {x} {E} {F} {α} d =
+    let e = simp (reads-fresh p, prog-fresh p) at d in
+    let e′ : Seq (tr p) (Repeat (suc k - 1) (tr p)) ∣ E —[ α ]→ x ∣ F = rw sub-one e in
+    rule15 {n = suc k} (omega arith) e′
+
+-- rules 35 to 39, by sign, flag and whether the event is present
+scope-as-printed : (b : Bool) (α : Flag) (present : Bool) (s : ℕ) (t t′ : Term) {E F : Env}
+    → F .now s ≡ present
+    → reads t ∣ with-event s b E —[ α ]→ reads t′ ∣ F
+    → reads (local b s t) ∣ E —[ α ]→ reads (leave α (local (sign b α present) s t′)) ∣ with-event s (E .now s) F
+unfolding reads leave leaves
+scope-as-printed false SUSP false s t t′ h d = rule35 d h
+scope-as-printed false SUSP true s t t′ h d = rule36 d h
+scope-as-printed true SUSP present s t t′ h d = rule37 d
+scope-as-printed false STOP present s t t′ h d = rule38 d (inr refl)
+scope-as-printed true STOP present s t t′ h d = rule39 d (inr refl)
+scope-as-printed false TERM present s t t′ h d = rule38 d (inl refl)
+scope-as-printed true TERM present s t t′ h d = rule39 d (inl refl)
+
+pub as-printed : {P : Place} {t : Term} {E : Env} {r : Result}
+    → Rewrites ⊥ P t E r
+    → reads t ∣ E —[ r .flag ]→ reads (r .to) ∣ r .env
+unfolding reads
+as-printed r1 = rule1
+as-printed r1-on = rule1
+as-printed r2 = rule2
+as-printed r3 = rule3
+as-printed (r4 d e) =
+    rw (reads-leave, leaves-nothing (as-printed e)) (rule4 (as-printed d) (rw reads-fresh at (as-printed e)))
+as-printed (r4-on d) = rw (reads-leave, leaves-nothing (as-printed d)) (as-printed d)
+as-printed (r5 d h) = rw (reads-leave, leaves-on) (rule5 (as-printed d) h)
+as-printed (r8 d e) = rw reads-leave (rule8 (as-printed d) (as-printed e))
+as-printed (r10 h d) = rw reads-leave (rule10 h (as-printed d))
+as-printed (r11 h d) = rw reads-leave (rule11 h (as-printed d))
+as-printed (r12 d h) =
+    rw (reads-leave, leaves-on, kept d, prog-fresh) (rule12 (rw reads-fresh at (as-printed d)) h)
+as-printed (r13 d e) = rule13 (rw reads-fresh at (as-printed d)) (as-printed e)
+as-printed (r4-loop d e) = rule4 (as-printed d) (as-printed e)
+as-printed (r5-loop d h) = rw (reads-leave, leaves-on, kept d) (rule5 (as-printed d) h)
+as-printed r14 = rule14 {n = 0} (omega arith)
+as-printed (r15 {n = n} {p = p} d) = runs-due (suc n) (suc n) p (as-printed d)
+as-printed (r4-repeat {n = n} {k = k} {t = t} d e) = rule4 (as-printed d) (runs-due n k (prog t) (as-printed e))
+as-printed (r5-repeat d h) = rw (reads-leave, leaves-on, kept d) (rule5 (as-printed d) h)
+as-printed r16 = rule16
+as-printed (r17 s h d) =
+    rw (reads-leave, leaves-nothing (as-printed d)) (rule17 s h (rw reads-fresh at (as-printed d)))
+as-printed (r17-on d) = rw (reads-leave, leaves-nothing (as-printed d)) (as-printed d)
+as-printed (r18 s h) = rw reads-fresh (rule18 s h)
+as-printed (r19 s h d) =
+    rw (reads-leave, leaves-nothing (as-printed d)) (rule19 s h (rw reads-fresh at (as-printed d)))
+as-printed (r19-on d) = rw (reads-leave, leaves-nothing (as-printed d)) (as-printed d)
+as-printed (r20 s h) = rw reads-fresh (rule20 s h)
+as-printed (r21 s) = rule21 s
+as-printed (r22 s h) = rule22 s h
+as-printed (r23 s h) = rule23 s h
+as-printed (r24 s) = rule24 s
+as-printed (r25 s) = rule25 s
+as-printed (r26 s d) = rw reads-leave (rule26 s (as-printed d))
+as-printed (r27 s) = rule27 s
+as-printed (r28 s) = rule28 s
+as-printed (r29 d h) = rw reads-leave (rule29 (as-printed d) h)
+as-printed (r30 d e) = rule30 (as-printed d) (as-printed e)
+as-printed (r31 s h d) =
+    rw (reads-leave, leaves-nothing (as-printed d)) (rule31 s h (rw reads-fresh at (as-printed d)))
+as-printed (r31-on d) = rw (reads-leave, leaves-nothing (as-printed d)) (as-printed d)
+as-printed (r32 s h) = rw reads-fresh (rule32 s h)
+as-printed (r33 s) = rule33 s
+as-printed (r34 s) = rule34 s
+as-printed (r35-39 {b = b} {s = s} {t = t} {r = r} d) =
+    scope-as-printed b (r .flag) (r .env .now s) s t (r .to) refl (as-printed d)
+
+pub instant-as-printed : {t : Term} {E : Env} {n : ℕ} {r : Result}
+    → Instant ⊥ t E n r
+    → reads t ∣ E —[ r .flag ]— n passes→ reads (r .to) ∣ r .env
+instant-as-printed (r47 d h) = rule47 (as-printed d) h
+instant-as-printed (r48 d f m i) = rule48 (rw f at (as-printed d)) m (instant-as-printed i)
+instant-as-printed (r49 d f m i) = rule49 (rw f at (as-printed d)) m (instant-as-printed i)

@@ -1,0 +1,335 @@
+-- Once the end is declared no pass answers SUSP. Where an instant declares it, after a pass that answered SUSP and moved nothing,
+-- one more pass ends the instant: it answers STOP, does no atom and generates no event.
+use Prim.Native.Nat.{ℕ}
+use mathlib.Core.Bool.{Bool, true, false, false≢true}
+use mathlib.Core.Path.{_≡_, refl, ap, ap₂, sym, subst, _∙_}
+use mathlib.Core.Logic.{_≢_}
+use mathlib.Core.List.{List, [], _∷_, _++_}
+use Rattle.events.specs.Events.{Events, put}
+use Rattle.junior.specs.declared.Flag.{Flag}
+use Rattle.junior.specs.declared.Flag.the-variants.{SUSP, STOP, TERM}
+use Rattle.junior.specs.Flags.{γ, δ₁, δ₂}
+use Rattle.junior.specs.Configuration.{Config, Event, Env, declared-end}
+use Rattle.junior.specs.Term.{Term, done, nothing, stop, atom, generate, await, seq0, seq2, par, loop0, loop1}
+use Rattle.junior.specs.Term.{repeat0, repeat1, when0, when1, when2, until0, until*, until2, control, local}
+use Rattle.junior.specs.Term.{leave}
+use Rattle.junior.specs.Trace.{Place, Act, decided, scope-answered, atom-of, event-of, collect, generations}
+use Rattle.junior.specs.Rules.{Result, sign, Rewrites, r1, r1-on, r2, r3, r4, r4-on, r5, r8, r9, r10, r11, r12}
+use Rattle.junior.specs.Rules.{r13, r4-loop, r5-loop, r14, r15, r4-repeat, r5-repeat, r16, r17, r17-on, r18}
+use Rattle.junior.specs.Rules.{r19, r19-on, r20, r21, r22, r23, r24, r25, r26, r27, r28, r29, r30, r31, r31-on}
+use Rattle.junior.specs.Rules.{r32, r33, r34, r35-39}
+use Rattle.junior.specs.Instant.{Instant, r47, r48, r49}
+use Rattle.junior.specs.Course.{Idle, IdleOnceEnded}
+use Rattle.junior.proofs.Little.{STOP≢SUSP, TERM≢SUSP, TERM≢STOP, collect-++, collect-none, put-at}
+use Rattle.junior.proofs.Verdicts.{known-at-end, known-present, present}
+use Rattle.junior.proofs.Grows.{end-kept, unchanged, quiet, quiet-unchanged}
+
+γ-answered : (α β : Flag) → α ≢ SUSP → β ≢ SUSP → γ α β ≢ SUSP
+γ-answered SUSP β h k = absurd (h refl)
+γ-answered STOP SUSP h k = absurd (k refl)
+γ-answered STOP STOP h k = STOP≢SUSP
+γ-answered STOP TERM h k = STOP≢SUSP
+γ-answered TERM SUSP h k = absurd (k refl)
+γ-answered TERM STOP h k = STOP≢SUSP
+γ-answered TERM TERM h k = TERM≢SUSP
+
+-- with the end declared every test is decided
+pub ended : {free : Type 0} {P : Place} {t : Term} {E : Env} {r : Result}
+    → Rewrites free P t E r
+    → E .eoi ≡ true
+    → r .flag ≢ SUSP
+ended r1 e = TERM≢SUSP
+ended r1-on e = TERM≢SUSP
+ended r2 e = STOP≢SUSP
+ended r3 e = TERM≢SUSP
+ended (r4 d d′) e = ended d′ (end-kept d ∙ e)
+ended (r4-on d) e = ended d e
+ended (r5 d h) e = ended d e
+ended (r8 {r = r} {s = s} d d′) e = γ-answered (r .flag) (s .flag) (ended d e) (ended d′ (end-kept d ∙ e))
+ended (r9 {r = r} {s = s} f d′ d) e = γ-answered (r .flag) (s .flag) (ended d (end-kept d′ ∙ e)) (ended d′ e)
+ended (r10 {β = β} {r = r} h d) e = γ-answered (r .flag) β (ended d e) h
+ended (r11 {α = α} {r = r} h d) e = γ-answered α (r .flag) h (ended d e)
+ended (r12 d h) e = ended d e
+ended (r13 d d′) e = ended d′ (end-kept d ∙ e)
+ended (r4-loop d d′) e = ended d′ (end-kept d ∙ e)
+ended (r5-loop d h) e = ended d e
+ended r14 e = TERM≢SUSP
+ended (r15 d) e = ended d e
+ended (r4-repeat d d′) e = ended d′ (end-kept d ∙ e)
+ended (r5-repeat d h) e = ended d e
+ended r16 e = TERM≢SUSP
+ended (r17 v h d) e = ended d e
+ended (r17-on d) e = ended d e
+ended (r18 v h) e = STOP≢SUSP
+ended (r19 v h d) e = ended d e
+ended (r19-on d) e = ended d e
+ended (r20 v h) e = STOP≢SUSP
+ended (r21 {E = E} {c = c} v) e = absurd (known-at-end c E e v)
+ended (r22 v h) e = TERM≢SUSP
+ended (r23 v h) e = STOP≢SUSP
+ended (r24 v) e = STOP≢SUSP
+ended (r25 {E = E} {c = c} v) e = absurd (known-at-end c E e v)
+ended (r26 v d) e = ended d e
+ended (r27 v) e = STOP≢SUSP
+ended (r28 {E = E} {s = s} v) e = absurd (known-at-end (Event s) E e v)
+ended (r29 d h) e = ended d e
+ended (r30 d d′) e = ended d′ (end-kept d ∙ e)
+ended (r31 v h d) e = ended d e
+ended (r31-on d) e = ended d e
+ended (r32 v h) e = STOP≢SUSP
+ended (r33 v) e = STOP≢SUSP
+ended (r34 {E = E} {c = c} v) e = absurd (known-at-end c E e v)
+ended (r35-39 d) e = ended d e
+
+-- t waits, the events X being present: all that would run in it is a test
+unfoldable pub Blocked : Events → Term → Type 0
+Blocked X (done p) = ⊥
+Blocked X nothing = ⊥
+Blocked X stop = ⊥
+Blocked X (atom a) = ⊥
+Blocked X (generate s) = ⊥
+Blocked X (await c) = Unit {0}
+Blocked X (seq0 t q) = Blocked X t
+Blocked X (seq2 p t) = Blocked X t
+Blocked X (par α β t u) = (α ≡ SUSP → Blocked X t) × (β ≡ SUSP → Blocked X u)
+Blocked X (loop0 p) = ⊥
+Blocked X (loop1 t) = Blocked X t
+Blocked X (repeat0 n p) = ⊥
+Blocked X (repeat1 n k t) = Blocked X t
+Blocked X (when0 c p q) = Unit {0}
+Blocked X (when1 c t q) = Blocked X t
+Blocked X (when2 c p t) = Blocked X t
+Blocked X (until0 c t q) = Blocked X t
+Blocked X (until* c t q) = Unit {0}
+Blocked X (until2 c p t) = Blocked X t
+Blocked X (control s t) = X s ≡ true → Blocked X t
+Blocked X (local b s t) = Blocked (put s b X) t
+
+leave-susp : (α : Flag) (t : Term) → α ≡ SUSP → leave α t ≡ t
+unfolding leave
+leave-susp SUSP t h = refl
+leave-susp STOP t h = refl
+leave-susp TERM t h = absurd (TERM≢SUSP h)
+
+-- in a Par that answers SUSP only a branch that answered SUSP has that flag
+δ₁-susp : (α β : Flag) → γ α β ≡ SUSP → δ₁ α β ≡ SUSP → α ≡ SUSP
+δ₁-susp SUSP β h k = refl
+δ₁-susp STOP SUSP h k = k
+δ₁-susp STOP STOP h k = h
+δ₁-susp STOP TERM h k = h
+δ₁-susp TERM β h k = k
+
+δ₂-susp : (α β : Flag) → γ α β ≡ SUSP → δ₂ α β ≡ SUSP → β ≡ SUSP
+δ₂-susp α SUSP h k = refl
+δ₂-susp SUSP STOP h k = k
+δ₂-susp STOP STOP h k = h
+δ₂-susp TERM STOP h k = h
+δ₂-susp SUSP TERM h k = k
+δ₂-susp STOP TERM h k = k
+δ₂-susp TERM TERM h k = k
+
+-- a Local whose event didn't change keeps its sign
+sign-kept : (b now : Bool) (α : Flag) → now ≡ b → α ≡ SUSP → sign b α now ≡ b
+sign-kept b now α h f = rw f (go b now h)
+  where
+    go : (b now : Bool) → now ≡ b → sign b SUSP now ≡ b
+    go false now h = h
+    go true now h = refl
+
+-- a pass that generates nothing, with another behind it
+behind : {free : Type 0} {P : Place} {t : Term} {E : Env} {r : Result}
+    → Rewrites free P t E r
+    → (s : Result)
+    → generations (r .acts ++ s .acts) ≡ []
+    → (generations (s .acts) ≡ [] → Blocked (r .env .now) (s .to))
+    → Blocked (E .now) (s .to)
+behind {r = r} d s q b =
+    let (a, k) = collect-none event-of (r .acts) (s .acts) q in
+    subst (λ F. Blocked (F .now) (s .to)) (unchanged d a) (b k)
+
+-- what a pass that generates nothing leaves suspended, waits
+pub blocks : {free : Type 0} {P : Place} {t : Term} {E : Env} {r : Result}
+    → Rewrites free P t E r
+    → generations (r .acts) ≡ []
+    → r .flag ≡ SUSP
+    → Blocked (E .now) (r .to)
+unfolding Blocked collect
+blocks r1 q f = TERM≢SUSP f
+blocks r1-on q f = TERM≢SUSP f
+blocks r2 q f = STOP≢SUSP f
+blocks r3 q f = TERM≢SUSP f
+blocks (r4 {r = r} d e) q f = rw leave-susp (behind d r q (λ k. blocks e k f))
+blocks (r4-on d) q f = rw leave-susp (blocks d q f)
+blocks (r5 d h) q f = rw leave-susp (blocks d q f)
+blocks (r8 {r = r} {s = s} d e) q f =
+    rw leave-susp (
+      λ g. blocks d (collect-none event-of (r .acts) (s .acts) q .0) (δ₁-susp (r .flag) (s .flag) f g),
+      λ g. behind d s q (λ k. blocks e k (δ₂-susp (r .flag) (s .flag) f g)),
+    )
+blocks (r9 {r = r} {s = s} x e d) q f =
+    rw leave-susp (
+      λ g. behind e r q (λ k. blocks d k (δ₁-susp (r .flag) (s .flag) f g)),
+      λ g. blocks e (collect-none event-of (s .acts) (r .acts) q .0) (δ₂-susp (r .flag) (s .flag) f g),
+    )
+blocks (r10 {β = β} {r = r} h d) q f =
+    rw leave-susp (λ g. blocks d q (δ₁-susp (r .flag) β f g), λ g. absurd (h (δ₂-susp (r .flag) β f g)))
+blocks (r11 {α = α} {r = r} h d) q f =
+    rw leave-susp (λ g. absurd (h (δ₁-susp α (r .flag) f g)), λ g. blocks d q (δ₂-susp α (r .flag) f g))
+blocks (r12 d h) q f = rw leave-susp (blocks d q f)
+blocks (r13 {r = r} d e) q f = behind d r q (λ k. blocks e k f)
+blocks (r4-loop {r = r} d e) q f = behind d r q (λ k. blocks e k f)
+blocks (r5-loop d h) q f = rw leave-susp (blocks d q f)
+blocks r14 q f = TERM≢SUSP f
+blocks (r15 d) q f = blocks d q f
+blocks (r4-repeat {r = r} d e) q f = behind d r q (λ k. blocks e k f)
+blocks (r5-repeat d h) q f = rw leave-susp (blocks d q f)
+blocks r16 q f = TERM≢SUSP f
+blocks (r17 v h d) q f = rw leave-susp (blocks d q f)
+blocks (r17-on d) q f = rw leave-susp (blocks d q f)
+blocks (r18 v h) q f = absurd (STOP≢SUSP f)
+blocks (r19 v h d) q f = rw leave-susp (blocks d q f)
+blocks (r19-on d) q f = rw leave-susp (blocks d q f)
+blocks (r20 v h) q f = absurd (STOP≢SUSP f)
+blocks (r21 v) q f = tt
+blocks (r22 v h) q f = TERM≢SUSP f
+blocks (r23 v h) q f = STOP≢SUSP f
+blocks (r24 v) q f = tt
+blocks (r25 v) q f = tt
+blocks (r26 v d) q f = rw leave-susp (λ g. blocks d q f)
+blocks (r27 v) q f = absurd (STOP≢SUSP f)
+blocks (r28 {E = E} {s = s} v) q f = λ g. absurd (known-present s E g v)
+blocks (r29 d h) q f = rw leave-susp (blocks d q f)
+blocks (r30 {r = r} d e) q f = behind d r q (λ k. blocks e k f)
+blocks (r31 v h d) q f = rw leave-susp (blocks d q f)
+blocks (r31-on d) q f = rw leave-susp (blocks d q f)
+blocks (r32 v h) q f = absurd (STOP≢SUSP f)
+blocks (r33 v) q f = absurd (STOP≢SUSP f)
+blocks (r34 v) q f = tt
+blocks (r35-39 {E = E} {b = b} {s = s} {r = r} d) q f =
+    let k = collect-none event-of (r .acts) (_ ∷ []) q .0 in
+    let same : r .env .now s ≡ b = ap (λ F. F .now s) (unchanged d k) ∙ put-at s b (E .now) in
+    rw (leave-susp, sign-kept b (r .env .now s) (r .flag) same f) (blocks d k f)
+
+-- so where a pass answers SUSP and moved nothing, all that is left waits
+pub blocked : {free : Type 0} {P : Place} {t : Term} {E : Env} {r : Result}
+    → Rewrites free P t E r
+    → r .flag ≡ SUSP
+    → r .env .move ≡ false
+    → Blocked (r .env .now) (r .to)
+blocked {r = r} d f m = rw (quiet-unchanged d m) (blocks d (quiet d m) f)
+
+stop-γ : (β : Flag) → β ≢ SUSP → γ STOP β ≡ STOP
+stop-γ SUSP h = absurd (h refl)
+stop-γ STOP h = refl
+stop-γ TERM h = refl
+
+γ-stop : (α : Flag) → α ≢ SUSP → γ α STOP ≡ STOP
+γ-stop SUSP h = absurd (h refl)
+γ-stop STOP h = refl
+γ-stop TERM h = refl
+
+idle-read : {P : Place} {c : Config} {b : Bool} {E : Env} → Idle STOP (decided P c b E ∷ [])
+unfolding collect
+idle-read = record { stops = refl; no-atom = refl; no-event = refl }
+
+idle-scope : {n : ℕ} {α : Flag} {b : Bool} → Idle STOP (scope-answered n α b ∷ [])
+unfolding collect
+idle-scope = record { stops = refl; no-atom = refl; no-event = refl }
+
+idle-++ : {α β ζ : Flag} {l k : List Act} → ζ ≡ STOP → Idle α l → Idle β k → Idle ζ (l ++ k)
+idle-++ {l = l} {k = k} h i j =
+    record {
+      stops = h;
+      no-atom = rw (collect-++ atom-of l k, i .no-atom, j .no-atom);
+      no-event = rw (collect-++ event-of l k, i .no-event, j .no-event);
+    }
+
+-- what waits is idle once the end is declared: its tests are read, and what follows them is left for the next instant
+pub idles : {free : Type 0} {P : Place} {t : Term} {E : Env} {r : Result}
+    → Rewrites free P t E r
+    → E .eoi ≡ true
+    → Blocked (E .now) t
+    → Idle (r .flag) (r .acts)
+unfolding Blocked
+idles r1 e b = absurd b
+idles r1-on e b = absurd b
+idles r2 e b = absurd b
+idles r3 e b = absurd b
+idles (r4 d d′) e b = absurd (TERM≢STOP (idles d e b .stops))
+idles (r4-on d) e b = idles d e b
+idles (r5 d h) e b = idles d e b
+idles (r8 {u = u} d d′) e b =
+    let i = idles d e (b .0 refl) in
+    let j = idles d′ (end-kept d ∙ e) (subst (λ F. Blocked (F .now) u) (sym (unchanged d (i .no-event))) (b .1 refl)) in
+    idle-++ (ap₂ γ (i .stops) (j .stops)) i j
+idles (r9 {t = t} x d′ d) e b =
+    let j = idles d′ e (b .1 refl) in
+    let i = idles d (end-kept d′ ∙ e) (subst (λ F. Blocked (F .now) t) (sym (unchanged d′ (j .no-event))) (b .0 refl)) in
+    idle-++ (ap₂ γ (i .stops) (j .stops)) j i
+idles (r10 {β = β} h d) e b =
+    let i = idles d e (b .0 refl) in
+    record { stops = rw (i .stops) (stop-γ β h); no-atom = i .no-atom; no-event = i .no-event }
+idles (r11 {α = α} h d) e b =
+    let i = idles d e (b .1 refl) in
+    record { stops = rw (i .stops) (γ-stop α h); no-atom = i .no-atom; no-event = i .no-event }
+idles (r12 d h) e b = absurd b
+idles (r13 d d′) e b = absurd b
+idles (r4-loop d d′) e b = absurd (TERM≢STOP (idles d e b .stops))
+idles (r5-loop d h) e b = idles d e b
+idles r14 e b = absurd b
+idles (r15 d) e b = absurd b
+idles (r4-repeat d d′) e b = absurd (TERM≢STOP (idles d e b .stops))
+idles (r5-repeat d h) e b = idles d e b
+idles r16 e b = absurd b
+idles (r17 v h d) e b = absurd (false≢true (sym h ∙ e))
+idles (r17-on d) e b = idles d e b
+idles (r18 v h) e b = idle-read
+idles (r19 v h d) e b = absurd (false≢true (sym h ∙ e))
+idles (r19-on d) e b = idles d e b
+idles (r20 v h) e b = idle-read
+idles (r21 {E = E} {c = c} v) e b = absurd (known-at-end c E e v)
+idles (r22 v h) e b = absurd (false≢true (sym h ∙ e))
+idles (r23 v h) e b = idle-read
+idles (r24 v) e b = idle-read
+idles (r25 {E = E} {c = c} v) e b = absurd (known-at-end c E e v)
+idles (r26 {E = E} {s = s} v d) e b =
+    let i = idles d e (b (present s E v)) in
+    idle-++ (i .stops) idle-read i
+idles (r27 v) e b = idle-read
+idles (r28 {E = E} {s = s} v) e b = absurd (known-at-end (Event s) E e v)
+idles (r29 d h) e b = absurd (h (idles d e b .stops))
+idles (r30 d d′) e b =
+    let i = idles d′ (end-kept d ∙ e) tt in
+    idle-++ (i .stops) (idles d e b) i
+idles (r31 v h d) e b = absurd (false≢true (sym h ∙ e))
+idles (r31-on d) e b = idles d e b
+idles (r32 v h) e b = idle-read
+idles (r33 v) e b = idle-read
+idles (r34 {E = E} {c = c} v) e b = absurd (known-at-end c E e v)
+idles (r35-39 d) e b =
+    let i = idles d e b in
+    idle-++ (i .stops) i idle-scope
+
+-- the pass after the end is declared, wherever it starts from
+pub after-end : {free : Type 0} {P Q : Place} {t : Term} {E : Env} {r s : Result}
+    → Rewrites free P t E r
+    → r .flag ≡ SUSP
+    → r .env .move ≡ false
+    → Rewrites free Q (r .to) (declared-end (r .env)) s
+    → Idle (s .flag) (s .acts)
+after-end {r = r} d f m e = idles e refl (blocked d f m)
+
+last-pass : {free : Type 0} {t : Term} {E : Env} {n : ℕ} {r : Result}
+    → Instant free t E n r
+    → E .eoi ≡ true
+    → Blocked (E .now) t
+    → (n ≡ 1) × Idle (r .flag) (r .acts)
+last-pass (r47 d h) e b = (refl, idles d e b)
+last-pass (r48 d h m i) e b = absurd (STOP≢SUSP (sym (idles d e b .stops) ∙ h))
+last-pass (r49 d h m i) e b = absurd (STOP≢SUSP (sym (idles d e b .stops) ∙ h))
+
+pub idle-once-ended : {free : Type 0} {t : Term} {E : Env} {n : ℕ} {r : Result} (i : Instant free t E n r) → IdleOnceEnded i
+unfolding IdleOnceEnded
+idle-once-ended (r47 d h) = tt
+idle-once-ended (r48 d h m i) = last-pass i refl (blocked d h m)
+idle-once-ended (r49 d h m i) = idle-once-ended i

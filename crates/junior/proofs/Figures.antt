@@ -1,0 +1,344 @@
+-- The law of figures, over any own weights k: what the acts of an instant weigh is at most the program's figure.
+-- So an instant does at most G generations and at most A atoms.
+use Prim.Native.Nat.{ℕ, zero, suc, _+_, _*_, _≤_, _<_, min, max}
+use mathlib.Core.Bool.{Bool, true, false, cond, false≢true}
+use mathlib.Core.Path.{_≡_, refl, _∙_, subst}
+use mathlib.Core.List.{List, [], _∷_, _++_}
+use native.Mathlib.Omega.{arith}
+use native.Mathlib.Nat.{le-trans, mul-le-mul-right, zero-mul, suc-mul}
+use lib.ListN.{length, length-append}
+use Rattle.junior.specs.declared.Flag.{Flag}
+use Rattle.junior.specs.declared.Flag.the-variants.{SUSP, STOP, TERM}
+use Rattle.junior.specs.Flags.{γ, δ₁, δ₂}
+use Rattle.junior.specs.Configuration.{Env}
+use Rattle.junior.specs.Program.{Program, kind, Nothing, Stop, Atom, Seq, Par, Loop, Repeat, Generate, Await}
+use Rattle.junior.specs.Program.{When}
+use Rattle.junior.specs.Program.{Until, Control, Local}
+use Rattle.junior.specs.Term.{Term, done, nothing, stop, atom, generate, await, seq0, seq2, par, loop0, loop1}
+use Rattle.junior.specs.Term.{repeat0, repeat1, when0, when1, when2, until0, until*, until2, control, local}
+use Rattle.junior.specs.Term.{prog, fresh, leave}
+use Rattle.junior.specs.Trace.{Place, Act, did-atom, did-generate, decided, waits, scope-answered, collect}
+use Rattle.junior.specs.Trace.{atom-of, event-of, atoms, generations}
+use Rattle.junior.specs.Rules.{Result, again, Rewrites, r1, r1-on, r2, r3, r4, r4-on, r5, r8, r9, r10}
+use Rattle.junior.specs.Rules.{r11, r12, r13, r4-loop, r5-loop, r14, r15, r4-repeat, r5-repeat, r16, r17}
+use Rattle.junior.specs.Rules.{r17-on}
+use Rattle.junior.specs.Rules.{r18, r19, r19-on, r20, r21, r22, r23, r24, r25, r26, r27, r28, r29, r30, r31}
+use Rattle.junior.specs.Rules.{r31-on, r32, r33, r34, r35-39}
+use Rattle.junior.specs.Instant.{Instant, r47, r48, r49}
+use Rattle.junior.specs.Figures.{stops, LoopsStop, times, figure, per, G, A}
+use Rattle.junior.specs.AtRest.{AtRest}
+use Rattle.junior.proofs.Kept.{prog-fresh, prog-again, kept}
+use Rattle.junior.proofs.Going.{fresh-at-rest}
+use Rattle.junior.proofs.Held.{live, held, held-fresh, stays-held, begun, ends-unheld}
+
+-- what is left of x in this instant: nothing, unless suspended
+abbrev pub rest : Flag → ℕ → ℕ
+rest SUSP x = x
+rest STOP x = 0
+rest TERM x = 0
+
+-- how many runs of its body a node can still begin in this instant, j being due: none if the rest of the body is held,
+-- one if a begun body stops
+abbrev pub due : ℕ → Bool → Bool → ℕ
+due j rest-held body-stops = cond rest-held 0 (cond body-stops (min j 1) j)
+
+-- how `rest` goes with the shapes of the rules' answers
+rest-within : (α : Flag) (w x c y : ℕ) → rest α x + c ≤ y → rest α (w + x) + c ≤ w + y
+rest-within SUSP w x c y h = omega arith
+rest-within STOP w x c y h = omega arith
+rest-within TERM w x c y h = omega arith
+
+rest-beside : (α : Flag) (x c y z z′ : ℕ) → rest α x + c ≤ y → rest α z ≤ z′ → rest α (x + z) + c ≤ y + z′
+rest-beside SUSP x c y z z′ h k = omega arith
+rest-beside STOP x c y z z′ h k = omega arith
+rest-beside TERM x c y z z′ h k = omega arith
+
+rest-le : (α : Flag) (x : ℕ) → rest α x ≤ x
+rest-le SUSP x = omega arith
+rest-le STOP x = omega arith
+rest-le TERM x = omega arith
+
+rest-joined : (α β : Flag) (x y : ℕ) → rest (γ α β) (rest (δ₁ α β) x + rest (δ₂ α β) y) ≤ rest α x + rest β y
+rest-joined SUSP SUSP x y = omega arith
+rest-joined SUSP STOP x y = omega arith
+rest-joined SUSP TERM x y = omega arith
+rest-joined STOP SUSP x y = omega arith
+rest-joined STOP STOP x y = omega arith
+rest-joined STOP TERM x y = omega arith
+rest-joined TERM SUSP x y = omega arith
+rest-joined TERM STOP x y = omega arith
+rest-joined TERM TERM x y = omega arith
+
+-- one run more
+one-more : (m n x f : ℕ) → m < n → x ≤ f → x + m * f ≤ n * f
+one-more m n x f h k = let a : suc m * f ≤ n * f = mul-le-mul-right f h in let b = suc-mul m f in omega arith
+
+due-times : (n j : ℕ) (h b : Bool) → j < n → due j h b < times n b
+due-times n j true true k = omega arith
+due-times n j true false k = omega arith
+due-times n j false true k = omega arith
+due-times n j false false k = omega arith
+
+due-again : (j : ℕ) (b : Bool) → due j b b < due (suc j) false b
+due-again j true = omega arith
+due-again j false = omega arith
+
+due-kept : (α : Flag) (j : ℕ) (h h′ b : Bool) (f : ℕ)
+    → (h ≡ true → live α h′ ≡ true)
+    → rest α (due j h′ b * f) ≤ due j h b * f
+due-kept SUSP j h true b f e = omega (arith, zero-mul f)
+due-kept SUSP j true false b f e = absurd (false≢true (e refl))
+due-kept SUSP j false false b f e = omega arith
+due-kept STOP j h h′ b f e = omega arith
+due-kept TERM j h h′ b f e = omega arith
+
+pub loops-fresh : (p : Program) → LoopsStop p → LoopsStop (prog (fresh p))
+loops-fresh p o = rw (prog-fresh p) o
+
+module _ (k : Program → ℕ) where
+  -- what an act weighs, and what acts do together
+  abbrev pub weight : Act → ℕ
+  weight (did-atom a) = k (Atom a)
+  weight (did-generate s) = k (Generate s)
+  weight (decided P c b E) = 0
+  weight (waits P c E) = 0
+  weight (scope-answered n α b) = 0
+
+  unfoldable pub cost : List Act → ℕ
+  cost [] = 0
+  cost (x ∷ l) = weight x + cost l
+
+  pub cost-++ : (l m : List Act) → cost (l ++ m) ≡ cost l + cost m
+  unfolding cost
+  cost-++ [] m = omega arith
+  cost-++ (x ∷ l) m = omega (arith, cost-++ l m)
+
+  -- the weights count what f collects
+  counted : (f : Act → List ℕ) → ((x : Act) → weight x ≡ length (f x)) → (l : List Act) → cost l ≡ length (collect f l)
+  unfolding cost collect
+  counted f h [] = refl
+  counted f h (x ∷ l) = omega (arith, h x, counted f h l, length-append (f x) (collect f l))
+
+  -- what the term can still run in this instant weighs at most
+  unfoldable pub pot : Term → ℕ
+  pot (done p) = 0
+  pot nothing = k Nothing
+  pot stop = k Stop
+  pot (atom a) = k (Atom a)
+  pot (generate s) = k (Generate s)
+  pot (await c) = k (Await c)
+  pot (seq0 t q) = k (Seq (prog t) q) + (pot t + figure k q)
+  pot (seq2 p t) = k (Seq p (prog t)) + pot t
+  pot (par α β t u) = k (Par (prog t) (prog u)) + (rest α (pot t) + rest β (pot u))
+  pot (loop0 p) = k (Loop p) + figure k p
+  pot (loop1 t) = k (Loop (prog t)) + (pot t + due 1 (held t) true * figure k (prog t))
+  pot (repeat0 n p) = k (Repeat n p) + times n (stops p) * figure k p
+  pot (repeat1 n j t) = k (Repeat n (prog t)) + (pot t + due j (held t) (stops (prog t)) * figure k (prog t))
+  pot (when0 c p q) = k (When c p q) + max (figure k p) (figure k q)
+  pot (when1 c t q) = k (When c (prog t) q) + pot t
+  pot (when2 c p t) = k (When c p (prog t)) + pot t
+  pot (until0 c t q) = k (Until c (prog t) q) + (pot t + figure k q)
+  pot (until* c t q) = k (Until c (prog t) q) + figure k q
+  pot (until2 c p t) = k (Until c p (prog t)) + pot t
+  pot (control s t) = k (Control s (prog t)) + pot t
+  pot (local b s t) = k (Local s (prog t)) + pot t
+
+  pub pot-at-rest : (t : Term) → AtRest t → pot t ≤ figure k (prog t)
+  unfolding pot figure prog AtRest
+  pot-at-rest (done p) a = omega arith
+  pot-at-rest nothing a = omega arith
+  pot-at-rest stop a = omega arith
+  pot-at-rest (atom x) a = omega arith
+  pot-at-rest (generate s) a = omega arith
+  pot-at-rest (await c) a = omega arith
+  pot-at-rest (seq0 t q) a = omega (arith, pot-at-rest t a)
+  pot-at-rest (seq2 p t) a = omega (arith, pot-at-rest t a)
+  pot-at-rest (par α β t u) a =
+      omega (arith, rest-le α (pot t), rest-le β (pot u), pot-at-rest t (a .3), pot-at-rest u (a .4))
+  pot-at-rest (loop0 p) a = omega arith
+  pot-at-rest (loop1 t) a =
+      let m = one-more (due 1 (held t) true) 2 _ _ (due-times 2 1 (held t) true (omega arith)) (pot-at-rest t a) in omega arith
+  pot-at-rest (repeat0 n p) a = omega arith
+  pot-at-rest (repeat1 n j t) a =
+      let b = stops (prog t) in
+      let m = one-more (due j (held t) b) (times n b) _ _ (due-times n j (held t) b (a .0)) (pot-at-rest t (a .1)) in
+      omega arith
+  pot-at-rest (when0 c p q) a = omega arith
+  pot-at-rest (when1 c t q) a = omega (arith, pot-at-rest t a)
+  pot-at-rest (when2 c p t) a = omega (arith, pot-at-rest t a)
+  pot-at-rest (until0 c t q) a = omega (arith, pot-at-rest t a)
+  pot-at-rest (until* c t q) a = absurd a
+  pot-at-rest (until2 c p t) a = omega (arith, pot-at-rest t a)
+  pot-at-rest (control s t) a = omega (arith, pot-at-rest t a)
+  pot-at-rest (local b s t) a = omega (arith, pot-at-rest t (a .1))
+
+  pub pot-fresh : (p : Program) → pot (fresh p) ≤ figure k p
+  pot-fresh p = rw (prog-fresh p) at (pot-at-rest (fresh p) (fresh-at-rest p))
+
+  rest-leave : (α : Flag) (t : Term) → rest α (pot (leave α t)) ≡ rest α (pot t)
+  unfolding leave
+  rest-leave SUSP t = refl
+  rest-leave STOP t = refl
+  rest-leave TERM t = refl
+
+  repeat-fresh : (n j m : ℕ) (p : Program) → due j (stops p) (stops p) < m
+      → pot (repeat1 n j (fresh p)) ≤ k (Repeat n p) + m * figure k p
+  unfolding pot
+  repeat-fresh n j m p h = simp (prog-fresh p, held-fresh p) (let a = one-more _ m _ _ h (pot-fresh p) in omega arith)
+
+  pot-again : (n j : ℕ) (p : Program) → pot (again n j p) ≤ k (Repeat n p) + due j false (stops p) * figure k p
+  unfolding pot
+  pot-again n zero p = omega arith
+  pot-again n (suc j) p = repeat-fresh n j _ p (due-again j (stops p))
+
+  -- what is left and what was spent is at most what there was
+  pub spends : {free : Type 0} {P : Place} {t : Term} {E : Env} {r : Result}
+      → Rewrites free P t E r
+      → LoopsStop (prog t)
+      → rest (r .flag) (pot (r .to)) + cost (r .acts) ≤ pot t
+  unfolding pot cost prog LoopsStop
+  spends r1 o = omega arith
+  spends r1-on o = omega arith
+  spends r2 o = omega arith
+  spends r3 o = omega arith
+  spends (r4 {t = t} {q = q} {r = r} d e) o =
+      simp (rest-leave, cost-++, kept e, prog-fresh)
+      (let a = rest-within (r .flag) (k (Seq (prog t) q)) _ _ _ (spends e (loops-fresh q (o .1))) in
+      omega (arith, spends d (o .0), pot-fresh q))
+  spends (r4-on {r = r} d) o = simp (rest-leave, kept d) (rest-within (r .flag) _ _ _ _ (spends d (o .1)))
+  spends (r5 {q = q} {r = r} d n) o =
+      simp (rest-leave, kept d)
+      (rest-within (r .flag) _ _ _ _ (rest-beside (r .flag) _ _ _ _ _ (spends d (o .0)) (rest-le (r .flag) (figure k q))))
+  spends (r8 {r = r} {s = s} d e) o =
+      simp (rest-leave, cost-++, kept d, kept e)
+      (rest-within (γ (r .flag) (s .flag)) _ _ _ _
+      (omega (arith, rest-joined (r .flag) (s .flag) (pot (r .to)) (pot (s .to)), spends d (o .0), spends e (o .1))))
+  spends (r9 {r = r} {s = s} f e d) o =
+      simp (rest-leave, cost-++, kept d, kept e)
+      (rest-within (γ (r .flag) (s .flag)) _ _ _ _
+      (omega (arith, rest-joined (r .flag) (s .flag) (pot (r .to)) (pot (s .to)), spends d (o .0), spends e (o .1))))
+  spends (r10 {β = β} {u = u} {r = r} n d) o =
+      simp (rest-leave, kept d)
+      (rest-within (γ (r .flag) β) _ _ _ _ (omega (arith, rest-joined (r .flag) β (pot (r .to)) (pot u), spends d (o .0))))
+  spends (r11 {α = α} {t = t} {r = r} n d) o =
+      simp (rest-leave, kept d)
+      (rest-within (γ α (r .flag)) _ _ _ _ (omega (arith, rest-joined α (r .flag) (pot t) (pot (r .to)), spends d (o .1))))
+  spends (r12 {p = p} {r = r} d n) o =
+      simp (rest-leave, kept d, prog-fresh)
+      (rest-within (r .flag) _ _ _ _
+      (let h = due-kept (r .flag) 1 true (held (r .to)) true (figure k p) (λ x. stays-held d (held-fresh p ∙ o .0)) in
+      let a = rest-beside (r .flag) _ _ _ _ _ (spends d (loops-fresh p (o .1))) h in
+      omega (arith, zero-mul (figure k p), pot-fresh p)))
+  spends (r13 {p = p} d e) o = absurd (begun p d (o .0) refl)
+  spends (r4-loop d e) o = simp (cost-++, ends-unheld d) (omega (arith, spends d (o .1), spends e o))
+  spends (r5-loop {t = t} {r = r} d n) o =
+      simp (rest-leave, kept d)
+      (rest-within (r .flag) _ _ _ _
+      (rest-beside (r .flag) _ _ _ _ _ (spends d (o .1))
+      (due-kept (r .flag) 1 (held t) (held (r .to)) true (figure k (prog t)) (λ x. stays-held d x))))
+  spends r14 o = omega arith
+  spends (r15 {n = n} {p = p} d) o =
+      le-trans (spends d (loops-fresh p o)) (repeat-fresh (suc n) n _ p (due-times (suc n) n (stops p) (stops p) (omega arith)))
+  spends (r4-repeat {n = n} {k = j} {t = t} d e) o =
+      simp (cost-++, ends-unheld d)
+      (omega (arith, spends d o, spends e (rw (prog-again n j (prog t)) o), pot-again n j (prog t)))
+  spends (r5-repeat {k = j} {t = t} {r = r} d n) o =
+      simp (rest-leave, kept d)
+      (rest-within (r .flag) _ _ _ _
+      (rest-beside (r .flag) _ _ _ _ _ (spends d o)
+      (due-kept (r .flag) j (held t) (held (r .to)) (stops (prog t)) (figure k (prog t)) (λ x. stays-held d x))))
+  spends r16 o = omega arith
+  spends (r17 {p = p} {r = r} s h d) o =
+      simp (rest-leave, kept d, prog-fresh)
+      (rest-within (r .flag) _ _ _ _ (omega (arith, spends d (loops-fresh p (o .0)), pot-fresh p)))
+  spends (r17-on {r = r} d) o = simp (rest-leave, kept d) (rest-within (r .flag) _ _ _ _ (spends d (o .0)))
+  spends (r18 s h) o = omega arith
+  spends (r19 {q = q} {r = r} s h d) o =
+      simp (rest-leave, kept d, prog-fresh)
+      (rest-within (r .flag) _ _ _ _ (omega (arith, spends d (loops-fresh q (o .1)), pot-fresh q)))
+  spends (r19-on {r = r} d) o = simp (rest-leave, kept d) (rest-within (r .flag) _ _ _ _ (spends d (o .1)))
+  spends (r20 s h) o = omega arith
+  spends (r21 s) o = omega arith
+  spends (r22 s h) o = omega arith
+  spends (r23 s h) o = omega arith
+  spends (r24 s) o = omega arith
+  spends (r25 s) o = omega arith
+  spends (r26 {r = r} s d) o = simp (rest-leave, kept d) (rest-within (r .flag) _ _ _ _ (omega (arith, spends d o)))
+  spends (r27 s) o = omega arith
+  spends (r28 s) o = omega arith
+  spends (r29 {q = q} {r = r} d n) o =
+      simp (rest-leave, kept d)
+      (rest-within (r .flag) _ _ _ _ (rest-beside (r .flag) _ _ _ _ _ (spends d (o .0)) (rest-le (r .flag) (figure k q))))
+  spends (r30 d e) o =
+      simp cost-++
+      (let a = rw (kept d) at (spends e (rw (kept d) (o .0), o .1)) in omega (arith, spends d (o .0)))
+  spends (r31 {q = q} {r = r} s h d) o =
+      simp (rest-leave, kept d, prog-fresh)
+      (rest-within (r .flag) _ _ _ _ (omega (arith, spends d (loops-fresh q (o .1)), pot-fresh q)))
+  spends (r31-on {r = r} d) o = simp (rest-leave, kept d) (rest-within (r .flag) _ _ _ _ (spends d (o .1)))
+  spends (r32 s h) o = omega arith
+  spends (r33 s) o = omega arith
+  spends (r34 s) o = omega arith
+  spends (r35-39 {r = r} d) o = simp (rest-leave, cost-++, kept d) (rest-within (r .flag) _ _ _ _ (omega (arith, spends d o)))
+
+  -- the same of a pass that suspends
+  pub suspends : {free : Type 0} {P : Place} {t : Term} {E : Env} {r : Result}
+      → Rewrites free P t E r
+      → LoopsStop (prog t)
+      → r .flag ≡ SUSP
+      → pot (r .to) + cost (r .acts) ≤ pot t
+  suspends {t = t} {r = r} d o e =
+      subst (λ (α : Flag). rest α (pot (r .to)) + cost (r .acts) ≤ pot t) e (spends d o)
+
+  -- the acts of an instant weigh at most what there was when it began
+  pub instant-spends : {free : Type 0} {t : Term} {E : Env} {n : ℕ} {r : Result}
+      → Instant free t E n r
+      → LoopsStop (prog t)
+      → cost (r .acts) ≤ pot t
+  instant-spends (r47 d n) o = omega (arith, spends d o)
+  instant-spends (r48 d e m i) o = simp cost-++ (omega (arith, suspends d o e, instant-spends i (rw (kept d) o)))
+  instant-spends (r49 d e m i) o = simp cost-++ (omega (arith, suspends d o e, instant-spends i (rw (kept d) o)))
+
+  -- so from a state at rest they weigh at most the figure
+  pub within-figure : {free : Type 0} {t : Term} {E : Env} {n : ℕ} {r : Result}
+      → Instant free t E n r
+      → LoopsStop (prog t)
+      → AtRest t
+      → cost (r .acts) ≤ figure k (prog t)
+  within-figure {t = t} i o a = le-trans (instant-spends i o) (pot-at-rest t a)
+
+count-events : (x : Act) → weight (per 7) x ≡ length (event-of x)
+unfolding kind
+count-events (did-atom a) = refl
+count-events (did-generate s) = refl
+count-events (decided P c b E) = refl
+count-events (waits P c E) = refl
+count-events (scope-answered n α b) = refl
+
+count-atoms : (x : Act) → weight (per 2) x ≡ length (atom-of x)
+unfolding kind
+count-atoms (did-atom a) = refl
+count-atoms (did-generate s) = refl
+count-atoms (decided P c b E) = refl
+count-atoms (waits P c E) = refl
+count-atoms (scope-answered n α b) = refl
+
+pub cost-G : (l : List Act) → cost (per 7) l ≡ length (generations l)
+cost-G l = counted (per 7) event-of count-events l
+
+pub cost-A : (l : List Act) → cost (per 2) l ≡ length (atoms l)
+cost-A l = counted (per 2) atom-of count-atoms l
+
+pub at-most-G : {free : Type 0} {t : Term} {E : Env} {n : ℕ} {r : Result}
+    → Instant free t E n r
+    → LoopsStop (prog t)
+    → AtRest t
+    → length (generations (r .acts)) ≤ G (prog t)
+at-most-G {r = r} i o a = rw (← cost-G (r .acts)) (within-figure (per 7) i o a)
+
+pub at-most-A : {free : Type 0} {t : Term} {E : Env} {n : ℕ} {r : Result}
+    → Instant free t E n r
+    → LoopsStop (prog t)
+    → AtRest t
+    → length (atoms (r .acts)) ≤ A (prog t)
+at-most-A {r = r} i o a = rw (← cost-A (r .acts)) (within-figure (per 2) i o a)

@@ -1,0 +1,86 @@
+-- A pass changes a term's state and never its program.
+use mathlib.Core.Path.{_≡_, refl, ap, ap₂, _∙_}
+use Rattle.junior.specs.declared.Flag.{Flag}
+use Rattle.junior.specs.declared.Flag.the-variants.{SUSP, STOP, TERM}
+use Prim.Native.Nat.{ℕ, zero, suc}
+use Rattle.junior.specs.Configuration.{Env}
+use Rattle.junior.specs.Program.{Program, Nothing, Stop, Atom, Seq, Par, Loop, Repeat, Generate, Await, When}
+use Rattle.junior.specs.Program.{Until, Control, Local}
+use Rattle.junior.specs.Term.{Term, prog, fresh, leave}
+use Rattle.junior.specs.Trace.{Place}
+use Rattle.junior.specs.Rules.{Result, again, Rewrites, r1, r1-on, r2, r3, r4, r4-on, r5, r8, r9, r10, r11, r12}
+use Rattle.junior.specs.Rules.{r13, r4-loop, r5-loop, r14, r15, r4-repeat, r5-repeat, r16, r17, r17-on, r18}
+use Rattle.junior.specs.Rules.{r19, r19-on, r20, r21, r22, r23, r24, r25, r26, r27, r28, r29, r30, r31, r31-on}
+use Rattle.junior.specs.Rules.{r32, r33, r34, r35-39}
+
+pub prog-fresh : (p : Program) → prog (fresh p) ≡ p
+unfolding prog fresh
+prog-fresh Nothing = refl
+prog-fresh Stop = refl
+prog-fresh (Atom a) = refl
+prog-fresh (Seq p q) = ap (λ x. Seq x q) (prog-fresh p)
+prog-fresh (Par p q) = ap₂ Par (prog-fresh p) (prog-fresh q)
+prog-fresh (Loop p) = refl
+prog-fresh (Repeat n p) = refl
+prog-fresh (Generate s) = refl
+prog-fresh (Await c) = refl
+prog-fresh (When c p q) = refl
+prog-fresh (Until c p q) = ap (λ x. Until c x q) (prog-fresh p)
+prog-fresh (Control s p) = ap (Control s) (prog-fresh p)
+prog-fresh (Local s p) = ap (Local s) (prog-fresh p)
+
+pub prog-leave : (α : Flag) (t : Term) → prog (leave α t) ≡ prog t
+unfolding prog leave
+prog-leave SUSP t = refl
+prog-leave STOP t = refl
+prog-leave TERM t = refl
+
+pub prog-again : (n k : ℕ) (p : Program) → prog (again n k p) ≡ Repeat n p
+unfolding prog
+prog-again n zero p = refl
+prog-again n (suc k) p = ap (Repeat n) (prog-fresh p)
+
+pub kept : {free : Type 0} {P : Place} {t : Term} {E : Env} {r : Result} → Rewrites free P t E r → prog (r .to) ≡ prog t
+unfolding prog
+kept r1 = refl
+kept r1-on = refl
+kept r2 = refl
+kept r3 = refl
+kept (r4 {q = q} d e) = simp (prog-leave, kept e, prog-fresh)
+kept (r4-on {p = p} d) = simp prog-leave (ap (Seq p) (kept d))
+kept (r5 {q = q} d h) = simp prog-leave (ap (λ x. Seq x q) (kept d))
+kept (r8 d e) = simp prog-leave (ap₂ Par (kept d) (kept e))
+kept (r9 f e d) = simp prog-leave (ap₂ Par (kept d) (kept e))
+kept (r10 {u = u} h d) = simp prog-leave (ap (λ x. Par x (prog u)) (kept d))
+kept (r11 {t = t} h d) = simp prog-leave (ap (Par (prog t)) (kept d))
+kept (r12 {p = p} d h) = simp prog-leave (ap Loop (kept d ∙ prog-fresh p))
+kept (r13 d e) = kept e
+kept (r4-loop d e) = kept e
+kept (r5-loop d h) = simp prog-leave (ap Loop (kept d))
+kept r14 = refl
+kept (r15 {n = n} {p = p} d) = kept d ∙ ap (Repeat (suc n)) (prog-fresh p)
+kept (r4-repeat {n = n} {k = k} {t = t} d e) = kept e ∙ prog-again n k (prog t)
+kept (r5-repeat {n = n} d h) = simp prog-leave (ap (Repeat n) (kept d))
+kept r16 = refl
+kept (r17 {c = c} {p = p} {q = q} s h d) = simp prog-leave (ap (λ x. When c x q) (kept d ∙ prog-fresh p))
+kept (r17-on {c = c} {q = q} d) = simp prog-leave (ap (λ x. When c x q) (kept d))
+kept (r18 {c = c} {p = p} {q = q} s h) = ap (λ x. When c x q) (prog-fresh p)
+kept (r19 {c = c} {p = p} {q = q} s h d) = simp prog-leave (ap (When c p) (kept d ∙ prog-fresh q))
+kept (r19-on {c = c} {p = p} d) = simp prog-leave (ap (When c p) (kept d))
+kept (r20 {c = c} {p = p} {q = q} s h) = ap (When c p) (prog-fresh q)
+kept (r21 s) = refl
+kept (r22 s h) = refl
+kept (r23 s h) = refl
+kept (r24 s) = refl
+kept (r25 s) = refl
+kept (r26 {s = s} h d) = simp prog-leave (ap (Control s) (kept d))
+kept (r27 s) = refl
+kept (r28 s) = refl
+kept (r29 {c = c} {q = q} d h) = simp prog-leave (ap (λ x. Until c x q) (kept d))
+kept (r30 {c = c} {q = q} d e) = kept e ∙ ap (λ x. Until c x q) (kept d)
+kept (r31 {c = c} {t = t} {q = q} s h d) = simp prog-leave (ap (Until c (prog t)) (kept d ∙ prog-fresh q))
+kept (r31-on {c = c} {p = p} d) = simp prog-leave (ap (Until c p) (kept d))
+kept (r32 {c = c} {t = t} {q = q} s h) = ap (Until c (prog t)) (prog-fresh q)
+kept (r33 s) = refl
+kept (r34 s) = refl
+kept (r35-39 {s = s} d) = simp prog-leave (ap (Local s) (kept d))

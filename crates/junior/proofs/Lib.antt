@@ -1,0 +1,19 @@
+-- The laws, in the order in which they lean on one another.
+pub mod Little
+pub mod Kept
+pub mod Deterministic
+pub mod Verdicts
+pub mod Flow
+pub mod Grows
+pub mod End
+pub mod Going
+pub mod Scopes
+pub mod Ahead
+pub mod Decided
+pub mod Held
+pub mod Figures
+pub mod Exists
+pub mod Instants
+pub mod Bench
+pub mod AsPrinted
+pub mod Demand3

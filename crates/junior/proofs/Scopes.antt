@@ -1,0 +1,238 @@
+-- Which Locals answer in a pass, by their nodes' numbers, and which are open: plus, so that their event is present to the end.
+use Prim.Native.Nat.{ℕ, suc, _+_, _≤_, _<_}
+use mathlib.Core.Bool.{Bool, true, false, false≢true}
+use mathlib.Core.Path.{_≡_, refl, sym, ap, _∙_}
+use mathlib.Core.Logic.{_≢_}
+use mathlib.Core.List.{List, [], _∷_, _++_, append-assoc}
+use native.Mathlib.Omega.{arith}
+use borrow.Author.Tests.{ne-eqb}
+use Rattle.events.specs.Events.{Events, put}
+use Rattle.junior.specs.declared.Flag.{Flag}
+use Rattle.junior.specs.declared.Flag.the-variants.{SUSP, STOP, TERM}
+use Rattle.junior.specs.Configuration.{Config, Env}
+use Rattle.junior.specs.Program.{size}
+use Rattle.junior.specs.Term.{Term, done, nothing, stop, atom, generate, await, seq0, seq2, par, loop0, loop1}
+use Rattle.junior.specs.Term.{repeat0, repeat1, when0, when1, when2, until0, until*, until2, control, local}
+use Rattle.junior.specs.Term.{prog, leave}
+use Rattle.junior.specs.Trace.{Place, Act, decided, scope-answered}
+use Rattle.junior.specs.Rules.{Result, sign, Rewrites, r1, r1-on, r2, r3, r4, r4-on, r5, r8, r9, r10, r11, r12}
+use Rattle.junior.specs.Rules.{r13, r4-loop, r5-loop, r14, r15, r4-repeat, r5-repeat, r16, r17, r17-on, r18}
+use Rattle.junior.specs.Rules.{r19, r19-on, r20, r21, r22, r23, r24, r25, r26, r27, r28, r29, r30, r31, r31-on}
+use Rattle.junior.specs.Rules.{r32, r33, r34, r35-39}
+use Rattle.junior.specs.AtRest.{AtRest}
+use Rattle.junior.specs.Decided.{last-status, last-answers}
+use Rattle.junior.specs.Flags.{γ, δ₁, δ₂}
+use Rattle.junior.proofs.Little.{put-at}
+use Rattle.junior.proofs.Going.{Stand, over-rest}
+use Rattle.junior.proofs.Kept.{prog-fresh, prog-again, kept}
+
+-- an answer of the Local at n, as a status
+pub status-own : (α : Flag) (n : ℕ) (b : Bool) (σ : ℕ → Bool) → α ≢ SUSP → last-status α n b σ n ≡ b
+status-own SUSP n b σ h = absurd (h refl)
+status-own STOP n b σ h = put-at n b σ
+status-own TERM n b σ h = put-at n b σ
+
+pub status-elsewhere : (α : Flag) (n m : ℕ) (b : Bool) (σ : ℕ → Bool) → m ≢ n → last-status α n b σ m ≡ σ m
+unfolding put
+status-elsewhere SUSP n m b σ h = refl
+status-elsewhere STOP n m b σ h = rw (ne-eqb m n h)
+status-elsewhere TERM n m b σ h = rw (ne-eqb m n h)
+
+-- only Locals at the nodes from i up to j answer in l: the status of any other is what comes later
+pub record Between (i j : ℕ) (l : List Act) : Type 0 where
+  pub elsewhere : (k : List Act) (n : ℕ) → (i ≤ n → n < j → ⊥) → last-answers (l ++ k) n ≡ last-answers k n
+
+widen : {i i′ j j′ : ℕ} {l : List Act} → (i ≤ i′) × (j′ ≤ j) → Between i′ j′ l → Between i j l
+widen h b = record { elsewhere = λ k n o. b .elsewhere k n (λ a c. o (omega arith) (omega arith)) }
+
+chain : {i j : ℕ} {l m : List Act} → Between i j l → Between i j m → Between i j (l ++ m)
+chain {l = l} {m = m} a b =
+    record { elsewhere = λ k n o. rw (append-assoc l m k) (a .elsewhere (m ++ k) n o ∙ b .elsewhere k n o) }
+
+nobody : {i j : ℕ} {l : List Act} → ((k : List Act) → last-answers (l ++ k) ≡ last-answers k) → Between i j l
+nobody h = record { elsewhere = λ k n o. ap (λ σ. σ n) (h k) }
+
+tested : {i j : ℕ} {P : Place} {c : Config} {b : Bool} {E : Env} {l : List Act} → Between i j l
+    → Between i j (decided P c b E ∷ l)
+unfolding last-answers
+tested b = record { elsewhere = b .elsewhere }
+
+one : (n : ℕ) (α : Flag) (b : Bool) → Between n (suc n) (scope-answered n α b ∷ [])
+unfolding last-answers
+one n α b =
+    record { elsewhere = λ k m o. status-elsewhere α n m b (last-answers k) (λ e. o (omega arith) (omega arith)) }
+
+pub between : {free : Type 0} {P : Place} {t : Term} {E : Env} {r : Result} → Rewrites free P t E r
+    → Between (P .node) (P .node + size (prog t)) (r .acts)
+unfolding size prog last-answers
+between r1 = nobody (λ k. refl)
+between r1-on = nobody (λ k. refl)
+between r2 = nobody (λ k. refl)
+between r3 = nobody (λ k. refl)
+between (r4 {q = q} d e) =
+    chain (widen (omega arith) (between d)) (widen (omega (arith, ap size (prog-fresh q))) (between e))
+between (r4-on d) = widen (omega arith) (between d)
+between (r5 d h) = widen (omega arith) (between d)
+between (r8 d e) = chain (widen (omega arith) (between d)) (widen (omega arith) (between e))
+between (r9 f e d) = chain (widen (omega arith) (between e)) (widen (omega arith) (between d))
+between (r10 h d) = widen (omega arith) (between d)
+between (r11 h d) = widen (omega arith) (between d)
+between (r12 {p = p} d h) = widen (omega (arith, ap size (prog-fresh p))) (between d)
+between (r13 {p = p} d e) = chain (widen (omega (arith, ap size (prog-fresh p))) (between d)) (between e)
+between (r4-loop d e) = chain (widen (omega arith) (between d)) (between e)
+between (r5-loop d h) = widen (omega arith) (between d)
+between r14 = nobody (λ k. refl)
+between (r15 {p = p} d) = widen (omega (arith, ap size (prog-fresh p))) (between d)
+between (r4-repeat {n = n} {k = k} {t = t} d e) =
+    chain (widen (omega arith) (between d)) (widen (omega (arith, ap size (prog-again n k (prog t)))) (between e))
+between (r5-repeat d h) = widen (omega arith) (between d)
+between r16 = nobody (λ k. refl)
+between (r17 {p = p} s h d) = tested (widen (omega (arith, ap size (prog-fresh p))) (between d))
+between (r17-on d) = widen (omega arith) (between d)
+between (r18 s h) = nobody (λ k. refl)
+between (r19 {q = q} s h d) = tested (widen (omega (arith, ap size (prog-fresh q))) (between d))
+between (r19-on d) = widen (omega arith) (between d)
+between (r20 s h) = nobody (λ k. refl)
+between (r21 s) = nobody (λ k. refl)
+between (r22 s h) = nobody (λ k. refl)
+between (r23 s h) = nobody (λ k. refl)
+between (r24 s) = nobody (λ k. refl)
+between (r25 s) = nobody (λ k. refl)
+between (r26 h d) = tested (widen (omega arith) (between d))
+between (r27 h) = nobody (λ k. refl)
+between (r28 h) = nobody (λ k. refl)
+between (r29 d h) = widen (omega arith) (between d)
+between (r30 d e) = chain (widen (omega arith) (between d)) (widen (omega (arith, ap size (kept d))) (between e))
+between (r31 {q = q} s h d) = tested (widen (omega (arith, ap size (prog-fresh q))) (between d))
+between (r31-on d) = widen (omega arith) (between d)
+between (r32 s h) = nobody (λ k. refl)
+between (r33 s) = nobody (λ k. refl)
+between (r34 s) = nobody (λ k. refl)
+between (r35-39 {P = P} {r = r} d) =
+    chain (widen (omega arith) (between d)) (widen (omega arith) (one (P .node) (r .flag) _))
+
+-- in the state of node i, each Local plus has its event present by the statuses σ; an Until* has left its body
+unfoldable pub Open : Term → ℕ → (ℕ → Bool) → Type 0
+Open (done p) i σ = Unit {0}
+Open nothing i σ = Unit {0}
+Open stop i σ = Unit {0}
+Open (atom a) i σ = Unit {0}
+Open (generate s) i σ = Unit {0}
+Open (await c) i σ = Unit {0}
+Open (seq0 t q) i σ = Open t (suc i) σ
+Open (seq2 p t) i σ = Open t (suc i + size p) σ
+Open (par α β t u) i σ = Open t (suc i) σ × Open u (suc i + size (prog t)) σ
+Open (loop0 p) i σ = Unit {0}
+Open (loop1 t) i σ = Open t (suc i) σ
+Open (repeat0 n p) i σ = Unit {0}
+Open (repeat1 n k t) i σ = Open t (suc i) σ
+Open (when0 c p q) i σ = Unit {0}
+Open (when1 c t q) i σ = Open t (suc i) σ
+Open (when2 c p t) i σ = Open t (suc i + size p) σ
+Open (until0 c t q) i σ = Open t (suc i) σ
+Open (until* c t q) i σ = Unit {0}
+Open (until2 c p t) i σ = Open t (suc i + size p) σ
+Open (control s t) i σ = Open t (suc i) σ
+Open (local b s t) i σ = (b ≡ true → σ i ≡ true) × Open t (suc i) σ
+
+pub rest-open : (t : Term) (i : ℕ) (σ : ℕ → Bool) → AtRest t → Open t i σ
+unfolding AtRest Open
+rest-open (done p) i σ a = tt
+rest-open nothing i σ a = tt
+rest-open stop i σ a = tt
+rest-open (atom n) i σ a = tt
+rest-open (generate s) i σ a = tt
+rest-open (await c) i σ a = tt
+rest-open (seq0 t q) i σ a = rest-open t _ σ a
+rest-open (seq2 p t) i σ a = rest-open t _ σ a
+rest-open (par α β t u) i σ a = (rest-open t _ σ (a .3), rest-open u _ σ (a .4))
+rest-open (loop0 p) i σ a = tt
+rest-open (loop1 t) i σ a = rest-open t _ σ a
+rest-open (repeat0 n p) i σ a = tt
+rest-open (repeat1 n k t) i σ a = rest-open t _ σ (a .1)
+rest-open (when0 c p q) i σ a = tt
+rest-open (when1 c t q) i σ a = rest-open t _ σ a
+rest-open (when2 c p t) i σ a = rest-open t _ σ a
+rest-open (until0 c t q) i σ a = rest-open t _ σ a
+rest-open (until* c t q) i σ a = tt
+rest-open (until2 c p t) i σ a = rest-open t _ σ a
+rest-open (control s t) i σ a = rest-open t _ σ a
+rest-open (local b s t) i σ a = (λ e. absurd (false≢true (sym (a .0) ∙ e)), rest-open t _ σ (a .1))
+
+-- σ and τ are the same from i up to j
+pub record Agree (σ τ : ℕ → Bool) (i j : ℕ) : Type 0 where
+  pub same : (n : ℕ) → i ≤ n → n < j → τ n ≡ σ n
+
+narrow : {σ τ : ℕ → Bool} {i i′ j j′ : ℕ} → (i ≤ i′) × (j′ ≤ j) → Agree σ τ i j → Agree σ τ i′ j′
+narrow h a = record { same = λ n b c. a .same n (omega arith) (omega arith) }
+
+-- a state has its Locals at the nodes from its own, as many as its program's size
+open-same : {σ τ : ℕ → Bool} (t : Term) (i : ℕ) → Agree σ τ i (i + size (prog t)) → Open t i σ → Open t i τ
+unfolding Open size prog
+open-same (done p) i a o = tt
+open-same nothing i a o = tt
+open-same stop i a o = tt
+open-same (atom n) i a o = tt
+open-same (generate s) i a o = tt
+open-same (await c) i a o = tt
+open-same (seq0 t q) i a o = open-same t _ (narrow (omega arith) a) o
+open-same (seq2 p t) i a o = open-same t _ (narrow (omega arith) a) o
+open-same (par α β t u) i a o =
+    (open-same t _ (narrow (omega arith) a) (o .0), open-same u _ (narrow (omega arith) a) (o .1))
+open-same (loop0 p) i a o = tt
+open-same (loop1 t) i a o = open-same t _ (narrow (omega arith) a) o
+open-same (repeat0 n p) i a o = tt
+open-same (repeat1 n k t) i a o = open-same t _ (narrow (omega arith) a) o
+open-same (when0 c p q) i a o = tt
+open-same (when1 c t q) i a o = open-same t _ (narrow (omega arith) a) o
+open-same (when2 c p t) i a o = open-same t _ (narrow (omega arith) a) o
+open-same (until0 c t q) i a o = open-same t _ (narrow (omega arith) a) o
+open-same (until* c t q) i a o = tt
+open-same (until2 c p t) i a o = open-same t _ (narrow (omega arith) a) o
+open-same (control s t) i a o = open-same t _ (narrow (omega arith) a) o
+open-same (local b s t) i a o =
+    (λ e. a .same i (omega arith) (omega arith) ∙ o .0 e, open-same t _ (narrow (omega arith) a) (o .1))
+
+-- what Locals at other nodes answer doesn't matter
+pub open-apart : {i j : ℕ} {l : List Act} (t : Term) (n : ℕ) (k : List Act) → Between i j l
+    → ((m : ℕ) → n ≤ m → m < n + size (prog t) → i ≤ m → m < j → ⊥)
+    → Open t n (last-answers k)
+    → Open t n (last-answers (l ++ k))
+open-apart t n k b h = open-same t n (record { same = λ m x y. b .elsewhere k m (h m x y) })
+
+-- a part of the node u is open as u is; one that answered TERM holds no Local
+pub part-open : (r : Result) (u : Term) (i j : ℕ) (σ : ℕ → Bool) → Stand (r .flag) (r .env .now) (r .to)
+    → (Open u i σ → Open (r .to) j σ)
+    → Open (leave (r .flag) u) i σ
+    → Open (r .to) j σ
+unfolding leave
+part-open r u i j σ g f = go (r .flag) g
+  where
+    go : (α : Flag) → Stand α (r .env .now) (r .to) → Open (leave α u) i σ → Open (r .to) j σ
+    go SUSP g o = f o
+    go STOP g o = f o
+    go TERM g o = rest-open (r .to) j σ (over-rest (r .to) g)
+
+pub branches-open : (α β : Flag) (X : Events) (t u : Term) (i : ℕ) (σ : ℕ → Bool) → Stand α X t → Stand β X u
+    → Open (leave (γ α β) (par (δ₁ α β) (δ₂ α β) t u)) i σ
+    → Open t (suc i) σ × Open u (suc i + size (prog t)) σ
+unfolding leave Open
+branches-open SUSP SUSP X t u i σ g h o = o
+branches-open SUSP STOP X t u i σ g h o = o
+branches-open SUSP TERM X t u i σ g h o = o
+branches-open STOP SUSP X t u i σ g h o = o
+branches-open STOP STOP X t u i σ g h o = o
+branches-open STOP TERM X t u i σ g h o = o
+branches-open TERM SUSP X t u i σ g h o = o
+branches-open TERM STOP X t u i σ g h o = o
+branches-open TERM TERM X t u i σ g h o = (rest-open t _ σ (over-rest t g), rest-open u _ σ (over-rest u h))
+
+-- the body of a Local that answered, its event present or not (x): by the statuses from that answer on
+pub body-open : (α : Flag) (X : Events) (b x : Bool) (s : ℕ) (t : Term) (i : ℕ) (σ : ℕ → Bool) → Stand α X t
+    → Open (leave α (local (sign b α x) s t)) i σ
+    → (x ≡ true → last-status α i x σ i ≡ true) × Open t (suc i) (last-status α i x σ)
+unfolding leave Open
+body-open SUSP X true x s t i σ g o = (λ e. o .0 refl, o .1)
+body-open SUSP X false x s t i σ g o = o
+body-open STOP X b x s t i σ g o = (λ e. put-at i x σ ∙ e, rest-open t _ _ g)
+body-open TERM X b x s t i σ g o = (λ e. put-at i x σ ∙ e, rest-open t _ _ (over-rest t g))

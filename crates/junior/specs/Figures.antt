@@ -1,0 +1,76 @@
+-- Loading figures (01): which programs stop, and one figure over own weights.
+use Prim.Native.Nat.{ℕ, _+_, _*_, min, max}
+use mathlib.Core.Bool.{Bool, true, false, cond, _&&_, _||_}
+use mathlib.Core.Path.{_≡_}
+use lib.Dec.{leb, eqb}
+use Rattle.junior.specs.Program.{Program, kind, Nothing, Stop, Atom, Seq, Par, Loop, Repeat, Generate, Await}
+use Rattle.junior.specs.Program.{When, Until, Control, Local}
+
+-- freshly begun, it can't end in that same instant
+unfoldable pub stops : Program → Bool
+stops Nothing = false
+stops Stop = true
+stops (Atom a) = false
+stops (Seq p q) = stops p || stops q
+stops (Par p q) = stops p || stops q
+stops (Loop p) = true
+stops (Repeat n p) = leb 1 n && stops p
+stops (Generate s) = false
+stops (Await c) = false
+stops (When c p q) = stops p && stops q
+stops (Until c p q) = stops p && stops q
+stops (Control s p) = stops p
+stops (Local s p) = stops p
+
+-- every Loop's body stops
+unfoldable pub LoopsStop : Program → Type 0
+LoopsStop Nothing = Unit {0}
+LoopsStop Stop = Unit {0}
+LoopsStop (Atom a) = Unit {0}
+LoopsStop (Seq p q) = LoopsStop p × LoopsStop q
+LoopsStop (Par p q) = LoopsStop p × LoopsStop q
+LoopsStop (Loop p) = (stops p ≡ true) × LoopsStop p
+LoopsStop (Repeat n p) = LoopsStop p
+LoopsStop (Generate s) = Unit {0}
+LoopsStop (Await c) = Unit {0}
+LoopsStop (When c p q) = LoopsStop p × LoopsStop q
+LoopsStop (Until c p q) = LoopsStop p × LoopsStop q
+LoopsStop (Control s p) = LoopsStop p
+LoopsStop (Local s p) = LoopsStop p
+
+-- how often a figure counts the body of a Repeat(n)
+abbrev pub times : ℕ → Bool → ℕ
+times n body-stops = cond body-stops (min n 2) n
+
+-- the figure of a program by the own weights k of its nodes
+unfoldable pub figure : (Program → ℕ) → Program → ℕ
+figure k Nothing = k Nothing
+figure k Stop = k Stop
+figure k (Atom a) = k (Atom a)
+figure k (Seq p q) = k (Seq p q) + (figure k p + figure k q)
+figure k (Par p q) = k (Par p q) + (figure k p + figure k q)
+figure k (Loop p) = k (Loop p) + 2 * figure k p
+figure k (Repeat n p) = k (Repeat n p) + times n (stops p) * figure k p
+figure k (Generate s) = k (Generate s)
+figure k (Await c) = k (Await c)
+figure k (When c p q) = k (When c p q) + max (figure k p) (figure k q)
+figure k (Until c p q) = k (Until c p q) + (figure k p + figure k q)
+figure k (Control s p) = k (Control s p) + figure k p
+figure k (Local s p) = k (Local s p) + figure k p
+
+-- own weights: one for each node of a kind, one for every node
+abbrev pub per : ℕ → Program → ℕ
+per n p = cond (eqb (kind p) n) 1 0
+
+abbrev pub every : Program → ℕ
+every p = 1
+
+-- G: a Generate weighs 1; A: an Atom weighs 1; W: every node weighs 1
+abbrev pub G : Program → ℕ
+G p = figure (per 7) p
+
+abbrev pub A : Program → ℕ
+A p = figure (per 2) p
+
+abbrev pub W : Program → ℕ
+W p = figure every p

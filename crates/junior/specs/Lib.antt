@@ -1,0 +1,15 @@
+-- The definitions, in reading order.
+pub mod Flags
+pub mod Configuration
+pub mod Program
+pub mod Term
+pub mod Trace
+pub mod Rules
+pub mod Instant
+pub mod Course
+pub mod Figures
+pub mod AtRest
+pub mod Decided
+pub mod Demand3
+pub mod Printed
+pub mod Bench
