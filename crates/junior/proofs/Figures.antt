@@ -186,7 +186,7 @@ module _ (k : Program → ℕ) where
   unfolding pot
   repeat-fresh n j m p h = simp (prog-fresh p, held-fresh p) (let a = one-more _ m _ _ h (pot-fresh p) in omega arith)
 
-  pot-again : (n j : ℕ) (p : Program) → pot (again n j p) ≤ k (Repeat n p) + due j false (stops p) * figure k p
+  pub pot-again : (n j : ℕ) (p : Program) → pot (again n j p) ≤ k (Repeat n p) + due j false (stops p) * figure k p
   unfolding pot
   pot-again n zero p = omega arith
   pot-again n (suc j) p = repeat-fresh n j _ p (due-again j (stops p))

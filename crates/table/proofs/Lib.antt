@@ -1,0 +1,26 @@
+-- Laws of the table's bytes, each file named after its subject.
+pub mod Little
+pub mod Lowest
+pub mod Laid
+pub mod Framing
+pub mod OwnBytes
+pub mod Heights
+pub mod WayNumbers
+pub mod Passing
+pub mod Spelled
+pub mod ByParts
+pub mod Parts
+pub mod Grown
+pub mod OneTree
+pub mod Tree
+pub mod Here
+pub mod Order
+pub mod Rows
+pub mod Weighed
+pub mod Judged
+pub mod Deep
+pub mod Waits
+pub mod Placing
+pub mod Swept
+pub mod Answers
+pub mod Bench

@@ -1,0 +1,10 @@
+-- The lowest record that isn't good, by what a search for it has seen.
+use Prim.Native.Nat.{ℕ, _≤_, _<_}
+use mathlib.Core.Bool.{Bool, true, false, not}
+use mathlib.Core.Path.{_≡_, ap}
+use Rattle.events.specs.Events.{lowest}
+use Rattle.events.proofs.Events.{lowest-is}
+
+pub lowest-bad : (good : ℕ → Bool) (n r : ℕ) → r ≤ n → ((k : ℕ) → k < r → good k ≡ true) → (r < n → good r ≡ false)
+    → r ≡ lowest n (λ k. not (good k))
+lowest-bad good n r w b t = lowest-is n r (λ k. not (good k)) w (λ k h. ap not (b k h)) (λ h. ap not (t h))

@@ -1,0 +1,118 @@
+-- A configuration's own goodness by the bytes at its place: its kind and event, its size and its parts' sizes.
+use Prim.Native.Nat.{ℕ, zero, suc, _+_, _-_, _*_, _≤_, _<_}
+use mathlib.Core.Bool.{Bool, true, false, cond, _&&_}
+use mathlib.Core.Path.{_≡_, refl, sym, ap, _∙_}
+use mathlib.Core.List.{List}
+use native.Mathlib.Omega.{arith}
+use lib.ListN.{length}
+use lib.Dec.{eqb, leb, ltb, eqb·suc-zero}
+use borrow.Author.Tests.{lt-ltb, le-ltb, lt-leb, le-leb, ne-eqb, ltb-true, ltb-false}
+use Rattle.table.specs.Records.{word, configurations, events, configurationAt, partKind, partEvent, partSize}
+use Rattle.table.specs.Good.{laidOut, parts, goodButHeight}
+use Rattle.table.specs.Inside.{Framed, Begins}
+use Rattle.table.proofs.Laid.{sizeOf}
+
+-- the configuration at byte c is laid out with that many parts, the configurations ending ten bytes before the table
+abbrev pub laidAt : List ℕ → ℕ → ℕ → Bool
+laidAt t c zero = eqb (partSize t c) 1
+laidAt t c (suc zero) = ltb (c + 4) (length t - 10) && eqb (partSize t c) (1 + partSize t (c + 4))
+laidAt t c (suc (suc more)) =
+    ltb (c + 4) (length t - 10)
+    && (ltb (c + 4 + 4 * partSize t (c + 4)) (length t - 10)
+    && eqb (partSize t c) (1 + partSize t (c + 4) + partSize t (c + 4 + 4 * partSize t (c + 4))))
+
+abbrev pub ownGood : List ℕ → ℕ → Bool
+ownGood t c =
+    leb (partKind t c) 3
+    && (ltb (partEvent t c) (cond (eqb (partKind t c) 0) (events t) 1) && laidAt t c (parts (partKind t c)))
+
+-- how many parts the configuration at byte c has, 0 if it isn't good but for its height
+abbrev pub partsAt : List ℕ → ℕ → ℕ
+partsAt t c = cond (ownGood t c) (parts (partKind t c)) 0
+
+either : (b : Bool) → cond {A = ℕ} b 0 0 ≡ 0
+either true = refl
+either false = refl
+
+-- a not, an and, an or by the number of kind and event, as it is laid out
+pub some-parts : (t : List ℕ) (c k : ℕ) → 1 ≤ k → k ≤ 3 → partEvent t c < 256 → word t c ≡ k * 256
+    → laidAt t c (parts k) ≡ true → partsAt t c ≡ parts k
+some-parts t c k a b l h g =
+    let d : partKind t c ≡ k = omega arith in
+    let e : partEvent t c ≡ 0 = omega arith in
+    rw (d, e, le-leb k 3 b, ne-eqb k 0 (λ z. omega arith), g)
+
+pub no-parts : (t : List ℕ) (c : ℕ) → (word t c ≡ 256 → laidAt t c 1 ≡ false)
+    → ((k : ℕ) → 2 ≤ k → k ≤ 3 → word t c ≡ k * 256 → laidAt t c 2 ≡ false) → partsAt t c ≡ 0
+unfolding parts
+no-parts t c f g = go (partKind t c) refl (ltb (partEvent t c) 1) refl
+  where
+    go : (k : ℕ) → partKind t c ≡ k → (e : Bool) → ltb (partEvent t c) 1 ≡ e → partsAt t c ≡ 0
+    go zero d e h = rw d (either (ltb (partEvent t c) (events t) && eqb (partSize t c) 1))
+    go (suc zero) d true h = rw (d, h, f (omega (arith, ltb-true (partEvent t c) 1 h)))
+    go (suc zero) d false h = rw (d, h)
+    go (suc (suc zero)) d true h = rw (d, h, g 2 (omega arith) (omega arith) (omega (arith, ltb-true (partEvent t c) 1 h)))
+    go (suc (suc zero)) d false h = rw (d, h)
+    go (suc (suc (suc zero))) d true h = rw (d, h, g 3 (omega arith) (omega arith) (omega (arith, ltb-true (partEvent t c) 1 h)))
+    go (suc (suc (suc zero))) d false h = rw (d, h)
+    go (suc (suc (suc (suc k)))) d e h = rw (d, lt-leb (suc (suc (suc (suc k)))) 3 (omega arith))
+
+-- no good event
+pub not-lone : (t : List ℕ) (c : ℕ) → partEvent t c < 256 → events t ≤ partKind t c * 256 + partEvent t c
+    → (eqb (partKind t c) 0 && ownGood t c) ≡ false
+not-lone t c l h = go (partKind t c) refl
+  where
+    go : (k : ℕ) → partKind t c ≡ k → (eqb (partKind t c) 0 && ownGood t c) ≡ false
+    go zero d = rw (d, le-ltb (partEvent t c) (events t) (omega arith))
+    go (suc k) d = rw (d, eqb·suc-zero k)
+
+same-test : (a b x y : ℕ) → (a < b → x < y) → (b ≤ a → y ≤ x) → ltb a b ≡ ltb x y
+same-test a b x y f g = go (ltb a b) refl
+  where
+    go : (r : Bool) → ltb a b ≡ r → ltb a b ≡ ltb x y
+    go true e = e ∙ sym (lt-ltb x y (f (ltb-true a b e)))
+    go false e = e ∙ sym (le-ltb x y (g (ltb-false a b e)))
+
+pub framed-begins : {t : List ℕ} {n m v j : ℕ} → Framed t n m v → j < m → Begins t (6 * n + 4 * j) j
+framed-begins f l =
+    let n = f .n-is in
+    let m = f .m-is in
+    let e = f .long in
+    record { at = omega arith; among = omega arith; long = omega arith }
+
+-- where the parts of configuration j begin
+module _ (t : List ℕ) (c j : ℕ) (e : c ≡ configurationAt t j) where
+  pub first-at : c + 4 ≡ configurationAt t (j + 1)
+  first-at = omega arith
+
+  pub second-at : c + 4 + 4 * partSize t (c + 4) ≡ configurationAt t (j + 1 + sizeOf t (j + 1))
+  second-at = let s = ap (partSize t) first-at in omega arith
+
+module _ (t : List ℕ) (c j : ℕ) (b : Begins t c j) where
+  within : (k d : ℕ) → d ≡ configurationAt t k → ltb k (configurations t) ≡ ltb d (length t - 10)
+  within k d e =
+      let l = b .long in
+      same-test k (configurations t) d (length t - 10) (λ h. omega arith) (λ h. omega arith)
+
+  laid-at : (p : ℕ) → laidOut (sizeOf t) (configurations t) j p ≡ laidAt t c p
+  unfolding laidOut
+  laid-at zero = ap (λ (x : ℕ). eqb (partSize t x) 1) (sym (b .at))
+  laid-at (suc zero) =
+      let f = first-at t c j (b .at) in
+      let one = within _ _ f in
+      let own = ap (partSize t) (b .at) in
+      let first = ap (partSize t) f in
+      cc
+  laid-at (suc (suc more)) =
+      let f = first-at t c j (b .at) in
+      let s = second-at t c j (b .at) in
+      let one = within _ _ f in
+      let two = within _ _ s in
+      let own = ap (partSize t) (b .at) in
+      let first = ap (partSize t) f in
+      let second = ap (partSize t) s in
+      cc
+
+  pub own : goodButHeight t j ≡ ownGood t c
+  unfolding goodButHeight
+  own = rw (← b .at, laid-at (parts (partKind t c)))

@@ -1,0 +1,176 @@
+-- Placing a good node: what it needs of the row, and what the row is afterwards.
+use Prim.Native.Nat.{ℕ, _+_, _-_, _≤_, _<_}
+use mathlib.Core.Bool.{Bool, true, false, cond, not, _&&_}
+use mathlib.Core.Path.{_≡_, refl, sym, _∙_}
+use mathlib.Core.List.{List}
+use native.Mathlib.Omega.{arith}
+use lib.Dec.{eqb}
+use lib.ListN.{length, getD, set, length-set}
+use Rattle.junior.specs.Program.{Program, kind}
+use Rattle.junior.specs.Figures.{stops}
+use Rattle.table.specs.Records.{nodes, kindAt, argumentAt, sizeAt, secondAt}
+use Rattle.table.specs.Good.{children, goodNode}
+use Rattle.table.specs.declared.weights.Weight.{Weight}
+use Rattle.table.specs.Inside.Weighing.{Leaf, One, Two, Weighs, Small, weightAt, put, Row, treeAt, OfKind}
+use Rattle.table.specs.Inside.Weighing.{Ready, Placed, bit}
+use Rattle.table.proofs.Grown.{spells-from}
+use Rattle.table.proofs.Here.{Here, no-part, one-part, two-parts, here, kind-here, tree-here}
+use Rattle.table.proofs.Little.{below-or}
+use Rattle.table.proofs.Parts.{of-none, of-one, of-two}
+use Rattle.table.proofs.Rows.{height-most, row-more}
+use Rattle.table.proofs.Waits.{Topmost, topmost, waits-more, waiting-row, waiting-kept, length-put, put-last}
+use Rattle.table.proofs.Waits.{last-apart, last-here}
+
+-- the row with the lowest endless Loop kept in it, if b
+record Kept (w w′ : List ℕ) (b : Bool) (i : ℕ) : Type 0 where
+  long : length w′ ≡ 321
+  below : (j : ℕ) → j < 64 → weightAt w′ j ≡ weightAt w j
+  last : getD w′ 320 0 ≡ cond b i (getD w 320 0)
+
+kept : (w w′ : List ℕ) (b : Bool) (i : ℕ) → length w ≡ 321 → w′ ≡ cond b (set w 320 i) w → Kept w w′ b i
+kept w w′ true i l e =
+    rw e (record { long = length-set w 320 i ∙ l; below = last-apart w i; last = last-here w i l })
+kept w w′ false i l e = rw e (record { long = l; below = λ j h. refl; last = refl })
+
+bit-none : (b : Bool) → eqb (bit b) 0 ≡ not b
+bit-none true = refl
+bit-none false = refl
+
+module _ {t w : List ℕ} {n i k limit count top : ℕ} (R : Ready t w n i top) (K : OfKind t i k limit count)
+    (good : goodNode t i ≡ true) where
+  n-is : n ≡ nodes t
+  n-is = R .within .n-is
+
+  here-below : i < nodes t
+  here-below = rw n-is at (R .within .here)
+
+  good-from : (j : ℕ) → i ≤ j → j < nodes t → goodNode t j ≡ true
+  good-from j h l =
+      below-or i j (λ m. R .good-behind j m (rw n-is l)) (λ m. let e : j ≡ i = omega arith in rw e good)
+
+  at-node : Here t i count
+  at-node =
+      let e : children (kindAt t i) ≡ count = rw (K .kind-is) (K .count-is) in
+      rw e at (here t (R .configurations-good) i good-from i (omega arith) here-below)
+
+  kind-is : k ≡ kind (treeAt t i)
+  kind-is = sym (K .kind-is) ∙ kind-here t (R .configurations-good) i good-from i (omega arith) here-below
+
+  small-here : (x : Weight) (j : ℕ) → i ≤ j → j < nodes t → Weighs x (treeAt t j) → Small x
+  small-here x j h l y =
+      let G = spells-from t (R .configurations-good) i good-from j h l in
+      let e = G .ends in
+      let m = R .within .n-most in
+      let q = n-is in
+      record {
+        generations-small = omega (arith, y .generations-are .small);
+        atoms-small = omega (arith, y .atoms-are .small);
+        nodes-small = omega (arith, y .nodes-are .small);
+        height-small =
+            omega (arith, y .height-is, height-most (tree-here t (R .configurations-good) i good-from j h l));
+      }
+
+  pub leaf-full : count ≡ 0 → top ≡ 64 → Row t 65 i
+  leaf-full c e = go (rw c at at-node)
+    where
+      go : Here t i 0 → Row t 65 i
+      go (no-part s v) = row-more t 64 i here-below (rw (s, ← e) (waiting-row t w top (i + 1) (R .waits)))
+
+  pub leaf-placed : count ≡ 0 → top < 64 → (x : Weight)
+      → ((p : Program) → Leaf p → k ≡ kind p → Weighs x p) → Placed t w (put w top x) i (top + 1)
+  leaf-placed c h x f = go (rw c at at-node)
+    where
+      go : Here t i 0 → Placed t w (put w top x) i (top + 1)
+      go (no-part s v) =
+          record {
+            good = good;
+            long-row = length-put w top x ∙ R .long-row;
+            waits = waits-more t w top i x (R .long-row) h here-below (f _ v kind-is) (rw s (R .waits));
+            room = omega arith;
+            endless = put-last w top x h ∙ rw (of-none v .endless-is);
+          }
+
+  first-below : (count ≡ 0 → ⊥) → i + 1 < nodes t
+  first-below c = go at-node c
+    where
+      go : {count : ℕ} → Here t i count → (count ≡ 0 → ⊥) → i + 1 < nodes t
+      go (no-part s v) c = absurd (c refl)
+      go (one-part m s v) c = m
+      go (two-parts m m′ s v) c = m
+
+  second-below : count ≡ 2 → secondAt t i < nodes t
+  second-below c = go (rw c at at-node)
+    where
+      go : Here t i 2 → secondAt t i < nodes t
+      go (two-parts m m′ s v) = m′
+
+  -- what the first child and the second weigh
+  pub first-taken : (count ≡ 0 → ⊥) → Topmost t w top (i + 1)
+  first-taken c = topmost t w top (i + 1) (first-below c) (R .waits)
+
+  pub first-small : (count ≡ 0 → ⊥) → Small (weightAt w (top - 1))
+  first-small c = small-here _ (i + 1) (omega arith) (first-below c) (first-taken c .weighs)
+
+  pub second-taken : count ≡ 2 → Topmost t w (top - 1) (secondAt t i)
+  second-taken c = topmost t w (top - 1) (secondAt t i) (second-below c) (first-taken (λ e. omega arith) .rest)
+
+  -- the second's place, and the first's behind it
+  pub two-wait : count ≡ 2 → 2 ≤ top
+  two-wait c = let a = second-taken c .some in omega arith
+
+  second-place : top - 1 - 1 ≡ top - 2
+  second-place = omega arith
+
+  first-place : count ≡ 2 → top - 1 ≡ top - 2 + 1
+  first-place c = let a = two-wait c in omega arith
+
+  pub both-small : count ≡ 2 → Small (weightAt w (top - 2 + 1)) × Small (weightAt w (top - 2))
+  both-small c = (
+    rw (first-place c) at (first-small (λ e. omega arith)),
+    rw second-place at (small-here _ (secondAt t i) (omega arith) (second-below c) (second-taken c .weighs)),
+  )
+
+  pub pair-placed : count ≡ 2 → (z : Weight)
+      → ((p q r : Program) → Two p q r → k ≡ kind p → Weighs (weightAt w (top - 2 + 1)) q → Weighs (weightAt w (top - 2)) r
+      → Weighs z p) → Placed t w (put w (top - 2) z) i (top - 2 + 1)
+  pair-placed c z f = go (rw c at at-node)
+    where
+      go : Here t i 2 → Placed t w (put w (top - 2) z) i (top - 2 + 1)
+      go (two-parts m m′ s v) =
+          let a = first-taken (λ e. omega arith) in
+          let b = second-taken c in
+          let u = two-wait c in
+          let o = R .room in
+          let g : secondAt t i + sizeAt t (secondAt t i) ≡ i + sizeAt t i = omega arith in
+          record {
+            good = good;
+            long-row = length-put w (top - 2) z ∙ R .long-row;
+            waits =
+                waits-more t w (top - 2) i z (R .long-row) (omega arith) here-below
+                (f _ _ _ v kind-is (rw (first-place c) at (a .weighs)) (rw second-place at (b .weighs)))
+                (rw (g, second-place) at (b .rest));
+            room = omega arith;
+            endless = put-last w (top - 2) z (omega arith) ∙ rw (of-two v .endless-is);
+          }
+
+  pub body-placed : count ≡ 1 → (w′ : List ℕ)
+      → w′ ≡ cond (eqb k 5 && eqb (weightAt w (top - 1) .stops) 0) (set w 320 i) w → (z : Weight)
+      → ((p q : Program) → One (argumentAt t i) p q → k ≡ kind p → Weighs (weightAt w (top - 1)) q → Weighs z p)
+      → Placed t w (put w′ (top - 1) z) i top
+  body-placed c w′ d z f = go (rw c at at-node)
+    where
+      go : Here t i 1 → Placed t w (put w′ (top - 1) z) i top
+      go (one-part m s v) =
+          let a = first-taken (λ e. omega arith) in
+          let y = kept w w′ (eqb k 5 && eqb (weightAt w (top - 1) .stops) 0) i (R .long-row) d in
+          let u = a .some in
+          let o = R .room in
+          let e : top - 1 + 1 ≡ top = omega arith in
+          let g : i + 1 + sizeAt t (i + 1) ≡ i + sizeAt t i = omega arith in
+          record {
+            good = good;
+            long-row = length-put w′ (top - 1) z ∙ y .long;
+            waits = rw e at (waits-more t w′ (top - 1) i z (y .long) (omega arith) here-below (f _ _ v kind-is (a .weighs)) (waiting-kept t w w′ (top - 1) (i + sizeAt t i) (λ j h. y .below j (omega arith)) (rw g at (a .rest))));
+            room = o;
+            endless = put-last w′ (top - 1) z (omega arith) ∙ (y .last ∙ rw (kind-is, a .weighs .stops-is, bit-none (stops (treeAt t (i + 1))), of-one v .endless-is));
+          }

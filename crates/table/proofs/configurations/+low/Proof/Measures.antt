@@ -1,0 +1,15 @@
+use Rattle.table.proofs as proofs
+use borrow.Fn.Kinds.{In, PK}
+use borrow.Fn.PlainCycle.{Measures, is, falls, and}
+use mathlib.Core.List.{List}
+use Prim.Native.Nat.{ℕ, _<_, _+_, _*_}
+use lib.ListN.{length}
+
+abbrev pub exactly : {n : ℕ} (ps : List (PK n)) → Measures n ps ℕ → In n ps → ℕ → In n ps
+exactly {n} ps μ Pre t = and n ps (is n ps μ t) Pre
+
+abbrev pub smaller : {n : ℕ} (ps : List (PK n)) → Measures n ps ℕ → In n ps → ℕ → In n ps
+smaller {n} ps μ Pre t = and n ps (falls n ps _<_ μ t) Pre
+
+abbrev pub μ-low : Measures 1 proofs.configurations.low.Kinds.ps ℕ
+μ-low κs a = a .1 .1 .0

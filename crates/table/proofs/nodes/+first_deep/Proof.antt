@@ -1,0 +1,10 @@
+mod Measures
+mod FirstDeep
+use Rattle.table.proofs.nodes.+first_deep.{statement}
+use Rattle.table.proofs.nodes.+first_deep.Tie.{close}
+
+pub +first-deep-spec : {M : Type 1} → statement M
++first-deep-spec =
+    close
+    Measures.μ-first-deep
+    (λ t. FirstDeep.closed t)

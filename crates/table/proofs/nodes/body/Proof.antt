@@ -1,0 +1,65 @@
+use Rattle.table.proofs.nodes.body.Statement.{statement}
+use Rattle.table.proofs.nodes.body.Tie as tie
+use borrow.Author.Needs.{needs}
+use mathlib.Core.Bool.{false≢true}
+use mathlib.Core.Path.{refl, sym, _∙_}
+use native.Mathlib.Omega.{arith}
+use Rattle.table.proofs.Judged.{own-kind}
+use Rattle.table.proofs.Placing.{first-taken, first-small, body-placed}
+
+-- if good_as(table, n, i, limit, 1) {
+good-as-requires : tie.Need-good-as-requires
+good-as-requires c κs =
+    let start = c .before in
+    (start .pre .0 .within, own-kind (start .pre .1))
+
+-- let at = top - 1;
+sub-at : tie.Need-sub-at
+sub-at c =
+    let start = c .before .before .before in
+    let good-as = c .before .good-as in
+    let if1 = c .if1 in
+    first-taken (start .pre .0) (start .pre .1) (sym (good-as .ensures) ∙ if1 .taken) (λ e. omega arith) .some
+
+-- put_weight(waiting, at, wrapped(k, argument_at(table, i), x));
+wrapped-requires : tie.Need-wrapped-requires
+wrapped-requires c κs =
+    let start = c .before .before .before .before .before .before .before .before .before in
+    let good-as = c .before .before .before .before .before .before .before .good-as in
+    let if1 = c .before .before .before .before .before .before .if1 in
+    let weight-at = c .before .before .before .before .weight-at in
+    let argument-at = c .argument-at in
+    (argument-at .ensures .1, rw (weight-at .ensures) (first-small (start .pre .0) (start .pre .1) (sym (good-as .ensures) ∙ if1 .taken) (λ e. omega arith)))
+
+-- return top;
+returns : tie.Need-returns
+returns c =
+    let start = c .before .before .before .before .before .before .before .before .before .before .before in
+    let good-as = c .before .before .before .before .before .before .before .before .before .good-as in
+    let if1 = c .before .before .before .before .before .before .before .before .if1 in
+    let weight-at = c .before .before .before .before .before .before .weight-at in
+    let keep-endless = c .before .before .before .before .keep-endless in
+    let argument-at = c .before .before .argument-at in
+    let wrapped = c .before .wrapped in
+    let put-weight = c .put-weight in
+    (λ z. rw (put-weight .ensures) (body-placed (start .pre .0) (start .pre .1) (sym (good-as .ensures) ∙ if1 .taken) refl _ (rw (weight-at .ensures) at (keep-endless .ensures)) _ (rw (argument-at .ensures .0, weight-at .ensures) at (wrapped .ensures))), λ z g. let u = first-taken (start .pre .0) (start .pre .1) (sym (good-as .ensures) ∙ if1 .taken) (λ e. omega arith) .some in absurd (omega arith))
+
+-- fn body
+returns-2 : tie.Need-returns-2
+returns-2 c =
+    let good-as = c .before .good-as in
+    let if1 = c .if1 in
+    (λ z. absurd (omega arith), λ z g. absurd (false≢true (sym (if1 .left) ∙ (good-as .ensures ∙ g))))
+
+pub body-spec : {M : Type 1} → statement M
+body-spec =
+    tie.close (tie.spec
+    good-as-requires
+    sub-at
+    (λ c κs. search needs)  -- weight-at-requires: let x = weight_at(waiting, at);
+    (λ c κs. search needs)  -- keep-endless-requires: keep_endless(waiting, i, k, x.stops);
+    (λ c κs. search needs)  -- argument-at-requires: put_weight(waiting, at, wrapped(k, argument_a..
+    wrapped-requires
+    (λ c κs. search needs)  -- put-weight-requires
+    returns
+    returns-2)

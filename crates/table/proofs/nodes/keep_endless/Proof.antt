@@ -1,0 +1,14 @@
+use borrow.Author.Needs.{needs}
+use borrow.Author.Tests.{eq-eqb, ne-eqb}
+use Rattle.table.proofs.nodes.keep_endless.Statement.{statement}
+use Rattle.table.proofs.nodes.keep_endless.Tie as tie
+
+pub keep-endless-spec : {M : Type 1} → statement M
+keep-endless-spec =
+    tie.close
+    (tie.spec
+    (λ c. search needs)  -- cast-waiting: waiting[320] = i as u32;
+    (λ c. search needs)  -- element-write-waiting
+    (λ c. rw (eq-eqb _ _ (c .before .if1 .taken), eq-eqb _ _ (c .if2 .taken)))  -- returns: stored
+    (λ c. rw (eq-eqb _ _ (c .before .if1 .taken), ne-eqb _ _ (c .if2 .left)))  -- returns-2: the body stops
+    (λ c. rw (ne-eqb _ _ (c .if1 .left))))  -- returns-3: no Loop

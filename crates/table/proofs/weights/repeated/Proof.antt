@@ -1,0 +1,18 @@
+use borrow.Author.Needs.{needs}
+use Rattle.table.proofs.weights.repeated.Statement.{statement}
+use Rattle.table.proofs.weights.repeated.Tie as tie
+
+-- fn repeated(c: u32, x: Weight, stops: u32) -> Weight
+returns : tie.Need-returns
+returns c = simp (c .before .before .before .count-times .ensures, c .before .before .count-times2 .ensures, c .before .count-times3 .ensures)
+
+pub repeated-spec : {M : Type 1} → statement M
+repeated-spec =
+    tie.close
+    (tie.spec
+    (λ c κs. search needs)  -- count-times-requires: generations: count_times(c, x.generations),
+    (λ c κs. search needs)  -- count-times-requires-2: atoms: count_times(c, x.atoms),
+    (λ c κs. search needs)  -- count-times-requires-3: nodes: count_times(c, x.nodes) + 1,
+    (λ c. search needs)  -- add-t7: nodes: count_times(c, x.nodes) + 1,
+    (λ c. search needs)  -- add-t8: height: x.height + 1,
+    returns)

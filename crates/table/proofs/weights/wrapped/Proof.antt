@@ -1,0 +1,36 @@
+use mathlib.Core.Path.{sym, _∙_}
+use Rattle.table.proofs.Weighed.{loop-weighs, never-weighs, repeat-weighs, under-weighs}
+use borrow.Author.Needs.{needs}
+use Rattle.table.proofs.weights.wrapped.Statement.{statement}
+use Rattle.table.proofs.weights.wrapped.Tie as tie
+
+-- return repeated(2, x, 1);
+returns : tie.Need-returns
+returns c = λ p q v e w. rw (c .repeated .ensures) (loop-weighs v (sym e ∙ c .before .if1 .taken) w)
+
+-- return repeated(0, x, 0);
+returns-2 : tie.Need-returns-2
+returns-2 c = λ p q v e w. rw (c .repeated2 .ensures) (never-weighs v (sym e ∙ c .before .before .if2 .taken) (c .before .if3 .taken) w)
+
+-- return repeated(times_of(count, x.stops), x, x.stops);
+returns-3 : tie.Need-returns-3
+returns-3 c = λ p q v e w. rw (c .repeated3 .ensures) (repeat-weighs v (sym e ∙ c .before .before .before .if2 .taken) (c .before .before .if3 .left) _ (c .before .times-of .ensures .0) w)
+
+-- pub fn wrapped(k: usize, count: usize, x: Weight) -> Weight
+returns-4 : tie.Need-returns-4
+returns-4 c = λ p q v e w. under-weighs v (λ z. c .before .before .before .if1 .left (e ∙ z)) (λ z. c .before .before .if2 .left (e ∙ z)) w
+
+pub wrapped-spec : {M : Type 1} → statement M
+wrapped-spec =
+    tie.close
+    (tie.spec
+    (λ c κs. search needs)  -- repeated-requires: return repeated(2, x, 1);
+    returns
+    (λ c κs. search needs)  -- repeated-requires-2: return repeated(0, x, 0);
+    returns-2
+    (λ c κs. search needs)  -- times-of-requires: return repeated(times_of(count, x.stops), x, x.stops);
+    (λ c κs. search needs)  -- repeated-requires-3: return repeated(times_of(count, x.stops), x, x.stops);
+    returns-3
+    (λ c. search needs)  -- add-t7: nodes: x.nodes + 1,
+    (λ c. search needs)  -- add-t8: height: x.height + 1,
+    returns-4)

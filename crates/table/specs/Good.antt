@@ -1,0 +1,69 @@
+-- Good records (01, "The table"): a record is judged by its own bytes and by its children's indexes and written sizes.
+use Prim.Native.Nat.{ℕ, zero, suc, _+_}
+use mathlib.Core.Bool.{Bool, true, false, cond, not, _&&_, _||_}
+use mathlib.Core.List.{List}
+use lib.Dec.{eqb, leb, ltb}
+use Rattle.table.specs.Records.{nodes, configurations, events, kindAt, zeroAt, argumentAt, sizeAt}
+use Rattle.table.specs.Records.{configurationAt, partKind, partEvent, partSize}
+
+-- record i of n, by the sizes written in them, with that many children: their indexes are below n, and its size is 1 plus theirs
+unfoldable pub laidOut : (ℕ → ℕ) → ℕ → ℕ → ℕ → Bool
+laidOut written n i zero = eqb (written i) 1
+laidOut written n i (suc zero) = ltb (i + 1) n && eqb (written i) (1 + written (i + 1))
+laidOut written n i (suc (suc more)) =
+    let second = i + 1 + written (i + 1) in
+    ltb (i + 1) n && (ltb second n && eqb (written i) (1 + written (i + 1) + written second))
+
+-- how many children a kind has: Seq, Par, When, Until two; Loop, Repeat, Control, Local one
+unfoldable pub children : ℕ → ℕ
+children k =
+    cond (((eqb k 3 || eqb k 4) || eqb k 9) || eqb k 10) 2 (cond (((eqb k 5 || eqb k 6) || eqb k 11) || eqb k 12) 1 0)
+
+-- a kind's argument is below this: an Atom's any number, a Repeat's its count; Generate, Control, Local an event; Await, When,
+-- Until a configuration; otherwise 0
+unfoldable pub argumentLimit : List ℕ → ℕ → ℕ
+argumentLimit t k =
+    cond
+    (eqb k 2 || eqb k 6)
+    65536
+    (cond
+    ((eqb k 7 || eqb k 11) || eqb k 12)
+    (events t)
+    (cond ((eqb k 8 || eqb k 9) || eqb k 10) (configurations t) 1))
+
+-- node i is good; record 0 must also have size N
+unfoldable pub goodNode : List ℕ → ℕ → Bool
+goodNode t i =
+    leb (kindAt t i) 12
+    && (eqb (zeroAt t i) 0
+    && (ltb (argumentAt t i) (argumentLimit t (kindAt t i))
+    && (laidOut (sizeAt t) (nodes t) i (children (kindAt t i)) && (ltb 0 i || eqb (sizeAt t i) (nodes t)))))
+
+-- how many parts a configuration's kind has: an event none, a not one, an and or an or two
+unfoldable pub parts : ℕ → ℕ
+parts k = cond (eqb k 0) 0 (cond (eqb k 1) 1 2)
+
+-- configuration j is good but for its height: its event is below V, or 0 if it is none
+unfoldable pub goodButHeight : List ℕ → ℕ → Bool
+goodButHeight t j =
+    let c = configurationAt t j in
+    leb (partKind t c) 3
+    && (ltb (partEvent t c) (cond (eqb (partKind t c) 0) (events t) 1)
+    && laidOut (λ k. partSize t (configurationAt t k)) (configurations t) j (parts (partKind t c)))
+
+-- of no part, of one, of two
+abbrev pub ofParts : ℕ → Bool → Bool → Bool
+ofParts zero first second = true
+ofParts (suc zero) first second = first
+ofParts (suc (suc more)) first second = first && second
+
+-- its height is at most h: a lone event is height 1, and a record bad for another reason counts as 1
+unfoldable pub heightAtMost : List ℕ → ℕ → ℕ → Bool
+heightAtMost t zero j = false
+heightAtMost t (suc h) j =
+    let first = heightAtMost t h (j + 1) in
+    let second = heightAtMost t h (j + 1 + partSize t (configurationAt t (j + 1))) in
+    cond (goodButHeight t j) (ofParts (parts (partKind t (configurationAt t j))) first second) true
+
+unfoldable pub goodConfiguration : List ℕ → ℕ → Bool
+goodConfiguration t j = goodButHeight t j && heightAtMost t 16 j

@@ -1,0 +1,36 @@
+-- What a table has once some refusals are past. Private contracts alone cite this file and those below it; no public one does.
+use Prim.Native.Nat.{ℕ, _+_, _*_, _≤_, _<_}
+use mathlib.Core.Bool.{true}
+use mathlib.Core.Path.{_≡_}
+use mathlib.Core.List.{List}
+use lib.ListN.{length}
+use Rattle.table.specs.Records.{nodes, configurations, events, configurationAt}
+use Rattle.table.specs.Good.{goodConfiguration}
+pub mod Framing
+pub mod Ways
+pub mod Weighing
+
+-- past 1 to 3: n, m and v are the table's counts, in their ranges, and its length is theirs
+pub record Framed (t : List ℕ) (n m v : ℕ) : Type 0 where
+  pub long : length t ≡ 6 * n + 4 * m + 10
+  pub n-is : n ≡ nodes t
+  pub m-is : m ≡ configurations t
+  pub v-is : v ≡ events t
+  pub n-least : 1 ≤ n
+  pub n-most : n ≤ 4096
+  pub m-most : m ≤ 2048
+  pub v-least : 1 ≤ v
+  pub v-most : v ≤ 256
+
+-- past 4
+abbrev pub ConfigurationsGood : List ℕ → Type 0
+ConfigurationsGood t = (j : ℕ) → j < configurations t → goodConfiguration t j ≡ true
+
+-- configuration j begins at byte c, and the bytes end ten behind the last configuration
+pub record Begins (t : List ℕ) (c j : ℕ) : Type 0 where
+  pub at : c ≡ configurationAt t j
+  pub among : j < configurations t
+  pub long : length t ≡ configurationAt t (configurations t) + 10
+
+abbrev pub SomeBegins : List ℕ → ℕ → Type 0
+SomeBegins t c = (j : ℕ) × Begins t c j

@@ -1,0 +1,178 @@
+-- Weighing the nodes from the last to the first. Private contracts alone cite this file.
+use Prim.Native.Nat.{ℕ, zero, suc, _+_, _*_, _≤_, _<_, min, max}
+use mathlib.Core.Bool.{Bool, true, cond}
+use mathlib.Core.Path.{_≡_}
+use mathlib.Core.List.{List}
+use lib.ListN.{length, getD, set}
+use Rattle.junior.specs.Configuration.{Config}
+use Rattle.junior.specs.Program.{Program, Nothing, Stop, Atom, Seq, Par, Loop, Repeat, Generate, Await, When, Until}
+use Rattle.junior.specs.Program.{Control, Local, size}
+use Rattle.junior.specs.Figures.{stops, figure, per, every}
+use Rattle.table.specs.declared.weights.Weight.{Weight}
+use Rattle.table.specs.Records.{nodes, kindAt, sizeAt}
+use Rattle.table.specs.Good.{children, argumentLimit, goodNode}
+use Rattle.table.specs.Spells.{programOf}
+use Rattle.table.specs.Verdict.{endlessLoop}
+use Rattle.table.specs.Inside.{ConfigurationsGood}
+
+-- a program without parts, with one, with two; a is the count if it is a Repeat
+pub data Leaf : Program → Type 0 where
+  nothing : Leaf Nothing
+  stop : Leaf Stop
+  atom : (a : ℕ) → Leaf (Atom a)
+  generate : (s : ℕ) → Leaf (Generate s)
+  await : (c : Config) → Leaf (Await c)
+
+pub data One (a : ℕ) : Program → Program → Type 0 where
+  loop : (p : Program) → One a (Loop p) p
+  repeat : (p : Program) → One a (Repeat a p) p
+  control : (s : ℕ) (p : Program) → One a (Control s p) p
+  local : (s : ℕ) (p : Program) → One a (Local s p) p
+
+pub data Two : Program → Program → Program → Type 0 where
+  seq : (p q : Program) → Two (Seq p q) p q
+  par : (p q : Program) → Two (Par p q) p q
+  when : (c : Config) (p q : Program) → Two (When c p q) p q
+  until : (c : Config) (p q : Program) → Two (Until c p q) p q
+
+-- the program at node i
+abbrev pub treeAt : List ℕ → ℕ → Program
+treeAt t i = programOf t (nodes t) i
+
+-- x is the figure of p by the own weights k, exact below 65,536, and grows with the nodes of p alone
+pub record Figure (k : Program → ℕ) (p : Program) (x : ℕ) : Type 0 where
+  pub exact : min x 65536 ≡ min (figure k p) 65536
+  pub small : x ≤ 65537 * size p
+
+-- how many levels it has
+unfoldable pub height : Program → ℕ
+height Nothing = 1
+height Stop = 1
+height (Atom a) = 1
+height (Seq p q) = 1 + max (height p) (height q)
+height (Par p q) = 1 + max (height p) (height q)
+height (Loop p) = 1 + height p
+height (Repeat n p) = 1 + height p
+height (Generate s) = 1
+height (Await c) = 1
+height (When c p q) = 1 + max (height p) (height q)
+height (Until c p q) = 1 + max (height p) (height q)
+height (Control s p) = 1 + height p
+height (Local s p) = 1 + height p
+
+abbrev pub bit : Bool → ℕ
+bit b = cond b 1 0
+
+pub record Weighs (x : Weight) (p : Program) : Type 0 where
+  pub generations-are : Figure (per 7) p (x .generations)
+  pub atoms-are : Figure (per 2) p (x .atoms)
+  pub nodes-are : Figure every p (x .nodes)
+  pub height-is : x .height ≡ height p
+  pub stops-is : x .stops ≡ bit (stops p)
+
+-- x counted c times, no further than 65,536
+abbrev pub counted : ℕ → ℕ → ℕ
+counted c x = min (c * min x 65536) 65536
+
+-- what counts x c times, or x and y together, and one node more
+abbrev pub repeatedly : ℕ → Weight → ℕ → Weight
+repeatedly c x s =
+    record {
+      generations = counted c (x .generations);
+      atoms = counted c (x .atoms);
+      nodes = counted c (x .nodes) + 1;
+      height = x .height + 1;
+      stops = s;
+    }
+
+abbrev pub together : Weight → Weight → ℕ → Weight
+together x y s =
+    record {
+      generations = x .generations + y .generations;
+      atoms = x .atoms + y .atoms;
+      nodes = x .nodes + y .nodes + 1;
+      height = max (x .height) (y .height) + 1;
+      stops = s;
+    }
+
+-- what the program at a node of at most 4,096 weighs: so small that no sum of two overflows
+pub record Small (x : Weight) : Type 0 where
+  pub generations-small : x .generations ≤ 268439552
+  pub atoms-small : x .atoms ≤ 268439552
+  pub nodes-small : x .nodes ≤ 268439552
+  pub height-small : x .height ≤ 4096
+
+-- `waiting`, a row of 64 places for each field of a weight, and behind them the lowest endless Loop so far: what is in place `at`,
+-- and the row with x there
+abbrev pub weightAt : List ℕ → ℕ → Weight
+weightAt w at =
+    record {
+      generations = getD w at 0;
+      atoms = getD w (64 + at) 0;
+      nodes = getD w (128 + at) 0;
+      height = getD w (192 + at) 0;
+      stops = getD w (256 + at) 0;
+    }
+
+unfoldable pub put : List ℕ → ℕ → Weight → List ℕ
+put w at x =
+    set
+    (set
+    (set (set (set w at (x .generations)) (64 + at) (x .atoms)) (128 + at) (x .nodes))
+    (192 + at)
+    (x .height))
+    (256 + at)
+    (x .stops)
+
+-- from node i on that many programs stand one behind another, up to the end
+unfoldable pub Row : List ℕ → ℕ → ℕ → Type 0
+Row t zero i = i ≡ nodes t
+Row t (suc k) i = (i < nodes t) × Row t k (i + sizeAt t i)
+
+-- and what they weigh is in the first places, the first program's on top
+unfoldable pub Waiting : List ℕ → List ℕ → ℕ → ℕ → Type 0
+Waiting t w zero i = i ≡ nodes t
+Waiting t w (suc k) i = (i < nodes t) × Weighs (weightAt w k) (treeAt t i) × Waiting t w k (i + sizeAt t i)
+
+-- node i of N, in a table whose record 0 has size N
+pub record Within (t : List ℕ) (n i : ℕ) : Type 0 where
+  pub long : 6 * n + 10 ≤ length t
+  pub n-is : n ≡ nodes t
+  pub n-most : n ≤ 4096
+  pub whole : sizeAt t 0 ≡ n
+  pub here : i < n
+
+-- its kind, what its argument must be below, and how many children it has
+pub record OfKind (t : List ℕ) (i k limit count : ℕ) : Type 0 where
+  pub kind-is : kindAt t i ≡ k
+  pub known : k ≤ 12
+  pub limit-is : argumentLimit t k ≡ limit
+  pub count-is : children k ≡ count
+
+-- past 5
+pub record AllGood (t : List ℕ) : Type 0 where
+  pub long : 6 * nodes t + 10 ≤ length t
+  pub few : nodes t ≤ 4096
+  pub configurations-good : ConfigurationsGood t
+  pub good : (i : ℕ) → i < nodes t → goodNode t i ≡ true
+
+-- before node i is placed: the table is past 4, and all nodes behind i are good and weighed
+pub record Ready (t w : List ℕ) (n i top : ℕ) : Type 0 where
+  pub within : Within t n i
+  pub configurations-good : ConfigurationsGood t
+  pub good-behind : (j : ℕ) → i < j → j < n → goodNode t j ≡ true
+  pub long-row : length w ≡ 321
+  pub waits : Waiting t w top (i + 1)
+  pub room : top ≤ 64
+
+-- node i is placed, and r programs wait
+pub record Placed (t w w′ : List ℕ) (i r : ℕ) : Type 0 where
+  pub good : goodNode t i ≡ true
+  pub long-row : length w′ ≡ 321
+  pub waits : Waiting t w′ r i
+  pub room : r ≤ 64
+  pub endless : getD w′ 320 0 ≡ cond (endlessLoop (treeAt t i)) i (getD w 320 0)
+
+-- r is 0 where node i isn't good, or would be the 65th to wait
+abbrev pub Places : List ℕ → List ℕ → List ℕ → ℕ → ℕ → Type 0
+Places t w w′ i r = (0 < r → Placed t w w′ i r) × (r ≡ 0 → goodNode t i ≡ true → Row t 65 i)

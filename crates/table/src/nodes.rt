@@ -1,0 +1,324 @@
+// Refusals 5 to 8. One loop from the last node to the first judges each record and weighs the program that stands there. What a
+// program weighs waits in a row until its parent, which comes later, takes it up: 64 places, and the program that begins first on
+// top, so a node finds its parts there. A table that is refused is looked at again from its first node on.
+ghost use mathlib.Core.Path.{_≡_};
+ghost use mathlib.Core.Bool.{cond, not, _&&_};
+ghost use mathlib.Core.List.{List};
+ghost use Prim.Native.Nat.{ℕ, _+_, _≤_, _<_};
+ghost use lib.Dec.{eqb, leb};
+ghost use lib.ListN.{set};
+ghost use Rattle.events.specs.Events.{lowest};
+ghost use Rattle.table.specs.Records.{nodes, configurations, events, kindAt, sizeAt};
+ghost use Rattle.table.specs.Good.{children, argumentLimit, goodNode};
+ghost use Rattle.table.specs.Verdict.{nodesVerdict, preorder, firstSuch, deep};
+ghost use Rattle.table.specs.Inside.{Framed, ConfigurationsGood};
+ghost use Rattle.table.specs.Inside.Weighing.{treeAt, height, Within, OfKind, AllGood, Ready, Places};
+use super::Checked;
+use super::records::argument_at;
+use super::records::kind_at;
+use super::records::second_at;
+use super::records::size_at;
+use super::records::zero_at;
+use super::weights::Weight;
+use super::weights::joined;
+use super::weights::put_weight;
+use super::weights::single;
+use super::weights::weight_at;
+use super::weights::wrapped;
+
+pub fn check_nodes(table: &[u8], n: usize, m: usize, v: usize) -> Checked
+    requires { ⌜ Framed (now table) n m v ⌝ }
+    requires { ⌜ ConfigurationsGood (now table) ⌝ }
+    ensures { λ r. ⌜ r ≡ nodesVerdict (now (table .entry)) ⌝ }
+{
+    if size_at(table, 0) != n {
+        return Checked::BadNode(0);
+    }
+    let mut waiting = [0u32; 321];
+    waiting[320] = n as u32;
+    let mut i = n;
+    let mut top = 0;
+    while i > 0 {
+        i -= 1;
+        top = place(table, n, m, v, i, &mut waiting, top);
+        if top == 0 {
+            return refused(table, n, m, v);
+        }
+    }
+    let x = weight_at(&waiting, 0);
+    if x.height > 64 {
+        return refused(table, n, m, v);
+    }
+    let endless = waiting[320] as usize;
+    if endless < n {
+        return Checked::EndlessLoop(endless);
+    }
+    weighed(x)
+}
+
+// Refusal 8, or none.
+fn weighed(x: Weight) -> Checked
+    ensures { λ r. ⌜ r ≡ cond (leb (x .generations) 4094 && (leb (x .atoms) 4096 && leb (x .nodes) 65535))
+        (Checked.Accepted (x .generations) (x .atoms) (x .nodes)) Checked.TooHeavy ⌝ }
+{
+    if x.generations > 4094 {
+        return Checked::TooHeavy;
+    }
+    if x.atoms > 4096 {
+        return Checked::TooHeavy;
+    }
+    if x.nodes > 65535 {
+        return Checked::TooHeavy;
+    }
+    Checked::Accepted {
+        generations: x.generations as usize,
+        atoms: x.atoms as usize,
+        nodes: x.nodes as usize,
+    }
+}
+
+// Node i takes up its parts and waits. The answer is how many wait now; 0 if the record isn't good, or all places are taken.
+fn place(
+    table: &[u8],
+    n: usize,
+    m: usize,
+    v: usize,
+    i: usize,
+    waiting: &mut [u32; 321],
+    top: usize,
+) -> usize
+    requires { ⌜ Framed (now table) n m v ⌝ }
+    requires { ⌜ Ready (now table) (now waiting) n i top ⌝ }
+    ensures { λ r. ⌜ Places (now (table .entry)) (now (waiting .entry)) (now (waiting .exit)) i r ⌝ }
+{
+    let k = kind_at(table, i);
+    match k {
+        0 => leaf(table, n, i, 0, 1, waiting, top),
+        1 => leaf(table, n, i, 1, 1, waiting, top),
+        2 => leaf(table, n, i, 2, 65536, waiting, top),
+        3 => pair(table, n, i, 3, 1, waiting, top),
+        4 => pair(table, n, i, 4, 1, waiting, top),
+        5 => body(table, n, i, 5, 1, waiting, top),
+        6 => body(table, n, i, 6, 65536, waiting, top),
+        7 => leaf(table, n, i, 7, v, waiting, top),
+        8 => leaf(table, n, i, 8, m, waiting, top),
+        9 => pair(table, n, i, 9, m, waiting, top),
+        10 => pair(table, n, i, 10, m, waiting, top),
+        11 => body(table, n, i, 11, v, waiting, top),
+        12 => body(table, n, i, 12, v, waiting, top),
+        _ => 0,
+    }
+}
+
+// A node of kind k without parts, its argument below the limit.
+fn leaf(
+    table: &[u8],
+    n: usize,
+    i: usize,
+    k: usize,
+    limit: usize,
+    waiting: &mut [u32; 321],
+    top: usize,
+) -> usize
+    requires { ⌜ Ready (now table) (now waiting) n i top ⌝ }
+    requires { ⌜ OfKind (now table) i k limit 0 ⌝ }
+    ensures { λ r. ⌜ Places (now (table .entry)) (now (waiting .entry)) (now (waiting .exit)) i r ⌝ }
+{
+    if good_as(table, n, i, limit, 0) {
+        if top == 64 {
+            return 0;
+        }
+        put_weight(waiting, top, single(k));
+        return top + 1;
+    }
+    0
+}
+
+// With one.
+fn body(
+    table: &[u8],
+    n: usize,
+    i: usize,
+    k: usize,
+    limit: usize,
+    waiting: &mut [u32; 321],
+    top: usize,
+) -> usize
+    requires { ⌜ Ready (now table) (now waiting) n i top ⌝ }
+    requires { ⌜ OfKind (now table) i k limit 1 ⌝ }
+    ensures { λ r. ⌜ Places (now (table .entry)) (now (waiting .entry)) (now (waiting .exit)) i r ⌝ }
+{
+    if good_as(table, n, i, limit, 1) {
+        let at = top - 1;
+        let x = weight_at(waiting, at);
+        keep_endless(waiting, i, k, x.stops);
+        put_weight(waiting, at, wrapped(k, argument_at(table, i), x));
+        return top;
+    }
+    0
+}
+
+// With two.
+fn pair(
+    table: &[u8],
+    n: usize,
+    i: usize,
+    k: usize,
+    limit: usize,
+    waiting: &mut [u32; 321],
+    top: usize,
+) -> usize
+    requires { ⌜ Ready (now table) (now waiting) n i top ⌝ }
+    requires { ⌜ OfKind (now table) i k limit 2 ⌝ }
+    ensures { λ r. ⌜ Places (now (table .entry)) (now (waiting .entry)) (now (waiting .exit)) i r ⌝ }
+{
+    if good_as(table, n, i, limit, 2) {
+        let at = top - 2;
+        let x = weight_at(waiting, at + 1);
+        let y = weight_at(waiting, at);
+        put_weight(waiting, at, joined(k, x, y));
+        return at + 1;
+    }
+    0
+}
+
+// Keeps the lowest Loop whose body doesn't stop: node i, of kind k, if it is one.
+fn keep_endless(waiting: &mut [u32; 321], i: usize, k: usize, stops: u32)
+    requires { ⌜ i < 4096 ⌝ }
+    ensures { λ r. ⌜ now (waiting .exit) ≡
+        cond (eqb k 5 && eqb stops 0) (set (now (waiting .entry)) 320 i) (now (waiting .entry)) ⌝ }
+{
+    if k == 5 {
+        if stops == 0 {
+            waiting[320] = i as u32;
+        }
+    }
+}
+
+// Node i, whose kind has that many children and an argument below the limit, is good.
+fn good_as(table: &[u8], n: usize, i: usize, limit: usize, count: usize) -> bool
+    requires { ⌜ Within (now table) n i ⌝ }
+    requires { ⌜ OfKind (now table) i (kindAt (now table) i) limit count ⌝ }
+    ensures { λ r. ⌜ r ≡ goodNode (now (table .entry)) i ⌝ }
+{
+    if zero_at(table, i) > 0 {
+        return false;
+    }
+    if argument_at(table, i) >= limit {
+        return false;
+    }
+    if count == 0 {
+        return size_at(table, i) == 1;
+    }
+    if n <= i + 1 {
+        return false;
+    }
+    let first = 1 + size_at(table, i + 1);
+    if count == 1 {
+        return size_at(table, i) == first;
+    }
+    let second = i + first;
+    if n <= second {
+        return false;
+    }
+    size_at(table, i) == first + size_at(table, second)
+}
+
+// Why a table is refused that has a record that isn't good, or a node that is too deep.
+fn refused(table: &[u8], n: usize, m: usize, v: usize) -> Checked
+    requires { ⌜ Framed (now table) n m v ⌝ }
+    requires { ⌜ ConfigurationsGood (now table) ⌝ }
+    requires { ⌜ sizeAt (now table) 0 ≡ n ⌝ }
+    requires { ⌜ (AllGood (now table) → 64 < height (treeAt (now table) 0)) ⌝ }
+    ensures { λ r. ⌜ r ≡ nodesVerdict (now (table .entry)) ⌝ }
+{
+    let bad = first_bad(table, n, m, v);
+    if bad < n {
+        return Checked::BadNode(bad);
+    }
+    Checked::TooDeep(first_deep(table, 0, 1))
+}
+
+fn first_bad(table: &[u8], n: usize, m: usize, v: usize) -> usize
+    requires { ⌜ Framed (now table) n m v ⌝ }
+    requires { ⌜ sizeAt (now table) 0 ≡ n ⌝ }
+    ensures { λ r. ⌜ r ≡ lowest (nodes (now (table .entry))) (λ i. not (goodNode (now (table .entry)) i)) ⌝ }
+{
+    let mut i: usize = 0;
+    while i < n {
+        if good_node(table, n, m, v, i) {
+            i += 1;
+        } else {
+            return i;
+        }
+    }
+    n
+}
+
+fn good_node(table: &[u8], n: usize, m: usize, v: usize, i: usize) -> bool
+    requires { ⌜ Framed (now table) n m v ⌝ }
+    requires { ⌜ Within (now table) n i ⌝ }
+    ensures { λ r. ⌜ r ≡ goodNode (now (table .entry)) i ⌝ }
+{
+    let k = kind_at(table, i);
+    if k > 12 {
+        return false;
+    }
+    good_as(table, n, i, limit_of(k, m, v), children_of(k))
+}
+
+fn limit_of(k: usize, m: usize, v: usize) -> usize
+    ensures { λ r. ⌜ ((t : List ℕ) → m ≡ configurations t → v ≡ events t → argumentLimit t k ≡ r) ⌝ }
+{
+    match k {
+        2 => 65536,
+        6 => 65536,
+        7 => v,
+        11 => v,
+        12 => v,
+        8 => m,
+        9 => m,
+        10 => m,
+        _ => 1,
+    }
+}
+
+// The first node deeper than 64 of the program at node i, which stands at depth d; the node behind that program if none is.
+fn first_deep(table: &[u8], i: usize, d: usize) -> usize
+    requires { ⌜ AllGood (now table) ⌝ }
+    requires { ⌜ (i < nodes (now table)) × (d ≤ 65) ⌝ }
+    ensures { λ r. ⌜ r ≡ i + firstSuch deep (preorder d (treeAt (now (table .entry)) i)) ⌝ }
+{
+    if d > 64 {
+        return i;
+    }
+    let count = children_of(kind_at(table, i));
+    if count == 0 {
+        return i + 1;
+    }
+    let found = first_deep(table, i + 1, d + 1);
+    if count == 1 {
+        return found;
+    }
+    let second = second_at(table, i);
+    if found < second {
+        return found;
+    }
+    first_deep(table, second, d + 1)
+}
+
+fn children_of(k: usize) -> usize
+    ensures { λ r. ⌜ children k ≡ r ⌝ }
+{
+    match k {
+        3 => 2,
+        4 => 2,
+        9 => 2,
+        10 => 2,
+        5 => 1,
+        6 => 1,
+        11 => 1,
+        12 => 1,
+        _ => 0,
+    }
+}

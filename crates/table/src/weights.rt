@@ -1,0 +1,171 @@
+// What programs weigh, by what their parts weigh, and the row in which weights wait.
+ghost use mathlib.Core.Path.{_≡_};
+ghost use mathlib.Core.Bool.{cond};
+ghost use Prim.Native.Nat.{_≤_, _<_, min, max};
+ghost use lib.Dec.{eqb};
+ghost use Rattle.junior.specs.Program.{Program, kind};
+ghost use Rattle.junior.specs.Figures.{times};
+ghost use Rattle.table.specs.Inside.Weighing.{Leaf, One, Two, Weighs, Small, counted, repeatedly, together, weightAt, put};
+
+// What a program weighs: its figures, exact below 65,536; its height; and 1 if it stops.
+pub struct Weight {
+    pub generations: u32,
+    pub atoms: u32,
+    pub nodes: u32,
+    pub height: u32,
+    pub stops: u32,
+}
+
+fn larger(x: u32, y: u32) -> u32
+    ensures { λ r. ⌜ r ≡ max x y ⌝ }
+{
+    if x < y {
+        return y;
+    }
+    x
+}
+
+fn capped(x: u32) -> u32
+    ensures { λ r. ⌜ r ≡ min x 65536 ⌝ }
+{
+    if x < 65536 {
+        return x;
+    }
+    65536
+}
+
+fn one_if(kind: usize, wanted: usize) -> u32
+    ensures { λ r. ⌜ r ≡ cond (eqb kind wanted) 1 0 ⌝ }
+{
+    if kind == wanted {
+        return 1;
+    }
+    0
+}
+
+// What a program of kind k without parts weighs.
+pub fn single(k: usize) -> Weight
+    ensures { λ r. ⌜ ((p : Program) → Leaf p → k ≡ kind p → Weighs r p) ⌝ }
+{
+    Weight {
+        generations: one_if(k, 7),
+        atoms: one_if(k, 2),
+        nodes: 1,
+        height: 1,
+        stops: one_if(k, 1),
+    }
+}
+
+// How often a Repeat's body counts.
+fn times_of(count: usize, stops: u32) -> u32
+    requires { ⌜ count < 65536 ⌝ }
+    ensures { λ r. ⌜ (r ≡ times count (eqb stops 1)) × (r < 65536) ⌝ }
+{
+    if stops == 1 {
+        if count > 2 {
+            return 2;
+        }
+        return count as u32;
+    }
+    count as u32
+}
+
+fn count_times(c: u32, x: u32) -> u32
+    requires { ⌜ c < 65536 ⌝ }
+    ensures { λ r. ⌜ r ≡ counted c x ⌝ }
+{
+    capped(c * capped(x))
+}
+
+fn repeated(c: u32, x: Weight, stops: u32) -> Weight
+    requires { ⌜ (c < 65536) × (x .height ≤ 4096) ⌝ }
+    ensures { λ r. ⌜ r ≡ repeatedly c x stops ⌝ }
+{
+    Weight {
+        generations: count_times(c, x.generations),
+        atoms: count_times(c, x.atoms),
+        nodes: count_times(c, x.nodes) + 1,
+        height: x.height + 1,
+        stops,
+    }
+}
+
+// What a program of kind k weighs whose part weighs x.
+pub fn wrapped(k: usize, count: usize, x: Weight) -> Weight
+    requires { ⌜ (count < 65536) × Small x ⌝ }
+    ensures { λ r. ⌜ ((p q : Program) → One count p q → k ≡ kind p → Weighs x q → Weighs r p) ⌝ }
+{
+    if k == 5 {
+        return repeated(2, x, 1);
+    }
+    if k == 6 {
+        if count == 0 {
+            return repeated(0, x, 0);
+        }
+        return repeated(times_of(count, x.stops), x, x.stops);
+    }
+    Weight {
+        generations: x.generations,
+        atoms: x.atoms,
+        nodes: x.nodes + 1,
+        height: x.height + 1,
+        stops: x.stops,
+    }
+}
+
+fn sum(x: Weight, y: Weight, stops: u32) -> Weight
+    requires { ⌜ Small x × Small y ⌝ }
+    ensures { λ r. ⌜ r ≡ together x y stops ⌝ }
+{
+    Weight {
+        generations: x.generations + y.generations,
+        atoms: x.atoms + y.atoms,
+        nodes: x.nodes + y.nodes + 1,
+        height: larger(x.height, y.height) + 1,
+        stops,
+    }
+}
+
+// What a program of kind k weighs whose parts weigh x and y.
+pub fn joined(k: usize, x: Weight, y: Weight) -> Weight
+    requires { ⌜ Small x × Small y ⌝ }
+    ensures { λ r. ⌜ ((p q s : Program) → Two p q s → k ≡ kind p → Weighs x q → Weighs y s → Weighs r p) ⌝ }
+{
+    if k == 9 {
+        return Weight {
+            generations: larger(x.generations, y.generations),
+            atoms: larger(x.atoms, y.atoms),
+            nodes: larger(x.nodes, y.nodes) + 1,
+            height: larger(x.height, y.height) + 1,
+            stops: x.stops & y.stops,
+        };
+    }
+    if k == 10 {
+        return sum(x, y, x.stops & y.stops);
+    }
+    sum(x, y, x.stops | y.stops)
+}
+
+pub fn weight_at(waiting: &[u32; 321], at: usize) -> Weight
+    requires { ⌜ at < 64 ⌝ }
+    ensures { λ r. ⌜ r ≡ weightAt (now (waiting .entry)) at ⌝ }
+{
+    Weight {
+        generations: waiting[at],
+        atoms: waiting[64 + at],
+        nodes: waiting[128 + at],
+        height: waiting[192 + at],
+        stops: waiting[256 + at],
+    }
+}
+
+pub fn put_weight(waiting: &mut [u32; 321], at: usize, x: Weight)
+    requires { ⌜ at < 64 ⌝ }
+    ensures { λ r. ⌜ now (waiting .exit) ≡ put (now (waiting .entry)) at x ⌝ }
+{
+    waiting[at] = x.generations;
+    waiting[64 + at] = x.atoms;
+    waiting[128 + at] = x.nodes;
+    waiting[192 + at] = x.height;
+    waiting[256 + at] = x.stops;
+}
