@@ -1,0 +1,151 @@
+-- A Loop, rules 12, 4 and 5. Rule 13 never comes about: the body of a Loop stops, so begun it does not end in the same instant.
+use Prim.Native.Nat.{ℕ, _+_, _-_, _≤_, _<_}
+use mathlib.Core.Bool.{true}
+use mathlib.Core.Path.{_≡_, refl, ap, sym, _∙_}
+use mathlib.Core.Logic.{_≢_}
+use mathlib.Core.List.{List, _∷_, append-nil}
+use native.Mathlib.Omega.{arith}
+use lib.ListN.{length, getD, drop, set}
+use borrow.Rule.Slice.PartMut.{midOf, putMid}
+use Rattle.junior.specs.declared.Flag.{Flag}
+use Rattle.junior.specs.declared.Flag.the-variants.{TERM}
+use Rattle.junior.specs.Program.{Program, Loop, kind}
+use Rattle.junior.specs.Term.{Term, loop0, loop1, prog, fresh}
+use Rattle.junior.specs.Trace.{Place, first}
+use Rattle.junior.specs.Rules.{r12, r4-loop, r5-loop}
+use Rattle.junior.specs.Figures.{LoopsStop, stops, per}
+use Rattle.junior.proofs.Kept.{prog-fresh}
+use Rattle.junior.proofs.Held.{held-fresh, begun, ends-unheld}
+use Rattle.junior.proofs.Going.{Going, rest-going, fresh-at-rest}
+use Rattle.junior.proofs.Figures.{pot, pot-fresh}
+use Rattle.runner.specs.StateBytes.{below}
+use Rattle.runner.specs.Running.{Ready, Ran, Live, Runs, Any, Kind, KindPhase}
+use Rattle.runner.proofs.Parts.{fresh-zeros}
+use Rattle.runner.proofs.Shape.{Shape, is-done, is-loop0, is-loop1, shape-by}
+use Rattle.runner.proofs.Frames.{loop-body}
+use Rattle.runner.proofs.Children.{at-node, falling, only-cut, first-at, phase-is}
+use Rattle.runner.proofs.Only.{only-asks, only-ran}
+use Rattle.runner.proofs.Done.{ready-as, room-after, few, ran-flag, ran-zeros, ran-long, ran-then}
+use Rattle.runner.proofs.Done.{back-kept, back-long, back-in, own-stays, ran-kept, ran-phase}
+
+-- a Loop that is to begin its body
+pub data Begins : Term → Type 0 where
+  begins : (p : Program) → Begins (loop0 p)
+
+begins-of : {t : Term} → Shape t 5 0 → Begins t
+begins-of (is-loop0 p) = begins p
+
+pub begins-by : (t : Term) → KindPhase 5 0 t → Begins t
+begins-by t w = begins-of (shape-by t (w .0) (w .1))
+
+-- a fresh body that stops leaves nothing due after it
+pot-begun : (p : Program) → stops p ≡ true → pot (per 2) (loop1 (fresh p)) ≤ pot (per 2) (loop0 p)
+unfolding pot
+pot-begun p e =
+    simp (prog-fresh p, held-fresh p, e) (omega (arith, pot-fresh (per 2) p))
+
+module _ {table : List ℕ} {i : ℕ} {state words row tally : List ℕ} where
+  -- the same bytes but for the phase: a Loop in its fresh body
+  in-body : (p : Program) → Ready 1 table i state words row tally (loop0 p) → Ready 1 table i state words row tally (loop1 (fresh p))
+  unfolding prog below Going LoopsStop
+  in-body p h =
+      ready-as h (ap Loop (prog-fresh p)) refl refl refl
+      (h .bytes ∙ ap (λ l. 0 ∷ 0 ∷ 0 ∷ l) (sym (fresh-zeros p)))
+      (rest-going _ (fresh p) (fresh-at-rest p))
+      (omega (arith, h .room, pot-begun p (h .placed .loops .0)))
+
+  pub begin-asks : {t : Term} → Begins t → Ready 1 table i state words row tally t → {k : ℕ} (rank : ℕ) → falling table i rank ≡ k
+      → (falling table (i + 1) 69999 < k) × Live 0 Any table (i + 1) (midOf 4 (length state - 4) state) words row tally
+  unfolding Going
+  begin-asks (begins p) h rank falls =
+      let b = in-body p h in only-asks loop-body b (omega arith) (b .wide) (b .going) rank falls
+
+  module _ {s words′ row′ tally′ : List ℕ} {α : Flag}
+      (run : Runs 0 Any table (i + 1) (midOf 4 (length state - 4) state) words row tally s words′ row′ tally′ α) where
+    body-ran : (p : Program) → Ready 1 table i state words row tally (loop0 p) → (P : Place) → P .node ≡ i
+        → Ran (first P) (fresh p) words row tally s words′ row′ tally′ α
+    unfolding Going
+    body-ran p h P at =
+        let b = in-body p h in only-ran loop-body b (omega arith) (b .wide) (b .going) run (first P) (first-at at)
+
+    -- it doesn't end
+    pub goes-on : {t : Term} → Begins t → Ready 1 table i state words row tally t → α ≢ TERM
+    unfolding prog LoopsStop
+    goes-on (begins p) h = begun p (body-ran p h (at-node i) refl .rewrites) (h .placed .loops .0)
+
+    pub begin-writes : {t : Term} → Begins t → Ready 1 table i state words row tally t → 0 < length (putMid 4 (length state - 4) state s)
+    begin-writes (begins p) h =
+        let b = in-body p h in
+        back-in loop-body b (only-cut b loop-body) s (omega arith) (ran-long (body-ran p h (at-node i) refl)) 0 (omega arith)
+
+    pub begin-ran : {t : Term} → Begins t → Ready 1 table i state words row tally t → (P : Place) → P .node ≡ i
+        → Ran P t words row tally (set (putMid 4 (length state - 4) state s) 0 1) words′ row′ tally′ α
+    begin-ran (begins p) h P at =
+        let b = in-body p h in
+        let g = body-ran p h P at in
+        let w = goes-on (begins p) h in
+        ran-phase loop-body b (only-cut b loop-body) g (omega arith) refl loop-body (own-stays α w) (r12 (g .rewrites) w) refl
+
+-- a Loop in the rest of its body
+pub data Loops : Term → Type 0 where
+  loops : (x : Term) → Loops (loop1 x)
+
+loops-of : {t : Term} {ph : ℕ} → Shape t 5 ph → ph ≢ 3 → ph ≢ 0 → Loops t
+loops-of (is-loop1 x) a b = loops x
+loops-of (is-loop0 p) a b = absurd (b refl)
+loops-of (is-done p e) a b = absurd (a refl)
+
+module _ {table : List ℕ} {i : ℕ} {state words row tally : List ℕ} where
+  pub loops-by : {t : Term} → Kind 5 t → Ready 0 table i state words row tally t → getD state 0 0 ≢ 0 → Loops t
+  loops-by {t} w h n = loops-of (shape-by t (w .0) refl) (w .1) (λ e. n (phase-is h ∙ e))
+
+  pub loop-asks : {t : Term} → Loops t → Ready 0 table i state words row tally t → {k : ℕ} (rank : ℕ) → falling table i rank ≡ k
+      → (falling table (i + 1) 69999 < k) × Live 0 Any table (i + 1) (midOf 4 (length state - 4) state) words row tally
+  unfolding Going
+  loop-asks (loops x) h rank falls = only-asks loop-body h (omega arith) (h .wide) (h .going) rank falls
+
+  module _ {s words′ row′ tally′ : List ℕ} {α : Flag}
+      (run : Runs 0 Any table (i + 1) (midOf 4 (length state - 4) state) words row tally s words′ row′ tally′ α) where
+    rest-ran : (x : Term) → Ready 0 table i state words row tally (loop1 x) → (P : Place) → P .node ≡ i
+        → Ran (first P) x words row tally s words′ row′ tally′ α
+    unfolding Going
+    rest-ran x h P at = only-ran loop-body h (omega arith) (h .wide) (h .going) run (first P) (first-at at)
+
+    -- it waits
+    pub loop-waits : {t : Term} → Loops t → Ready 0 table i state words row tally t → α ≢ TERM → (P : Place) → P .node ≡ i
+        → Ran P t words row tally (putMid 4 (length state - 4) state s) words′ row′ tally′ α
+    loop-waits (loops x) h w P at =
+        let g = rest-ran x h P at in
+        ran-kept loop-body h (only-cut h loop-body) g refl (own-stays α w) (r5-loop (g .rewrites) w) refl
+
+    -- it has ended: the Loop begins anew
+    module _ (words-long : length words′ ≡ length words) (tally-long : length tally′ ≡ length tally) where
+      anew : (x : Term) → Ready 0 table i state words row tally (loop1 x) → α ≡ TERM
+          → Ready 1 table i (putMid 4 (length state - 4) state s) words′ row′ tally′ (loop0 (prog x))
+      unfolding Going prog below pot LoopsStop
+      anew x h z =
+          let u = only-cut h loop-body in
+          let g = ran-flag z (rest-ran x h (at-node i) refl) in
+          let r = few g (h .placed .loops .1) in
+          ready-as h refl (back-long loop-body h u s (omega arith) (ran-long g)) words-long tally-long
+          (ap (drop 1) (back-kept loop-body h u s refl)
+          ∙ ap (λ l. 0 ∷ 0 ∷ 0 ∷ l) (append-nil s ∙ ran-zeros g))
+          tt
+          (room-after h g (loop0 (prog x)) (simp (ends-unheld (g .rewrites)) (omega arith)))
+
+      pub anew-asks : {t : Term} → Loops t → Ready 0 table i state words row tally t → α ≡ TERM
+          → Live 1 (KindPhase 5 0) table i (putMid 4 (length state - 4) state s) words′ row′ tally′
+      unfolding prog kind
+      anew-asks (loops x) h z = (loop0 (prog x), (refl, refl), anew x h z)
+
+      pub loop-again : {t : Term} → Loops t → Ready 0 table i state words row tally t → α ≡ TERM
+          → {state″ words″ row″ tally″ : List ℕ} {β : Flag}
+          → Runs 1 (KindPhase 5 0) table i (putMid 4 (length state - 4) state s) words′ row′ tally′ state″ words″ row″ tally″ β
+          → (P : Place)
+          → P .node ≡ i
+          → Ran P t words row tally state″ words″ row″ tally″ β
+      unfolding prog kind
+      loop-again (loops x) h z then P at =
+          let g = ran-flag z (rest-ran x h P at) in
+          let k = then (loop0 (prog x)) (refl, refl) (anew x h z) P at in
+          ran-then h g k (r4-loop (g .rewrites) (k .rewrites))

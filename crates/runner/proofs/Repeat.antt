@@ -1,0 +1,216 @@
+-- A Repeat, rules 14 and 15 when it begins, 4 and 5 in the rest of a run of its body, k runs being still to begin.
+use Prim.Native.Nat.{ℕ, zero, suc, _+_, _-_, _/_, _%_, _≤_, _<_}
+use mathlib.Core.Path.{_≡_, refl, ap, sym, subst, _∙_}
+use mathlib.Core.Logic.{_≢_}
+use mathlib.Core.List.{List, [], _++_, append-nil}
+use native.Mathlib.Omega.{arith}
+use native.Mathlib.Nat.{div-add-mod'}
+use lib.ListN.{length, getD, drop, set}
+use borrow.Rule.Slice.PartMut.{midOf, putMid}
+use Rattle.junior.specs.declared.Flag.{Flag}
+use Rattle.junior.specs.declared.Flag.the-variants.{TERM}
+use Rattle.junior.specs.Program.{Program, Repeat, size, kind}
+use Rattle.junior.specs.Term.{Term, repeat0, repeat1, prog, fresh}
+use Rattle.junior.specs.Trace.{Place, first, collect}
+use Rattle.junior.specs.Rules.{again, r1-on, r14, r15, r4-repeat, r5-repeat}
+use Rattle.junior.specs.Figures.{LoopsStop, figure, per}
+use Rattle.junior.specs.AtRest.{AtRest}
+use Rattle.junior.proofs.Kept.{prog-fresh}
+use Rattle.junior.proofs.Held.{ends-unheld}
+use Rattle.junior.proofs.Going.{Going, rest-going, fresh-at-rest}
+use Rattle.junior.proofs.Figures.{pot, pot-at-rest, pot-again}
+use Rattle.table.specs.Records.{word, argumentAt}
+use Rattle.table.specs.Spells.{Spells}
+use Rattle.runner.specs.StateBytes.{head, below, zeros}
+use Rattle.runner.specs.Running.{Ready, Ran, Live, Runs, Any, Kind, Times}
+use Rattle.runner.proofs.Parts.{fresh-zeros, blank-below, own-of}
+use Rattle.runner.proofs.Shape.{Shape, is-done, is-repeat0, is-repeat1, shape-by}
+use Rattle.runner.proofs.Frames.{repeat-body}
+use Rattle.runner.proofs.LoadedNode.{repeat-below}
+use Rattle.runner.proofs.Children.{at-node, falling, byte-is, only-cut, put-back, first-at, phase-is, unseen}
+use Rattle.runner.proofs.Only.{only-asks, only-ran}
+use Rattle.runner.proofs.Done.{ready-as, room-after, few, ran-flag, ran-zeros, ran-long, ran-alone, ran-by}
+use Rattle.runner.proofs.Done.{ran-then, ran-around}
+use Rattle.runner.proofs.Done.{back-long, back-in, own-stays}
+
+-- one not begun
+pub data Unbegun : Term → Type 0 where
+  unbegun : (n : ℕ) (p : Program) → Unbegun (repeat0 n p)
+
+unbegun-of : {t : Term} → Shape t 6 0 → Unbegun t
+unbegun-of (is-repeat0 n p) = unbegun n p
+
+-- once begun it can run no more than before
+pot-begun : (n : ℕ) (p : Program) → pot (per 2) (repeat1 (suc n) n (fresh p)) ≤ pot (per 2) (repeat0 (suc n) p)
+unfolding pot figure prog AtRest
+pot-begun n p =
+    let t = repeat1 (suc n) n (fresh p) in
+    let l = pot-at-rest (per 2) t (omega arith, fresh-at-rest p) in
+    subst (λ (q : Program). pot (per 2) t ≤ figure (per 2) (Repeat (suc n) q)) (prog-fresh p) l
+
+module _ {table : List ℕ} {i : ℕ} {state words row tally : List ℕ} where
+  pub unbegun-by : {t : Term} → Kind 6 t → Ready 0 table i state words row tally t → getD state 0 0 ≡ 0 → Unbegun t
+  unbegun-by {t} w h z = unbegun-of (shape-by t (w .0) (sym (phase-is h) ∙ z))
+
+  -- the first of its runs: the same bytes but for the node's own
+  first-run : (n : ℕ) (p : Program) → Ready 0 table i state words row tally (repeat0 (suc n) p)
+      → Ready 4 table i state words row tally (repeat1 (suc n) n (fresh p))
+  unfolding prog below Going
+  first-run n p h =
+      ready-as h (ap (Repeat (suc n)) (prog-fresh p)) refl refl refl (ap (drop 4) (h .bytes) ∙ sym (fresh-zeros p))
+      (omega arith, rest-going _ (fresh p) (fresh-at-rest p))
+      (omega (arith, h .room, pot-begun n p))
+
+  module _ {a : ℕ} (names : a ≡ argumentAt table i) where
+    pub repeat-ends : {t : Term} → Unbegun t → Ready 0 table i state words row tally t → a ≡ 0 → (P : Place)
+        → Ran P t words row tally state words row tally TERM
+    unfolding prog size Spells below collect
+    repeat-ends (unbegun zero p) h z P = ran-alone r14 refl (h .bytes ∙ blank-below (size p))
+    repeat-ends (unbegun (suc n) p) h z P = absurd (omega (arith, h .placed .spelled .1))
+
+    -- what run_times asks, one run less being then to begin, and that it is the Repeat's own run
+    pub repeat-asks : {t : Term} → Unbegun t → Ready 0 table i state words row tally t → a ≢ 0 → a < 65536
+        → {k : ℕ} → falling table i 69998 ≡ k
+        → (falling table i (a - 1 + 1) < k) × ((Live 4 (Times (a - 1)) table i state words row tally) × (getD state 1 0 ≡ 0))
+    unfolding prog kind Spells
+    repeat-asks (unbegun zero p) h n l falls = absurd (n (names ∙ h .placed .spelled .1))
+    repeat-asks (unbegun (suc n) p) h _ l falls =
+        (omega arith, ((repeat1 (suc n) n (fresh p), (refl, refl, omega (arith, h .placed .spelled .1)), first-run n p h), byte-is h 1 (omega arith)))
+
+    pub repeat-ran : {t : Term} → Unbegun t → Ready 0 table i state words row tally t → a ≢ 0
+        → {state′ words′ row′ tally′ : List ℕ} {α : Flag}
+        → Runs 4 (Times (a - 1)) table i state words row tally state′ words′ row′ tally′ α
+        → (P : Place)
+        → P .node ≡ i
+        → Ran P t words row tally state′ words′ row′ tally′ α
+    unfolding prog kind Spells
+    repeat-ran (unbegun zero p) h n run P at = absurd (n (names ∙ h .placed .spelled .1))
+    repeat-ran (unbegun (suc n) p) h _ run P at =
+        let k = run (repeat1 (suc n) n (fresh p)) (refl, refl, omega (arith, h .placed .spelled .1)) (first-run n p h) P at in
+        ran-by k (r15 (k .rewrites)) refl
+
+-- one in a run of its body, k runs being still to begin
+pub data InRun : ℕ → Term → Type 0 where
+  in-run : (n k : ℕ) (x : Term) → InRun k (repeat1 n k x)
+
+in-run-of : {t : Term} {k : ℕ} → Shape t 6 1 → head t .count ≡ k → InRun k t
+in-run-of (is-repeat1 n j x) e = subst (λ (k : ℕ). InRun k (repeat1 n j x)) e (in-run n j x)
+
+pub in-run-by : (t : Term) {k : ℕ} → Times k t → InRun k t
+in-run-by t w = in-run-of (shape-by t (w .0) (w .1)) (w .2)
+
+in-phase-1 : {t : Term} {ph : ℕ} → Shape t 6 ph → ph ≢ 3 → ph ≢ 0 → ph ≡ 1
+in-phase-1 (is-repeat1 n j x) a b = refl
+in-phase-1 (is-repeat0 n p) a b = absurd (b refl)
+in-phase-1 (is-done p e) a b = absurd (a refl)
+
+no-flags : {t : Term} {k : ℕ} → InRun k t → head t .flags ≡ 0
+no-flags (in-run n k x) = refl
+
+module _ {table : List ℕ} {i : ℕ} {state words row tally : List ℕ} where
+  -- the rest of a run, and then what is still due
+  run-then : {n k : ℕ} {x : Term} {P : Place} → Ready 4 table i state words row tally (repeat1 n k x)
+      → {s words′ row′ tally′ : List ℕ} → Ran (first P) x words row tally s words′ row′ tally′ TERM
+      → {state″ words″ row″ tally″ : List ℕ} {α : Flag} → Ran P (again n k (prog x)) words′ row′ tally′ state″ words″ row″ tally″ α
+      → Ran P (repeat1 n k x) words row tally state″ words″ row″ tally″ α
+  run-then h g r = ran-then h g r (r4-repeat (g .rewrites) (r .rewrites))
+
+  module _ {t : Term} (w : Kind 6 t) (h : Ready 0 table i state words row tally t) (begun : getD state 0 0 ≢ 0) {k : ℕ} (is : k ≡ word state 2) where
+    -- the count is what the bytes say
+    pub counts : Times k t
+    counts = (
+      w .0,
+      in-phase-1 (shape-by t (w .0) refl) (w .1) (λ e. begun (phase-is h ∙ e)),
+      sym (is ∙ rw (byte-is h 2 (omega arith), byte-is h 3 (omega arith)) (div-add-mod' (head t .count) 256)),
+    )
+
+    pub counts-asks : k < 65536 → {m : ℕ} → falling table i 69998 ≡ m
+        → (falling table i (k + 1) < m) × ((Live 4 (Times k) table i state words row tally) × (getD state 1 0 ≡ 0))
+    counts-asks l falls = (omega arith, ((t, counts, unseen h 4), byte-is h 1 (omega arith) ∙ no-flags (in-run-by t counts)))
+
+  pub times-asks : {t : Term} {k : ℕ} → InRun k t → Ready 4 table i state words row tally t → {m : ℕ} → falling table i (k + 1) ≡ m
+      → (falling table (i + 1) 69999 < m) × Live 0 Any table (i + 1) (midOf 4 (length state - 4) state) words row tally
+  unfolding Going
+  times-asks (in-run n k x) h falls = only-asks (repeat-body n k) h (omega arith) (h .wide) (h .going .1) (k + 1) falls
+
+  pub times-below : {t : Term} {k : ℕ} → InRun k t → Ready 4 table i state words row tally t → k < 65536
+  unfolding Going prog
+  times-below (in-run n k x) h = omega (arith, h .going .0, repeat-below (h .placed))
+
+  module _ {s words′ row′ tally′ : List ℕ} {α : Flag}
+      (run : Runs 0 Any table (i + 1) (midOf 4 (length state - 4) state) words row tally s words′ row′ tally′ α) where
+    rest-ran : (n k : ℕ) (x : Term) → Ready 4 table i state words row tally (repeat1 n k x) → (P : Place) → P .node ≡ i
+        → Ran (first P) x words row tally s words′ row′ tally′ α
+    unfolding Going
+    rest-ran n k x h P at = only-ran (repeat-body n k) h (omega arith) (h .wide) (h .going .1) run (first P) (first-at at)
+
+    pub times-writes : {t : Term} {k : ℕ} → InRun k t → Ready 4 table i state words row tally t
+        → 4 ≤ length (putMid 4 (length state - 4) state s)
+    times-writes (in-run n k x) h =
+        let o = repeat-body n k in
+        back-in o h (only-cut h o) s (omega arith) (ran-long (rest-ran n k x h (at-node i) refl)) 3 (omega arith)
+
+    back : (n k : ℕ) (x : Term) → Ready 4 table i state words row tally (repeat1 n k x)
+        → putMid 4 (length state - 4) state s ≡ own-of state (s ++ [])
+    back n k x h = put-back (repeat-body n k) h (only-cut h (repeat-body n k)) (omega arith) s
+
+    -- it waits
+    pub times-waits : {t : Term} {k : ℕ} → InRun k t → Ready 4 table i state words row tally t → getD state 1 0 ≡ 0 → α ≢ TERM
+        → {state′ : List ℕ} → state′ ≡ set (set (set (putMid 4 (length state - 4) state s) 0 1) 2 (k / 256)) 3 (k % 256)
+        → (P : Place)
+        → P .node ≡ i
+        → Ran P t words row tally state′ words′ row′ tally′ α
+    times-waits (in-run n k x) h z w e P at =
+        let g = rest-ran n k x h P at in
+        ran-around (repeat-body n k) g (r5-repeat (g .rewrites) w) refl
+        (e ∙ rw (back n k x h, z, own-stays α {o = record { phase = 1; flags = 0; count = k }} w))
+
+    -- it has ended, and was the last
+    pub times-ends : {t : Term} {k : ℕ} → InRun k t → Ready 4 table i state words row tally t → getD state 1 0 ≡ 0 → α ≡ TERM → k ≡ 0
+        → {state′ : List ℕ} → state′ ≡ set (set (set (putMid 4 (length state - 4) state s) 0 0) 2 0) 3 0
+        → (P : Place)
+        → P .node ≡ i
+        → Ran P t words row tally state′ words′ row′ tally′ TERM
+    unfolding prog size collect
+    times-ends (in-run n zero x) h z a l {state′} e P at =
+        let g = ran-flag a (rest-ran n zero x h P at) in
+        let b : state′ ≡ zeros (Repeat n (prog x)) = e ∙ rw (back n zero x h, z, append-nil s, ran-zeros g) (blank-below (size (prog x))) in
+        run-then h g (ran-alone r1-on refl b)
+    times-ends (in-run n (suc k) x) h z a l e P at = absurd (omega arith)
+
+    -- it has ended, and the next begins
+    module _ (words-long : length words′ ≡ length words) (tally-long : length tally′ ≡ length tally) where
+      next : (n k : ℕ) (x : Term) → Ready 4 table i state words row tally (repeat1 n (suc k) x) → α ≡ TERM
+          → Ready 4 table i (putMid 4 (length state - 4) state s) words′ row′ tally′ (repeat1 n k (fresh (prog x)))
+      unfolding Going prog below pot LoopsStop
+      next n k x h z =
+          let o = repeat-body n (suc k) in
+          let g = ran-flag z (rest-ran n (suc k) x h (at-node i) refl) in
+          let r = few g (h .placed .loops) in
+          let f = pot-again (per 2) n (suc k) (prog x) in
+          ready-as h (ap (Repeat n) (prog-fresh (prog x))) (back-long o h (only-cut h o) s (omega arith) (ran-long g)) words-long tally-long
+          (ap (drop 4) (back n (suc k) x h) ∙ (append-nil s ∙ (ran-zeros g ∙ sym (fresh-zeros (prog x)))))
+          (omega (arith, h .going .0), rest-going _ (fresh (prog x)) (fresh-at-rest (prog x)))
+          (room-after h g (repeat1 n k (fresh (prog x))) (simp (ends-unheld (g .rewrites)) (omega arith)))
+
+      pub next-asks : {t : Term} {k : ℕ} → InRun k t → Ready 4 table i state words row tally t → getD state 1 0 ≡ 0 → α ≡ TERM → k ≢ 0
+          → {m : ℕ} → falling table i (k + 1) ≡ m
+          → (falling table i (k - 1 + 1) < m)
+          × ((Live 4 (Times (k - 1)) table i (putMid 4 (length state - 4) state s) words′ row′ tally′)
+          × (getD (putMid 4 (length state - 4) state s) 1 0 ≡ 0))
+      unfolding prog kind
+      next-asks (in-run n zero x) h z a l falls = absurd (l refl)
+      next-asks (in-run n (suc k) x) h z a l falls =
+          (omega arith, ((repeat1 n k (fresh (prog x)), (refl, refl, omega arith), next n k x h a), ap (λ y. getD y 1 0) (back n (suc k) x h) ∙ z))
+
+      pub times-again : {t : Term} {k : ℕ} → InRun k t → Ready 4 table i state words row tally t → α ≡ TERM → k ≢ 0
+          → {state″ words″ row″ tally″ : List ℕ} {β : Flag}
+          → Runs 4 (Times (k - 1)) table i (putMid 4 (length state - 4) state s) words′ row′ tally′ state″ words″ row″ tally″ β
+          → (P : Place)
+          → P .node ≡ i
+          → Ran P t words row tally state″ words″ row″ tally″ β
+      unfolding prog kind
+      times-again (in-run n zero x) h a l then P at = absurd (l refl)
+      times-again (in-run n (suc k) x) h a l then P at =
+          let g = ran-flag a (rest-ran n (suc k) x h P at) in
+          run-then h g (then (repeat1 n k (fresh (prog x))) (refl, refl, omega arith) (next n k x h a) P at)

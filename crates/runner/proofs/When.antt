@@ -1,0 +1,209 @@
+-- A When: testing, rules 17 to 21, and in its then branch.
+use Prim.Native.Nat.{ℕ, _+_, _-_, _*_, _≤_, _<_}
+use mathlib.Core.Bool.{Bool, true, false}
+use mathlib.Core.Path.{_≡_, refl, ap, sym, _∙_}
+use mathlib.Core.Logic.{_≢_}
+use mathlib.Core.List.{List, [], _∷_, _++_}
+use native.Mathlib.Omega.{arith}
+use lib.Dec.{ltb}
+use lib.ListN.{length, getD, drop, set}
+use borrow.Rule.Slice.PartMut.{midOf, putMid}
+use Rattle.junior.specs.declared.Flag.{Flag}
+use Rattle.junior.specs.declared.Flag.the-variants.{SUSP, STOP, TERM}
+use Rattle.junior.specs.declared.Verdict.{Verdict}
+use Rattle.junior.specs.declared.Verdict.the-variants.{Sat, Unsat, Unknown}
+use Rattle.junior.specs.Configuration.{Config, Env, sat, unsat, test}
+use Rattle.junior.specs.Program.{Program, When, size, kind}
+use Rattle.junior.specs.Term.{Term, when0, when1, when2, prog, fresh}
+use Rattle.junior.specs.Trace.{Place, Act, decided, first, collect}
+use Rattle.junior.specs.Rules.{Result, answers, after, Rewrites, r17, r17-on, r18, r19, r19-on, r20, r21}
+use Rattle.junior.specs.Figures.{figure, per}
+use Rattle.junior.proofs.Kept.{prog-fresh}
+use Rattle.junior.proofs.Going.{Going, rest-going, fresh-at-rest}
+use Rattle.junior.proofs.Figures.{pot, pot-fresh}
+use Rattle.table.specs.Records.{sizeAt}
+use Rattle.table.specs.Spells.{Spells}
+use Rattle.runner.specs.StateBytes.{head, in-phase, zeros, below, stateBytes}
+use Rattle.runner.specs.Running.{Placed, Ready, Ran, Live, Runs, Any, Kind, Phase, KindPhase, phaseAfter, envOf}
+use Rattle.runner.specs.Running.{HasTest, TestRead}
+use Rattle.runner.proofs.Parts.{fresh-zeros}
+use Rattle.runner.proofs.Shape.{Shape, is-done, is-when0, is-when1, is-when2, shape-by}
+use Rattle.runner.proofs.Frames.{when-first}
+use Rattle.runner.proofs.Children.{at-node, falling, first-cut, asks, child-ran, next-index, first-at, phase-is}
+use Rattle.runner.proofs.Children.{next-in-table, till-in, byte-is, own-and-below}
+use Rattle.runner.proofs.Done.{ready-as, ran-alone, ran-by, ran-long, back-in, phase-left, ran-phase}
+use Rattle.runner.proofs.LoadedNode.{when-test}
+
+-- a node in its then branch
+pub data Then : Term → Type 0 where
+  in-then : (c : Config) (x : Term) (q : Program) → Then (when1 c x q)
+
+then-of : {t : Term} → Shape t 9 1 → Then t
+then-of (is-when1 c x q) = in-then c x q
+
+pub then-by : (t : Term) → KindPhase 9 1 t → Then t
+then-by t w = then-of (shape-by t (w .0) (w .1))
+
+pub then-reads : {table : List ℕ} {i : ℕ} {state words row tally : List ℕ} {t : Term} → Then t
+    → Ready 1 table i state words row tally t
+    → 6 * (i + 1) + 5 < length table
+then-reads (in-then c x q) h = next-in-table (when-first c q) h
+
+module _ {table : List ℕ} {i : ℕ} {state words row tally : List ℕ} {n : ℕ} (m : n ≡ sizeAt table (i + 1)) where
+  pub then-fits : {t : Term} → Then t → Ready 1 table i state words row tally t → 4 + 4 * n ≤ length state
+  then-fits (in-then c x q) h = till-in (when-first c q) h (first-cut h (when-first c q) m)
+
+  pub then-asks : {t : Term} → Then t → Ready 1 table i state words row tally t
+      → {k : ℕ} (rank : ℕ) → falling table i rank ≡ k
+      → (falling table (i + 1) 69999 < k) × Live 0 Any table (i + 1) (midOf 4 (4 + 4 * n - 4) state) words row tally
+  unfolding Going
+  then-asks (in-then c x q) h rank falls =
+      asks (when-first c q) h (first-cut h (when-first c q) m) (omega arith) rank falls (next-index i) (h .wide) (h .going)
+
+  module _ {s words′ row′ tally′ : List ℕ} {α : Flag}
+      (run : Runs 0 Any table (i + 1) (midOf 4 (4 + 4 * n - 4) state) words row tally s words′ row′ tally′ α) where
+    branch-ran : (c : Config) (x : Term) (q : Program) → Ready 1 table i state words row tally (when1 c x q) → (P : Place) → P .node ≡ i
+        → Ran (first P) x words row tally s words′ row′ tally′ α
+    unfolding Going
+    branch-ran c x q h P at =
+        child-ran (when-first c q) h (first-cut h (when-first c q) m) (omega arith) (next-index i) (h .wide) (h .going) run (first P) (first-at at)
+
+    pub then-writes : {t : Term} → Then t → Ready 1 table i state words row tally t → 0 < length (putMid 4 (4 + 4 * n - 4) state s)
+    then-writes (in-then c x q) h =
+        let g = branch-ran c x q h (at-node i) refl in
+        back-in (when-first c q) h (first-cut h (when-first c q) m) s (omega arith) (ran-long g) 0 (omega arith)
+
+    pub then-ran : {t : Term} → Then t → Ready 1 table i state words row tally t
+        → {ph : ℕ}
+        → ph ≡ phaseAfter α 1
+        → (P : Place)
+        → P .node ≡ i
+        → Ran P t words row tally (set (putMid 4 (4 + 4 * n - 4) state s) 0 ph) words′ row′ tally′ α
+    then-ran (in-then c x q) h after P at =
+        let o = when-first c q in
+        let u = first-cut h o m in
+        let g = branch-ran c x q h P at in
+        ran-phase o h u g (omega arith) refl o (phase-left α 1 ∙ ap in-phase (sym after)) (r17-on (g .rewrites)) refl
+
+-- a When that tests
+pub data When0 : Term → Type 0 where
+  testing : (c : Config) (p q : Program) → When0 (when0 c p q)
+
+when0-of : {t : Term} {ph : ℕ} → Shape t 9 ph → ph ≢ 3 → ph ≢ 1 → ph ≢ 2 → When0 t
+when0-of (is-when0 c p q) a b d = testing c p q
+when0-of (is-when1 c x q) a b d = absurd (b refl)
+when0-of (is-when2 c p x) a b d = absurd (d refl)
+when0-of (is-done p e) a b d = absurd (a refl)
+
+pub when0-by : {table : List ℕ} {i : ℕ} {state words row tally : List ℕ} {t : Term} → Kind 9 t
+    → Ready 0 table i state words row tally t
+    → getD state 0 0 ≢ 1
+    → getD state 0 0 ≢ 2
+    → When0 t
+when0-by {t = t} w h a b = when0-of (shape-by t (w .0) refl) (w .1) (λ e. a (phase-is h ∙ e)) (λ e. b (phase-is h ∙ e))
+
+-- a branch begins: the test is in front of what the branch does
+then-begins : {P : Place} {c : Config} {p q : Program} {E : Env} {r : Result}
+    → sat c E
+    → E .eoi ≡ false
+    → Rewrites ⊥ P (when1 c (fresh p) q) E r
+    → Rewrites ⊥ P (when0 c p q) E (after (decided P c true E ∷ []) r)
+then-begins s e (r17-on d) = r17 s e d
+
+else-begins : {P : Place} {c : Config} {p q : Program} {E : Env} {r : Result}
+    → unsat c E
+    → E .eoi ≡ false
+    → Rewrites ⊥ P (when2 c p (fresh q)) E r
+    → Rewrites ⊥ P (when0 c p q) E (after (decided P c false E ∷ []) r)
+else-begins s e (r19-on d) = r19 s e d
+
+module _ {table : List ℕ} {i : ℕ} {state words row tally : List ℕ} where
+  pub when-has : {t : Term} → When0 t → Ready 0 table i state words row tally t → HasTest table i tally
+  unfolding prog
+  when-has (testing c p q) h = when-test (h .tallied) (h .placed)
+
+  -- its bytes, the branch's zeros being its fresh state; the phase is written anew, or not looked at
+  then-bytes : (c : Config) (p q : Program) → Ready 0 table i state words row tally (when0 c p q)
+      → (ph : ℕ) → set state 0 ph ≡ ph ∷ drop 1 (stateBytes (when1 c (fresh p) q))
+  unfolding below
+  then-bytes c p q h ph =
+      ap (λ l. set l 0 ph) (h .bytes) ∙ ap (λ l. ph ∷ 0 ∷ 0 ∷ 0 ∷ (l ++ zeros q)) (sym (fresh-zeros p))
+
+  else-bytes : (c : Config) (p q : Program) → Ready 0 table i state words row tally (when0 c p q)
+      → (ph : ℕ) → set state 0 ph ≡ ph ∷ drop 1 (stateBytes (when2 c p (fresh q)))
+  unfolding below
+  else-bytes c p q h ph =
+      ap (λ l. set l 0 ph) (h .bytes) ∙ ap (λ l. ph ∷ 0 ∷ 0 ∷ 0 ∷ (zeros p ++ l)) (sym (fresh-zeros q))
+
+  then-ready : (c : Config) (p q : Program) → Ready 0 table i state words row tally (when0 c p q)
+      → Ready 1 table i state words row tally (when1 c (fresh p) q)
+  unfolding Going prog below pot kind
+  then-ready c p q h =
+      ready-as h (ap (λ x. When c x q) (prog-fresh p)) refl refl refl
+      (ap (drop 1) (h .bytes) ∙ ap (λ l. 0 ∷ 0 ∷ 0 ∷ (l ++ zeros q)) (sym (fresh-zeros p)))
+      (rest-going _ (fresh p) (fresh-at-rest p))
+      (omega (arith, h .room, pot-fresh (per 2) p))
+
+  else-ready : (c : Config) (p q : Program) → Ready 0 table i state words row tally (when0 c p q)
+      → Ready 1 table i state words row tally (when2 c p (fresh q))
+  unfolding Going prog below pot kind
+  else-ready c p q h =
+      ready-as h (ap (When c p) (prog-fresh q)) refl refl refl
+      (ap (drop 1) (h .bytes) ∙ ap (λ l. 0 ∷ 0 ∷ 0 ∷ (zeros p ++ l)) (sym (fresh-zeros q)))
+      (rest-going _ (fresh q) (fresh-at-rest q))
+      (omega (arith, h .room, pot-fresh (per 2) q))
+
+  pub then-live : {t : Term} → When0 t → Ready 0 table i state words row tally t → Live 1 (KindPhase 9 1) table i state words row tally
+  unfolding kind prog
+  then-live (testing c p q) h = (when1 c (fresh p) q, (refl, refl), then-ready c p q h)
+
+  pub else-live : {t : Term} → When0 t → Ready 0 table i state words row tally t → Live 1 (Phase 2) table i state words row tally
+  else-live (testing c p q) h = (when2 c p (fresh q), refl, else-ready c p q h)
+
+  module _ {v : Verdict} (read : TestRead table i words tally v) where
+    -- what the When's own configuration is read as
+    own-test : (c : Config) (p q : Program) → Ready 0 table i state words row tally (when0 c p q) → {w : Verdict} → v ≡ w
+        → test c (envOf words tally) ≡ w
+    unfolding prog Spells
+    own-test c p q h e = sym (read c (h .placed .spelled .1)) ∙ e
+
+    pub when-waits : {t : Term} → When0 t → Ready 0 table i state words row tally t → v ≡ Unknown → (P : Place) → P .node ≡ i
+        → Ran P t words row tally state words row tally SUSP
+    unfolding collect
+    when-waits (testing c p q) h e P at = ran-alone (r21 (own-test c p q h e)) refl (h .bytes)
+
+    pub then-goes : {t : Term} → When0 t → Ready 0 table i state words row tally t → v ≡ Sat → ltb 0 (getD tally 2 0) ≡ false
+        → {state′ words′ row′ tally′ : List ℕ} {α : Flag}
+        → Runs 1 (KindPhase 9 1) table i state words row tally state′ words′ row′ tally′ α
+        → (P : Place)
+        → P .node ≡ i
+        → Ran P t words row tally state′ words′ row′ tally′ α
+    unfolding kind prog collect
+    then-goes (testing c p q) h e f run P at =
+        let k = run (when1 c (fresh p) q) (refl, refl) (then-ready c p q h) P at in
+        ran-by k (then-begins (own-test c p q h e) f (k .rewrites)) refl
+
+    pub then-later : {t : Term} → When0 t → Ready 0 table i state words row tally t → v ≡ Sat → ltb 0 (getD tally 2 0) ≡ true
+        → (P : Place)
+        → P .node ≡ i
+        → Ran P t words row tally (set state 0 1) words row tally STOP
+    unfolding collect
+    then-later (testing c p q) h e f P at = ran-alone (r18 (own-test c p q h e) f) refl (then-bytes c p q h 1)
+
+    pub else-goes : {t : Term} → When0 t → Ready 0 table i state words row tally t → v ≡ Unsat → ltb 0 (getD tally 2 0) ≡ false
+        → {state′ words′ row′ tally′ : List ℕ} {α : Flag}
+        → Runs 1 (Phase 2) table i state words row tally state′ words′ row′ tally′ α
+        → (P : Place)
+        → P .node ≡ i
+        → Ran P t words row tally state′ words′ row′ tally′ α
+    unfolding collect
+    else-goes (testing c p q) h e f run P at =
+        let k = run (when2 c p (fresh q)) refl (else-ready c p q h) P at in
+        ran-by k (else-begins (own-test c p q h e) f (k .rewrites)) refl
+
+    pub else-later : {t : Term} → When0 t → Ready 0 table i state words row tally t → v ≡ Unsat → ltb 0 (getD tally 2 0) ≡ true
+        → (P : Place)
+        → P .node ≡ i
+        → Ran P t words row tally (set state 0 2) words row tally STOP
+    unfolding collect
+    else-later (testing c p q) h e f P at = ran-alone (r20 (own-test c p q h e) f) refl (else-bytes c p q h 2)
