@@ -30,9 +30,11 @@ use Rattle.runner.specs.Running.{HasTest, TestRead}
 use Rattle.runner.proofs.Parts.{size-pos, len-bytes, fresh-zeros, own-of, part-is, put-is}
 use Rattle.runner.proofs.Shape.{Shape, is-done, is-until0, is-until*, is-until2, shape-by}
 use Rattle.runner.proofs.Frames.{until-first, written, in-table}
-use Rattle.runner.proofs.Children.{at-node, falling, first-cut, asks, child-ran, next-index, first-at, phase-is}
+use Rattle.runner.proofs.Children.{at-node, falling, first-cut, asks, child-ran, next-index, first-at}
+use Rattle.runner.proofs.Children.{phase-is}
 use Rattle.runner.proofs.Children.{next-in-table, till-in, byte-is, own-and-below}
-use Rattle.runner.proofs.Done.{ready-as, room-after, few, ran-flag, ran-alone, ran-by, ran-then, ran-long, back-long}
+use Rattle.runner.proofs.Done.{ready-as, room-after, few, ran-flag, ran-alone, ran-by, ran-then, ran-long}
+use Rattle.runner.proofs.Done.{back-long}
 use Rattle.runner.proofs.Done.{phase-0-left, back-kept, ran-kept}
 use Rattle.runner.proofs.LoadedNode.{until-test}
 

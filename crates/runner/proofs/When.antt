@@ -29,7 +29,8 @@ use Rattle.runner.specs.Running.{HasTest, TestRead}
 use Rattle.runner.proofs.Parts.{fresh-zeros}
 use Rattle.runner.proofs.Shape.{Shape, is-done, is-when0, is-when1, is-when2, shape-by}
 use Rattle.runner.proofs.Frames.{when-first}
-use Rattle.runner.proofs.Children.{at-node, falling, first-cut, asks, child-ran, next-index, first-at, phase-is}
+use Rattle.runner.proofs.Children.{at-node, falling, first-cut, asks, child-ran, next-index, first-at}
+use Rattle.runner.proofs.Children.{phase-is}
 use Rattle.runner.proofs.Children.{next-in-table, till-in, byte-is, own-and-below}
 use Rattle.runner.proofs.Done.{ready-as, ran-alone, ran-by, ran-long, back-in, phase-left, ran-phase}
 use Rattle.runner.proofs.LoadedNode.{when-test}

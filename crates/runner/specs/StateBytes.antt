@@ -6,7 +6,8 @@ use lib.ListN.{replicate}
 use Rattle.junior.specs.declared.Flag.{Flag}
 use Rattle.junior.specs.declared.Flag.the-variants.{SUSP, STOP, TERM}
 use Rattle.junior.specs.Program.{Program, size}
-use Rattle.junior.specs.Term.{Term, done, nothing, stop, atom, generate, await, seq0, seq2, par, loop0, loop1, repeat0}
+use Rattle.junior.specs.Term.{Term, done, nothing, stop, atom, generate, await, seq0, seq2, par, loop0, loop1}
+use Rattle.junior.specs.Term.{repeat0}
 use Rattle.junior.specs.Term.{repeat1, when0, when1, when2, until0, until*, until2, control, local}
 
 pub record Own : Type 0 where

@@ -1,7 +1,10 @@
 use Rattle.runner.proofs as proofs
 use proofs.run.+begin_loop+run_both+run_control+run_left+run_local+run_loop+run_node+run_par+run_repeat+run_right+run_second+run_seq+run_star+run_then+run_times+run_until+run_when.Lts-run_local as lts
 use proofs.run.run_local.Reads.{Pre, Post}
-use proofs.run.+begin_loop+run_both+run_control+run_left+run_local+run_loop+run_node+run_par+run_repeat+run_right+run_second+run_seq+run_star+run_then+run_times+run_until+run_when.Proof.Measures.{exactly, smaller, μ-run-local, μ-run-node}
+use proofs.run.+begin_loop+run_both+run_control+run_left+run_local+run_loop+run_node+run_par+run_repeat+run_right+run_second+run_seq+run_star+run_then+run_times+run_until+run_when.Proof.Measures.{exactly}
+use proofs.run.+begin_loop+run_both+run_control+run_left+run_local+run_loop+run_node+run_par+run_repeat+run_right+run_second+run_seq+run_star+run_then+run_times+run_until+run_when.Proof.Measures.{smaller}
+use proofs.run.+begin_loop+run_both+run_control+run_left+run_local+run_loop+run_node+run_par+run_repeat+run_right+run_second+run_seq+run_star+run_then+run_times+run_until+run_when.Proof.Measures.{μ-run-local}
+use proofs.run.+begin_loop+run_both+run_control+run_left+run_local+run_loop+run_node+run_par+run_repeat+run_right+run_second+run_seq+run_star+run_then+run_times+run_until+run_when.Proof.Measures.{μ-run-node}
 use Rattle.table.proofs.records.argument_at.Reads as argument-at-reads
 use Rattle.events.proofs.marked.Reads as marked-reads
 use Rattle.events.proofs.mark.Reads as mark-reads

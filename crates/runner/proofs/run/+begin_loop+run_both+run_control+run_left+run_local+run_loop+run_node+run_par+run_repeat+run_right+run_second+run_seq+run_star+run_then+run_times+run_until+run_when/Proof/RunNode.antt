@@ -1,7 +1,17 @@
 use Rattle.runner.proofs as proofs
 use proofs.run.+begin_loop+run_both+run_control+run_left+run_local+run_loop+run_node+run_par+run_repeat+run_right+run_second+run_seq+run_star+run_then+run_times+run_until+run_when.Lts-run_node as lts
 use proofs.run.run_node.Reads.{Pre, Post}
-use proofs.run.+begin_loop+run_both+run_control+run_left+run_local+run_loop+run_node+run_par+run_repeat+run_right+run_second+run_seq+run_star+run_then+run_times+run_until+run_when.Proof.Measures.{exactly, smaller, μ-run-control, μ-run-local, μ-run-loop, μ-run-node, μ-run-par, μ-run-repeat, μ-run-seq, μ-run-until, μ-run-when}
+use proofs.run.+begin_loop+run_both+run_control+run_left+run_local+run_loop+run_node+run_par+run_repeat+run_right+run_second+run_seq+run_star+run_then+run_times+run_until+run_when.Proof.Measures.{exactly}
+use proofs.run.+begin_loop+run_both+run_control+run_left+run_local+run_loop+run_node+run_par+run_repeat+run_right+run_second+run_seq+run_star+run_then+run_times+run_until+run_when.Proof.Measures.{smaller}
+use proofs.run.+begin_loop+run_both+run_control+run_left+run_local+run_loop+run_node+run_par+run_repeat+run_right+run_second+run_seq+run_star+run_then+run_times+run_until+run_when.Proof.Measures.{μ-run-control}
+use proofs.run.+begin_loop+run_both+run_control+run_left+run_local+run_loop+run_node+run_par+run_repeat+run_right+run_second+run_seq+run_star+run_then+run_times+run_until+run_when.Proof.Measures.{μ-run-local}
+use proofs.run.+begin_loop+run_both+run_control+run_left+run_local+run_loop+run_node+run_par+run_repeat+run_right+run_second+run_seq+run_star+run_then+run_times+run_until+run_when.Proof.Measures.{μ-run-loop}
+use proofs.run.+begin_loop+run_both+run_control+run_left+run_local+run_loop+run_node+run_par+run_repeat+run_right+run_second+run_seq+run_star+run_then+run_times+run_until+run_when.Proof.Measures.{μ-run-node}
+use proofs.run.+begin_loop+run_both+run_control+run_left+run_local+run_loop+run_node+run_par+run_repeat+run_right+run_second+run_seq+run_star+run_then+run_times+run_until+run_when.Proof.Measures.{μ-run-par}
+use proofs.run.+begin_loop+run_both+run_control+run_left+run_local+run_loop+run_node+run_par+run_repeat+run_right+run_second+run_seq+run_star+run_then+run_times+run_until+run_when.Proof.Measures.{μ-run-repeat}
+use proofs.run.+begin_loop+run_both+run_control+run_left+run_local+run_loop+run_node+run_par+run_repeat+run_right+run_second+run_seq+run_star+run_then+run_times+run_until+run_when.Proof.Measures.{μ-run-seq}
+use proofs.run.+begin_loop+run_both+run_control+run_left+run_local+run_loop+run_node+run_par+run_repeat+run_right+run_second+run_seq+run_star+run_then+run_times+run_until+run_when.Proof.Measures.{μ-run-until}
+use proofs.run.+begin_loop+run_both+run_control+run_left+run_local+run_loop+run_node+run_par+run_repeat+run_right+run_second+run_seq+run_star+run_then+run_times+run_until+run_when.Proof.Measures.{μ-run-when}
 use Rattle.table.proofs.records.kind_at.Reads as kind-at-reads
 use borrow.Fn.Kinds.{In, Out}
 use Prim.Native.Nat.{ℕ}

@@ -1,7 +1,12 @@
 use Rattle.runner.proofs as proofs
 use proofs.run.+begin_loop+run_both+run_control+run_left+run_local+run_loop+run_node+run_par+run_repeat+run_right+run_second+run_seq+run_star+run_then+run_times+run_until+run_when.Lts-run_par as lts
 use proofs.run.run_par.Reads.{Pre, Post}
-use proofs.run.+begin_loop+run_both+run_control+run_left+run_local+run_loop+run_node+run_par+run_repeat+run_right+run_second+run_seq+run_star+run_then+run_times+run_until+run_when.Proof.Measures.{exactly, smaller, μ-run-both, μ-run-left, μ-run-par, μ-run-right}
+use proofs.run.+begin_loop+run_both+run_control+run_left+run_local+run_loop+run_node+run_par+run_repeat+run_right+run_second+run_seq+run_star+run_then+run_times+run_until+run_when.Proof.Measures.{exactly}
+use proofs.run.+begin_loop+run_both+run_control+run_left+run_local+run_loop+run_node+run_par+run_repeat+run_right+run_second+run_seq+run_star+run_then+run_times+run_until+run_when.Proof.Measures.{smaller}
+use proofs.run.+begin_loop+run_both+run_control+run_left+run_local+run_loop+run_node+run_par+run_repeat+run_right+run_second+run_seq+run_star+run_then+run_times+run_until+run_when.Proof.Measures.{μ-run-both}
+use proofs.run.+begin_loop+run_both+run_control+run_left+run_local+run_loop+run_node+run_par+run_repeat+run_right+run_second+run_seq+run_star+run_then+run_times+run_until+run_when.Proof.Measures.{μ-run-left}
+use proofs.run.+begin_loop+run_both+run_control+run_left+run_local+run_loop+run_node+run_par+run_repeat+run_right+run_second+run_seq+run_star+run_then+run_times+run_until+run_when.Proof.Measures.{μ-run-par}
+use proofs.run.+begin_loop+run_both+run_control+run_left+run_local+run_loop+run_node+run_par+run_repeat+run_right+run_second+run_seq+run_star+run_then+run_times+run_until+run_when.Proof.Measures.{μ-run-right}
 use borrow.Fn.Kinds.{In, Out}
 use Prim.Native.Nat.{ℕ}
 use borrow.Author.Needs.{needs}

@@ -1,7 +1,10 @@
 use Rattle.runner.proofs as proofs
 use proofs.run.+begin_loop+run_both+run_control+run_left+run_local+run_loop+run_node+run_par+run_repeat+run_right+run_second+run_seq+run_star+run_then+run_times+run_until+run_when.Lts-run_star as lts
 use proofs.run.run_star.Reads.{Pre, Post}
-use proofs.run.+begin_loop+run_both+run_control+run_left+run_local+run_loop+run_node+run_par+run_repeat+run_right+run_second+run_seq+run_star+run_then+run_times+run_until+run_when.Proof.Measures.{exactly, smaller, μ-run-second, μ-run-star}
+use proofs.run.+begin_loop+run_both+run_control+run_left+run_local+run_loop+run_node+run_par+run_repeat+run_right+run_second+run_seq+run_star+run_then+run_times+run_until+run_when.Proof.Measures.{exactly}
+use proofs.run.+begin_loop+run_both+run_control+run_left+run_local+run_loop+run_node+run_par+run_repeat+run_right+run_second+run_seq+run_star+run_then+run_times+run_until+run_when.Proof.Measures.{smaller}
+use proofs.run.+begin_loop+run_both+run_control+run_left+run_local+run_loop+run_node+run_par+run_repeat+run_right+run_second+run_seq+run_star+run_then+run_times+run_until+run_when.Proof.Measures.{μ-run-second}
+use proofs.run.+begin_loop+run_both+run_control+run_left+run_local+run_loop+run_node+run_par+run_repeat+run_right+run_second+run_seq+run_star+run_then+run_times+run_until+run_when.Proof.Measures.{μ-run-star}
 use Rattle.table.proofs.records.size_at.Reads as size-at-reads
 use borrow.Fn.Kinds.{In, Out}
 use Prim.Native.Nat.{ℕ}
@@ -9,7 +12,8 @@ use borrow.Author.Needs.{needs}
 use lib.Dec.{lit<}
 use proofs.Children.{falls, own-in}
 use proofs.Tally.{tally-in, not-ended, is-ended}
-use proofs.Until.{star-by, star-has, star-reads, star-fits, star-waits, star-fails, handler-live, handler-goes, handler-later, handler-writes}
+use proofs.Until.{star-by, star-has, star-reads, star-fits, star-waits, star-fails, handler-live, handler-goes}
+use proofs.Until.{handler-later, handler-writes}
 
 module _ (t : ℕ) where
   abbrev given : lts.Claims

@@ -9,7 +9,8 @@ use Prim.Native.Nat.{ℕ}
 use borrow.Author.Needs.{needs}
 use native.Mathlib.Omega.{arith}
 use mathlib.Core.Path.{sym, _∙_}
-use proofs.ByParts.{own-inside, first-part, second-part, reads-event, reads-not, reads-unsat, reads-and, reads-sat, reads-or}
+use proofs.ByParts.{own-inside, first-part, second-part, reads-event, reads-not, reads-unsat, reads-and, reads-sat}
+use proofs.ByParts.{reads-or}
 
 module _ (t : ℕ) where
   abbrev given : lts.Claims

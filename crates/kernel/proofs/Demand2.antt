@@ -1,0 +1,96 @@
+-- Demand 2: the answer is what the rules give, by the contract of `instant`; there is one such term and one such result.
+use Prim.Native.Nat.{ℕ, _*_, _≤_, _<_}
+use mathlib.Core.Bool.{Bool, true, false, _&&_}
+use mathlib.Core.Path.{_≡_, refl, ap, sym, subst, _∙_}
+use mathlib.Core.List.{List, _++_}
+use native.Mathlib.Omega.{arith}
+use lib.Dec.{leb}
+use lib.ListN.{length, take, drop}
+use lib.Seq.{take-at, drop-at}
+use borrow.Author.Tests.{lt-leb}
+use Rattle.events.specs.Events.{Events}
+use Rattle.events.specs.Members.{places}
+use Rattle.events.proofs.Events.{lowest-is}
+use Rattle.junior.specs.Configuration.{handed-in}
+use Rattle.junior.specs.Term.{Term, prog}
+use Rattle.junior.specs.Trace.{atoms}
+use Rattle.junior.specs.Rules.{Result}
+use Rattle.junior.specs.Instant.{Instant}
+use Rattle.junior.proofs.Deterministic.{one-outcome}
+use Rattle.junior.proofs.Going.{program-kept}
+use Rattle.junior.proofs.AsPrinted.{instant-as-printed}
+use Rattle.table.specs.Records.{nodes, events}
+use Rattle.table.specs.Spells.{treeOf}
+use Rattle.runner.specs.StateBytes.{stateBytes}
+use Rattle.runner.proofs.Parts.{len-bytes}
+use Rattle.kernel.specs.declared.Outcome.the-variants.{Ran}
+use Rattle.kernel.specs.declared.Answer.{Answer}
+use Rattle.kernel.specs.Answer.{unlisted, instantOutcome, Run, Answered}
+use Rattle.kernel.specs.Demand2.{Premises, Stands, Gives, Demand2}
+use Rattle.kernel.proofs.Accepted.{admitted}
+use Rattle.kernel.proofs.Outcomes.{instant-ran}
+use Rattle.kernel.proofs.OneTerm.{one-term}
+
+-- on the premises nothing is refused
+none-unlisted : (t : List ℕ) (X : Events) → ((e : ℕ) → X e ≡ true → e < events t) → unlisted t X ≡ places
+none-unlisted t X h =
+    sym (lowest-is places places (λ e. X e && leb (events t) e) (omega arith) (λ e l. go e (X e) refl) (λ z. absurd (omega arith)))
+  where
+    go : (e : ℕ) (b : Bool) → X e ≡ b → (b && leb (events t) e) ≡ false
+    go e true x = lt-leb (events t) e (h e x)
+    go e false x = refl
+
+pub runs : {t s : List ℕ} {X : Events} {row : List ℕ} → Premises t s X row → Ran ≡ instantOutcome t s X row
+runs {t} {s} {X} {row} p =
+    let listed = none-unlisted t X (p .listed) in
+    let rest = p .at-rest in
+    instant-ran t s (p .accepted) X row (p .room) (omega arith) (omega arith) (p .row-room)
+
+-- the term that was run stands in the state
+pub stands : {t s : List ℕ} {X : Events} {row s′ row′ : List ℕ} {a : Answer} (r : Run t s X row s′ row′ a) → Stands t s (r .term)
+stands r = record {
+  program = r .program;
+  bytes = r .bytes;
+  at-rest = r .at-rest;
+  only = λ y e b. one-term y (r .term) (e ∙ sym (r .program)) (sym b ∙ r .bytes);
+}
+
+module _ {t s : List ℕ} {X : Events} {row s′ row′ : List ℕ} {a : Answer} (p : Premises t s X row) (r : Run t s X row s′ row′ a) where
+  -- the bytes that an instant leaves are as many
+  long : length (stateBytes (r .result .to)) ≡ 4 * nodes t
+  long = rw (len-bytes (r .result .to), program-kept (r .instant), r .program, admitted t (p .accepted) .whole)
+
+  pub gives : Gives t s row s′ row′ a (a .passes) (r .result)
+  gives =
+      record {
+        event-set = r .events-are;
+        event-count = r .count-is;
+        event-lowest = r .lowest-is;
+        action-count = r .atoms-are;
+        actions = rw (r .row-is) (take-at (atoms (r .result .acts)) (drop (a .atoms) row) (a .atoms) (sym (r .atoms-are)));
+        finished = r .finished-is;
+        pass-count = refl;
+        next-state = rw (r .state-is) (take-at (stateBytes (r .result .to)) (drop (4 * nodes t) s) (4 * nodes t) long);
+        state-beyond = rw (r .state-is) (drop-at (stateBytes (r .result .to)) (drop (4 * nodes t) s) (4 * nodes t) long);
+        row-beyond = rw (r .row-is) (drop-at (atoms (r .result .acts)) (drop (a .atoms) row) (a .atoms) (sym (r .atoms-are)));
+      }
+
+  -- whatever the rules give is what was run
+  gives-all : (n : ℕ) (u : Result) → Instant ⊥ (r .term) (handed-in X) n u → Gives t s row s′ row′ a n u
+  gives-all n u i =
+      let (same-passes, same-result) = one-outcome (r .instant) i in
+      subst (λ m. Gives t s row s′ row′ a m u) same-passes (subst (λ x. Gives t s row s′ row′ a (a .passes) x) same-result gives)
+
+pub demand-2 : {t s : List ℕ} {X : Events} {row s′ row′ : List ℕ} {a : Answer} → Premises t s X row → Answered t s X row s′ row′ a
+    → Demand2 t s X row s′ row′ a
+demand-2 p o =
+    let ran = o .outcome-is ∙ sym (runs p) in
+    let r = o .ran ran in
+    record {
+      ran = ran;
+      term = r .term;
+      stands = stands r;
+      there = (_, r .result, r .instant);
+      gives = λ i. gives-all p r _ _ i;
+      as-printed = λ i. instant-as-printed i;
+    }

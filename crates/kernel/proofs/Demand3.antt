@@ -1,0 +1,40 @@
+-- Demand 3, of every answer: by the contract of `instant` and demand 3 of the definitions.
+use Prim.Native.Nat.{ℕ, _*_}
+use mathlib.Core.Path.{_≡_, refl, sym, subst, _∙_}
+use mathlib.Core.List.{List}
+use native.Mathlib.Omega.{arith}
+use Rattle.events.specs.Events.{Events}
+use Rattle.junior.specs.Term.{prog}
+use Rattle.junior.specs.Figures.{LoopsStop}
+use Rattle.junior.specs.Decided.{DecidedRight}
+use Rattle.junior.proofs.Demand3.{demand-3 as by-the-rules}
+use Rattle.table.specs.Records.{nodes}
+use Rattle.kernel.specs.declared.Answer.{Answer}
+use Rattle.kernel.specs.Answer.{Answered}
+use Rattle.kernel.specs.Demand2.{Premises}
+use Rattle.kernel.specs.Demand3.{Demand3}
+use Rattle.kernel.proofs.Accepted.{admitted}
+use Rattle.kernel.proofs.Blameless.{resting}
+use Rattle.kernel.proofs.Demand2.{runs, stands, gives}
+
+pub demand-3 : {t s : List ℕ} {X : Events} {row s′ row′ : List ℕ} {a : Answer} (p : Premises t s X row) → Answered t s X row s′ row′ a
+    → Demand3 p s′ a
+demand-3 {t} {s} {X} {s′ = s′} {a = a} p o =
+    let ran = o .outcome-is ∙ sym (runs p) in
+    let r = o .ran ran in
+    let accepted = admitted t (p .accepted) in
+    let settled = by-the-rules (r .term) X (rw (r .program) (accepted .placed .loops)) (r .at-rest) .settled (r .instant) in
+    let next = gives p r .next-state in
+    record {
+      ran = ran;
+      term = r .term;
+      stands = stands r;
+      result = r .result;
+      instant = r .instant;
+      event-set = r .events-are;
+      soon = let few = rw (r .program, ← accepted .G-is) at (settled .soon) in few;
+      at-rest = resting t s′ (accepted .placed) (r .result .to) (settled .same-program ∙ r .program) next (settled .rest);
+      grows = settled .grows;
+      idle = settled .idle;
+      decided = rw (r .events-are) (settled .decided);
+    }

@@ -1,0 +1,22 @@
+-- Laws, in the order in which they lean on one another.
+pub mod Little
+pub mod Zeros
+pub mod Children
+pub mod Firsts
+pub mod Near
+pub mod Fresh
+pub mod NodeBytes
+pub mod OneTerm
+pub mod Standing
+pub mod Blameless
+pub mod Unlisted
+pub mod Accepted
+pub mod Outcomes
+pub mod Passing
+pub mod Answers
+pub mod Checks
+pub mod Demand1
+pub mod Demand2
+pub mod Demand3
+pub mod OneAnswer
+pub mod Bench

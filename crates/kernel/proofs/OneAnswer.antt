@@ -1,0 +1,124 @@
+-- No input of check, start or instant allows two answers or two contents of a room.
+use mathlib.Core.Path.{_≡_, refl, ap, sym, _∙_}
+use mathlib.Core.Bool.{Bool}
+use mathlib.Core.Logic.{_≢_, _⊎_, inl, inr}
+use mathlib.Core.List.{List, _++_}
+use Prim.Native.Nat.{ℕ, suc, _*_, _^_, _<_}
+use native.Mathlib.Omega.{arith}
+use lib.ListN.{length, getD, drop}
+use Rattle.events.specs.declared.EventSet.{EventSet}
+use Rattle.events.specs.Events.{Events, howMany, lowest}
+use Rattle.events.specs.Members.{places, members}
+use Rattle.events.proofs.Sets.{Whole, same-members}
+use Rattle.junior.specs.Term.{Term}
+use Rattle.junior.specs.Trace.{atoms}
+use Rattle.junior.specs.Configuration.{handed-in}
+use Rattle.junior.specs.Rules.{Result}
+use Rattle.junior.specs.Instant.{Instant}
+use Rattle.junior.proofs.Deterministic.{one-outcome}
+use Rattle.table.specs.declared.Checked.{Checked}
+use Rattle.table.specs.Records.{nodes}
+use Rattle.table.specs.Verdict.{verdictOf}
+use Rattle.runner.specs.StateBytes.{stateBytes}
+use Rattle.kernel.specs.declared.Outcome.{Outcome}
+use Rattle.kernel.specs.declared.Outcome.the-variants.{Ran, Table, StateRoom, NotAtRest, UnlistedEvent}
+use Rattle.kernel.specs.declared.Outcome.the-variants.{AtomRoom}
+use Rattle.kernel.specs.declared.Answer.{Answer}
+use Rattle.kernel.specs.Answer.{startedRoom, ended, Run, Refused, Started, Answered}
+use Rattle.kernel.specs.Exports.{startPlaces, instantPlaces, StartedInPlaces, AnsweredInPlaces}
+use Rattle.kernel.proofs.OneTerm.{one-term}
+
+pub one-check : (t : List ℕ) (q r : Checked) → q ≡ verdictOf t → r ≡ verdictOf t → q ≡ r
+one-check t q r a b = a ∙ sym b
+
+pub one-start : {t s s₁ s₂ : List ℕ} {q r : Outcome} → Started t s s₁ q → Started t s s₂ r → (q ≡ r) × (s₁ ≡ s₂)
+one-start {t} {s} a b =
+    let same = a .outcome-is ∙ sym (b .outcome-is) in
+    (same, a .room-is ∙ (ap (λ o. startedRoom o t s) same ∙ sym (b .room-is)))
+
+-- two answers are the same if their fields are
+same-answer : (q r : Answer) → q .outcome ≡ r .outcome → q .events ≡ r .events → q .count ≡ r .count → q .lowest ≡ r .lowest
+    → q .atoms ≡ r .atoms → q .finished ≡ r .finished → q .passes ≡ r .passes → q ≡ r
+same-answer q r a b c d e f g =
+    λ i. record { outcome = a i; events = b i; count = c i; lowest = d i; atoms = e i; finished = f i; passes = g i }
+
+same-events : (x y : EventSet) → Whole x → Whole y → members x ≡ members y → x ≡ y
+same-events x y f g e = same-members x y f g (λ n h. ap (λ X. X n) e)
+
+ran-or-not : (o : Outcome) → (o ≡ Ran) ⊎ (o ≢ Ran)
+ran-or-not Ran = inl refl
+ran-or-not (Table c) = inr (λ e. let z : _≡_ {A = ℕ} 0 1 = cc in omega arith)
+ran-or-not StateRoom = inr (λ e. let z : _≡_ {A = ℕ} 0 1 = cc in omega arith)
+ran-or-not (NotAtRest i) = inr (λ e. let z : _≡_ {A = ℕ} 0 1 = cc in omega arith)
+ran-or-not (UnlistedEvent n) = inr (λ e. let z : _≡_ {A = ℕ} 0 1 = cc in omega arith)
+ran-or-not AtomRoom = inr (λ e. let z : _≡_ {A = ℕ} 0 1 = cc in omega arith)
+
+module _ {q r : Answer} (f : Whole (q .events)) (g : Whole (r .events)) (o : q .outcome ≡ r .outcome) where
+  -- two that ran: the state has one term, and the rules one result
+  same-run : {t s : List ℕ} {X : Events} {row s₁ s₂ row₁ row₂ : List ℕ} → Run t s X row s₁ row₁ q → Run t s X row s₂ row₂ r
+      → (q ≡ r) × (s₁ ≡ s₂) × (row₁ ≡ row₂)
+  same-run {t} {s} {row = row} x y =
+      let term-is = one-term (y .term) (x .term) (y .program ∙ sym (x .program)) (sym (y .bytes) ∙ x .bytes) in
+      let (passes-are, result-is) = one-outcome (x .instant) (rw term-is at (y .instant)) in
+      let atoms-are = x .atoms-are ∙ (ap (λ z. length (atoms (z .acts))) result-is ∙ sym (y .atoms-are)) in (
+        same-answer q r o
+            (same-events (q .events) (r .events) f g (x .events-are ∙ (ap (λ z. z .env .now) result-is ∙ sym (y .events-are))))
+            (x .count-is ∙ (ap (λ z. howMany places (z .env .now)) result-is ∙ sym (y .count-is)))
+            (x .lowest-is ∙ (ap (λ z. lowest places (z .env .now)) result-is ∙ sym (y .lowest-is)))
+            atoms-are
+            (x .finished-is ∙ (ap (λ z. ended (z .flag)) result-is ∙ sym (y .finished-is)))
+            passes-are,
+        x .state-is ∙ (ap (λ z. stateBytes (z .to) ++ drop (4 * nodes t) s) result-is ∙ sym (y .state-is)),
+        x .row-is
+            ∙ (ap (λ z. atoms (z .acts) ++ drop (q .atoms) row) result-is
+            ∙ (ap (λ n. atoms (y .result .acts) ++ drop n row) atoms-are ∙ sym (y .row-is))),
+      )
+
+  same-refusal : Refused q → Refused r → q ≡ r
+  same-refusal x y =
+      same-answer q r o (same-events (q .events) (r .events) f g (x .events-are ∙ sym (y .events-are)))
+      (x .count-is ∙ sym (y .count-is)) (x .lowest-is ∙ sym (y .lowest-is)) (x .atoms-are ∙ sym (y .atoms-are))
+      (x .finished-is ∙ sym (y .finished-is)) (x .passes-are ∙ sym (y .passes-are))
+
+-- what a running program holds as a set of events is Whole (crate events, proofs/Sets)
+pub one-instant : {t s : List ℕ} {X : Events} {row s₁ s₂ row₁ row₂ : List ℕ} {q r : Answer} → Whole (q .events) → Whole (r .events)
+    → Answered t s X row s₁ row₁ q
+    → Answered t s X row s₂ row₂ r
+    → (q ≡ r) × (s₁ ≡ s₂) × (row₁ ≡ row₂)
+one-instant {s₁ = s₁} {s₂ = s₂} {row₁ = row₁} {row₂ = row₂} {q = q} {r = r} f g a b = go (ran-or-not (q .outcome))
+  where
+    same : q .outcome ≡ r .outcome
+    same = a .outcome-is ∙ sym (b .outcome-is)
+
+    go : (q .outcome ≡ Ran) ⊎ (q .outcome ≢ Ran) → (q ≡ r) × (s₁ ≡ s₂) × (row₁ ≡ row₂)
+    go (inl e) = same-run f g same (a .ran e) (b .ran (sym same ∙ e))
+    go (inr n) =
+        let (x, x-state, x-row) = a .refused n in
+        let (y, y-state, y-row) = b .refused (λ e. n (same ∙ e)) in
+        (same-refusal f g same x y, x-state ∙ sym y-state, x-row ∙ sym y-row)
+
+-- the same of the calls for C: an answer's places are what any array of 64-bit numbers is
+pub record Places (n : ℕ) (l : List ℕ) : Type 0 where
+  pub long : length l ≡ n
+  pub fits : (i : ℕ) → getD l i 0 < 2 ^ 64
+
+pub one-start-in-places : {t s s₁ s₂ p₁ p₂ : List ℕ} → StartedInPlaces t s s₁ p₁ → StartedInPlaces t s s₂ p₂ → (p₁ ≡ p₂) × (s₁ ≡ s₂)
+one-start-in-places a b =
+    let (o, s) = one-start (a .started) (b .started) in
+    (a .written ∙ (ap startPlaces o ∙ sym (b .written)), s)
+
+whole-in-places : (p : List ℕ) (a : Answer) → Places 11 p → p ≡ instantPlaces a → Whole (a .events)
+whole-in-places p a l e =
+    record {
+      long = let n = sym (ap length e) ∙ l .long in omega arith;
+      fits = λ q. let n = suc (suc (suc (suc (suc (suc (suc q)))))) in record { fits = rw (ap (λ z. getD z n 0) e) at (l .fits n) };
+    }
+
+pub one-instant-in-places : {t s words row s₁ s₂ row₁ row₂ p₁ p₂ : List ℕ} → Places 11 p₁ → Places 11 p₂
+    → AnsweredInPlaces t s words row s₁ row₁ p₁
+    → AnsweredInPlaces t s words row s₂ row₂ p₂
+    → (p₁ ≡ p₂) × (s₁ ≡ s₂) × (row₁ ≡ row₂)
+one-instant-in-places {p₁ = p₁} {p₂ = p₂} f g a b =
+    let (r, s, row) =
+    one-instant (whole-in-places p₁ (a .answer) f (a .written)) (whole-in-places p₂ (b .answer) g (b .written)) (a .answered) (b .answered) in
+    (a .written ∙ (ap instantPlaces r ∙ sym (b .written)), s, row)

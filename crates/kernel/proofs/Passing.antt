@@ -1,0 +1,262 @@
+-- An instant in the code's hands: what holds before each pass, what a pass that suspends leaves of it, and what one that ends it gives.
+use Prim.Native.Nat.{ℕ, zero, suc, _+_, _-_, _*_, _≤_}
+use mathlib.Core.Bool.{Bool, true, false, cond}
+use mathlib.Core.Path.{_≡_, refl, ap, sym, _∙_, subst}
+use mathlib.Core.Logic.{_≢_}
+use mathlib.Core.List.{List, [], _∷_, _++_, append-assoc, append-nil}
+use native.Mathlib.Nat.{zero-add}
+use native.Mathlib.Omega.{arith}
+use mir.Val.{boolByte}
+use lib.Dec.{eqb, ltb}
+use lib.ListN.{length, getD, take, drop, set, replicate, length-append, length-set, drop-of-length-le}
+use lib.Seq.{take-at, take-all, drop-append-add, drop-drop}
+use borrow.Author.Tests.{ltb-true, ltb-false, ne-eqb, eq-eqb}
+use Rattle.events.specs.Events.{Events}
+use Rattle.events.specs.Members.{places, marks, members}
+use Rattle.junior.specs.declared.Flag.{Flag}
+use Rattle.junior.specs.declared.Flag.the-variants.{SUSP, STOP, TERM}
+use Rattle.junior.specs.Configuration.{Env, handed-in, unmoved, declared-end}
+use Rattle.junior.specs.Program.{Program, size}
+use Rattle.junior.specs.Term.{Term, prog, done}
+use Rattle.junior.specs.Trace.{Act, root, atom-of, atoms, collect}
+use Rattle.junior.specs.Rules.{Result, answers, after, Rewrites}
+use Rattle.junior.specs.Instant.{Instant, r47, r48, r49}
+use Rattle.junior.specs.Figures.{per, G}
+use Rattle.junior.proofs.Little.{collect-++}
+use Rattle.junior.proofs.Kept.{kept}
+use Rattle.junior.proofs.Grows.{end-kept}
+use Rattle.junior.proofs.Going.{rest-going, stands}
+use Rattle.junior.proofs.End.{ended}
+use Rattle.junior.proofs.Figures.{pot, cost-A, suspends, pot-at-rest}
+use Rattle.junior.proofs.Instants.{uses-up, goes-on}
+use Rattle.table.specs.Records.{nodes}
+use Rattle.runner.specs.StateBytes.{zeros, below, stateBytes}
+use Rattle.runner.specs.Running.{atoms-done, envOf, Ready, Ran, Wrote}
+use Rattle.runner.proofs.Parts.{len-bytes, size-pos}
+use Rattle.kernel.specs.declared.Answer.{Answer}
+use Rattle.kernel.specs.Answer.{Run, ended as ended-by}
+use Rattle.kernel.specs.Passes.{Startable, Reported}
+
+-- the tally for the next pass: move false, and the end declared if nothing moved
+abbrev pub next-tally : List ℕ → List ℕ
+next-tally l = set (set l 2 (boolByte (eqb (getD l 1 0) 0))) 1 0
+
+-- the environment for the next pass, by whether something moved
+abbrev next-env : Bool → Env → Env
+next-env true E = unmoved E
+next-env false E = declared-end E
+
+next-is : (words l : List ℕ) → length l ≡ 3 → ltb 0 (getD l 2 0) ≡ false → (m : Bool) → ltb 0 (getD l 1 0) ≡ m
+    → envOf words (next-tally l) ≡ next-env m (envOf words l)
+next-is words [] h e m f = absurd (omega arith)
+next-is words (a ∷ []) h e m f = absurd (omega arith)
+next-is words (a ∷ b ∷ []) h e m f = absurd (omega arith)
+next-is words (a ∷ b ∷ c ∷ []) h e true f =
+    let some = ltb-true 0 b f in
+    rw (ne-eqb b 0 (λ z. omega arith), e)
+next-is words (a ∷ b ∷ c ∷ []) h e false f =
+    let none = ltb-false 0 b f in
+    let zero-is : b ≡ 0 = omega arith in
+    rw (eq-eqb b 0 zero-is, f)
+next-is words (a ∷ b ∷ c ∷ d ∷ l) h e m f = absurd (omega arith)
+
+next-done : (l : List ℕ) → atoms-done (next-tally l) ≡ atoms-done l
+next-done [] = refl
+next-done (a ∷ l) = refl
+
+-- atoms written behind others
+wrote-on : {xs row row′ : List ℕ} {at at′ : ℕ} (ys row₀ : List ℕ) → Wrote xs row at row′ at′ → at ≡ length ys
+    → row ≡ ys ++ drop (length ys) row₀
+    → row′ ≡ (ys ++ xs) ++ drop (length (ys ++ xs)) row₀
+wrote-on {xs} {row = row} {at = at} ys row₀ w e f =
+    let front : take at row ≡ ys = rw f (take-at ys (drop (length ys) row₀) at (sym e)) in
+    let back : drop (at + length xs) row ≡ drop (length (ys ++ xs)) row₀ =
+    rw (f, e, drop-append-add ys (drop (length ys) row₀) (length xs), drop-drop (length xs) (length ys) row₀, length-append ys xs) in
+    w .row-is ∙ rw (front, back) (sym (append-assoc ys xs (drop (length (ys ++ xs)) row₀)))
+
+-- what ends the instant from t in E ends, after so many passes that did these acts, the whole of it
+abbrev Onward : Term → Events → ℕ → List Act → Term → Env → Type 0
+Onward t₀ X passes acts t E =
+    (n : ℕ) (r : Result) → Instant ⊥ t E n r → Instant ⊥ t₀ (handed-in X) (passes + n) (after acts r)
+
+-- no more passes than generations; one more once the end is declared
+abbrev Soon : Term → ℕ → Term → Bool → Type 0
+Soon t₀ passes t ended = passes + cond ended 0 (pot (per 7) t) ≤ G (prog t₀) + cond ended 1 0
+
+-- from t₀ with X handed in, over the row row₀: the state, the words, the row and the tally after so many passes
+pub record Underway (table : List ℕ) (t₀ : Term) (X : Events) (row₀ state words row tally : List ℕ) (passes : ℕ) : Type 0 where
+  pub term : Term
+  pub acts : List Act
+  pub ready : Ready 0 table 0 state words row tally term
+  pub same-program : prog term ≡ prog t₀
+  pub onward : Onward t₀ X passes acts term (envOf words tally)
+  pub done-is : atoms-done tally ≡ length (atoms acts)
+  pub row-is : row ≡ atoms acts ++ drop (length (atoms acts)) row₀
+  pub still : envOf words tally .move ≡ false
+  pub soon : Soon t₀ passes term (envOf words tally .eoi)
+
+module _ {table : List ℕ} {t₀ : Term} {X : Events} {row₀ state words row tally : List ℕ} {passes : ℕ}
+    (u : Underway table t₀ X row₀ state words row tally passes) where
+  pub few-passes : passes ≤ G (prog t₀) + 1
+  few-passes = go (envOf words tally .eoi) (u .soon)
+    where
+      go : (b : Bool) → Soon t₀ passes (u .term) b → passes ≤ G (prog t₀) + 1
+      go true h = omega arith
+      go false h = omega arith
+
+  module _ {state′ words′ row′ tally′ : List ℕ} {α : Flag} (ran : Ran root (u .term) words row tally state′ words′ row′ tally′ α) where
+    -- the acts of all passes
+    abbrev pub all-acts : List Act
+    all-acts = u .acts ++ ran .acts
+
+    all-atoms : atoms all-acts ≡ atoms (u .acts) ++ atoms (ran .acts)
+    all-atoms = collect-++ atom-of (u .acts) (ran .acts)
+
+    pub row-after : row′ ≡ atoms all-acts ++ drop (length (atoms all-acts)) row₀
+    row-after = rw all-atoms (wrote-on (atoms (u .acts)) row₀ (ran .wrote) (u .done-is) (u .row-is))
+
+    pub done-after : atoms-done tally′ ≡ length (atoms all-acts)
+    done-after =
+        rw (all-atoms, length-append (atoms (u .acts)) (atoms (ran .acts))) (rw (u .done-is) at (ran .wrote .done-is))
+
+    -- a pass that doesn't suspend ends the instant
+    pub ends : α ≢ SUSP → Instant ⊥ t₀ (handed-in X) (passes + 1) (answers α (ran .to) (envOf words′ tally′) all-acts)
+    ends h = u .onward 1 _ (r47 (ran .rewrites) h)
+
+  -- a pass that suspends leads to the next
+  module _ {state′ words′ row′ tally′ : List ℕ} (ran : Ran root (u .term) words row tally state′ words′ row′ tally′ SUSP)
+      (words-kept : length words′ ≡ length words) (row-kept : length row′ ≡ length row) (tally-kept : length tally′ ≡ length tally) where
+    not-ended : envOf words tally .eoi ≡ false
+    not-ended = go (envOf words tally .eoi) refl
+      where
+        go : (b : Bool) → envOf words tally .eoi ≡ b → envOf words tally .eoi ≡ false
+        go true e = absurd (ended (ran .rewrites) e refl)
+        go false e = e
+
+    room-left : atoms-done tally′ + pot (per 2) (ran .to) ≤ length row′
+    room-left =
+        let spent = suspends (per 2) (ran .rewrites) (u .ready .placed .loops) refl in
+        let more = ran .wrote .done-is in
+        omega (arith, u .ready .room, cost-A (ran .acts))
+
+    ready-again : Ready 0 table 0 state′ words′ row′ (next-tally tally′) (ran .to)
+    ready-again = record {
+      placed = rw (kept (ran .rewrites)) (u .ready .placed);
+      wide = rw words-kept (u .ready .wide);
+      tallied = simp length-set (tally-kept ∙ u .ready .tallied);
+      long = ap length (ran .bytes) ∙ len-bytes (ran .to);
+      bytes = ran .bytes;
+      going = goes-on (ran .rewrites) (u .ready .going) refl;
+      room = rw (next-done tally′) room-left;
+    }
+
+    off : envOf words′ tally′ .eoi ≡ false
+    off = end-kept (ran .rewrites) ∙ not-ended
+
+    -- by whether something moved
+    module _ (m : Bool) (moved : envOf words′ tally′ .move ≡ m) where
+      next : envOf words′ (next-tally tally′) ≡ next-env m (envOf words′ tally′)
+      next = next-is words′ tally′ (tally-kept ∙ u .ready .tallied) off m moved
+
+    still-again : (m : Bool) → envOf words′ tally′ .move ≡ m → envOf words′ (next-tally tally′) .move ≡ false
+    still-again true e = ap (λ E. E .move) (next true e)
+    still-again false e = ap (λ E. E .move) (next false e) ∙ e
+
+    soon-again : (m : Bool) → envOf words′ tally′ .move ≡ m → Soon t₀ (passes + 1) (ran .to) (envOf words′ (next-tally tally′) .eoi)
+    soon-again true e =
+        let before = rw not-ended at (u .soon) in
+        let spent = uses-up (ran .rewrites) (u .ready .placed .loops) (u .still) refl e in
+        rw (ap (λ E. E .eoi) (next true e), off) (omega arith)
+    soon-again false e =
+        let before = rw not-ended at (u .soon) in
+        rw (ap (λ E. E .eoi) (next false e)) (omega arith)
+
+    onward-again : (m : Bool) → envOf words′ tally′ .move ≡ m
+        → Onward t₀ X (passes + 1) (all-acts ran) (ran .to) (envOf words′ (next-tally tally′))
+    onward-again m e n s i =
+        let count : passes + suc n ≡ passes + 1 + n = omega arith in
+        rw (append-assoc (u .acts) (ran .acts) (s .acts)) (rw count at (u .onward (suc n) _ (on m e (rw (next m e) at i))))
+      where
+        on : (m : Bool) → envOf words′ tally′ .move ≡ m → Instant ⊥ (ran .to) (next-env m (envOf words′ tally′)) n s
+            → Instant ⊥ (u .term) (envOf words tally) (suc n) (after (ran .acts) s)
+        on true e i = r49 (ran .rewrites) refl e i
+        on false e i = r48 (ran .rewrites) refl e i
+
+    pub goes : Underway table t₀ X row₀ state′ words′ row′ (next-tally tally′) (passes + 1)
+    goes = record {
+      term = ran .to;
+      acts = all-acts ran;
+      ready = ready-again;
+      same-program = kept (ran .rewrites) ∙ u .same-program;
+      onward = onward-again _ refl;
+      done-is = next-done tally′ ∙ done-after ran;
+      row-is = row-after ran;
+      still = still-again _ refl;
+      soon = soon-again _ refl;
+    }
+
+-- before the first pass
+pub begins : {table state row : List ℕ} (words : List ℕ) (b : Startable table state row) → 64 * length words ≡ places
+    → Underway table (b .term) (marks words) row state words row (0 ∷ 0 ∷ 0 ∷ []) 0
+unfolding collect
+begins words b wide =
+    let t = b .term in
+    record {
+      term = t;
+      acts = [];
+      ready = record {
+        placed = b .placed;
+        wide = wide;
+        tallied = refl;
+        long = ap length (b .bytes) ∙ len-bytes t;
+        bytes = b .bytes;
+        going = rest-going (marks words) t (b .at-rest);
+        room = omega (arith, pot-at-rest (per 2) t (b .at-rest), b .room);
+      };
+      same-program = refl;
+      onward = λ n r i. rw (zero-add n) i;
+      done-is = refl;
+      row-is = refl;
+      still = refl;
+      soon = omega (arith, pot-at-rest (per 7) t (b .at-rest));
+    }
+
+-- the bytes of what has ended: all zero, and marked as phase 3
+ended-bytes : (p : Program) → set (zeros p) 0 3 ≡ stateBytes (done p)
+unfolding below
+ended-bytes p = let e : 4 * size p ≡ suc (suc (suc (suc (4 * size p - 4)))) = omega (arith, size-pos p) in ap (λ n. set (replicate n 0) 0 3) e
+
+module _ {table : List ℕ} {t₀ : Term} {X : Events} {row₀ state words row tally : List ℕ} {passes : ℕ}
+    (u : Underway table t₀ X row₀ state words row tally passes) {state′ words′ row′ tally′ : List ℕ} where
+  pub marked-ended : (ran : Ran root (u .term) words row tally state′ words′ row′ tally′ TERM) → set state′ 0 3 ≡ stateBytes (ran .to)
+  unfolding prog
+  marked-ended ran =
+      let (p, e) = stands (ran .rewrites) (u .ready .going) in
+      rw (ran .bytes, e) (ended-bytes p)
+
+-- the answer of an instant that has ended
+pub run-of : {t s row₀ state words row tally : List ℕ} {X : Events} {passes : ℕ} (b : Startable t s row₀)
+    (u : Underway t (b .term) X row₀ state words row tally passes) {state′ words′ row′ tally′ : List ℕ} {α : Flag}
+    (ran : Ran root (u .term) words row tally state′ words′ row′ tally′ α)
+    → α ≢ SUSP
+    → {s′ : List ℕ} → s′ ≡ stateBytes (ran .to)
+    → {r : Answer} → Reported (record { words = words′ }) (atoms-done tally′) (ended-by α) (passes + 1) r
+    → Run t s X row₀ s′ row′ r
+run-of {t} {s} {row₀ = row₀} {words = words} {tally = tally} b u {words′ = words′} {row′ = row′} {tally′ = tally′} {α} ran h {s′} e {r} o =
+    let all : take (4 * nodes t) s ≡ s = take-all (4 * nodes t) s (omega (arith, b .long)) in
+    let none : drop (4 * nodes t) s ≡ [] = drop-of-length-le s {i = 4 * nodes t} (omega (arith, b .long)) in
+    record {
+      term = b .term;
+      program = b .program;
+      bytes = all ∙ b .bytes;
+      at-rest = b .at-rest;
+      result = answers α (ran .to) (envOf words′ tally′) (all-acts u ran);
+      instant = rw (o .passes-are) (ends u ran h);
+      events-are = ap members (o .events-are);
+      count-is = o .count-is;
+      lowest-is = o .lowest-is;
+      atoms-are = o .atoms-are ∙ done-after u ran;
+      finished-is = o .finished-is;
+      state-is = e ∙ (sym (append-nil (stateBytes (ran .to))) ∙ ap (λ l. stateBytes (ran .to) ++ l) (sym none));
+      row-is = row-after u ran ∙ ap (λ n. atoms (all-acts u ran) ++ drop n row₀) (sym (o .atoms-are ∙ done-after u ran));
+    }

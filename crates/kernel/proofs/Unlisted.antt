@@ -1,0 +1,97 @@
+-- The lowest event from v on that words mark, found by the trailing zeros of the words from there on.
+use mathlib.Core.Path.{_≡_, refl, sym, ap, _∙_}
+use mathlib.Core.Bool.{Bool, true, false, _&&_, and-false, false≢true}
+use mathlib.Core.List.{List}
+use Prim.Native.Nat.{ℕ, _+_, _-_, _*_, _/_, _%_, _^_, _≤_, _<_}
+use native.Mathlib.Omega.{arith}
+use native.Mathlib.Nat.{div-eq-of-lt, lt-of-lt-of-le}
+use lib.Dec.{eqb, ltb, leb}
+use lib.ListN.{getD}
+use lib.Pow.{pow-mono, shr-shr}
+use lib.Count.{trailingZeros}
+use borrow.Author.Tests.{ltb-true, ltb-false, leb-true, le-leb}
+use Rattle.events.specs.Events.{lowest}
+use Rattle.events.specs.Members.{places, marks}
+use Rattle.events.proofs.Bits.{digits, digits-at, digits-lowest}
+use Rattle.events.proofs.Events.{before-lowest, at-lowest, lowest-is}
+use Rattle.events.proofs.Words.{marks-at}
+
+-- a shift brings the digits down
+digits-shifted : (w k j : ℕ) → digits (w / 2 ^ k) j ≡ digits w (k + j)
+digits-shifted w k j = sym (digits-at j (w / 2 ^ k)) ∙ (ap (λ x. eqb (x % 2) 1) (shr-shr w k j) ∙ digits-at (k + j) w)
+
+-- a number below 2 ^ k has no digit from the k-th on
+no-digit : (w k j : ℕ) → w < 2 ^ k → k ≤ j → digits w j ≡ false
+no-digit w k j f h = sym (digits-at j w) ∙ ap (λ x. eqb (x % 2) 1) (div-eq-of-lt (lt-of-lt-of-le f (pow-mono h)))
+
+-- event n's word from its place on; how many places further the first is marked
+abbrev pub onward : List ℕ → ℕ → ℕ
+onward l n = getD l (n / 64) 0 / 2 ^ (n % 64)
+
+abbrev pub gap : List ℕ → ℕ → ℕ
+gap l n = trailingZeros 64 (onward l n)
+
+-- none is marked from v on and before n
+abbrev pub Unmarked : List ℕ → ℕ → ℕ → Type 0
+Unmarked l v n = (k : ℕ) → v ≤ k → k < n → marks l k ≡ false
+
+module _ (l : List ℕ) (n : ℕ) where
+  marks-onward : (j : ℕ) → n % 64 + j < 64 → marks l (n + j) ≡ digits (onward l n) j
+  marks-onward j h =
+      let word : (n + j) / 64 ≡ n / 64 = omega arith in
+      let place : (n + j) % 64 ≡ n % 64 + j = omega arith in
+      rw (marks-at l (n + j), word, place) (sym (digits-shifted (getD l (n / 64) 0) (n % 64) j))
+
+  digit-behind : gap l n < 64 → digits (onward l n) (gap l n) ≡ true
+  digit-behind h =
+      rw (← digits-lowest 64 (onward l n)) (at-lowest 64 (digits (onward l n)) (rw (digits-lowest 64 (onward l n)) h))
+
+  in-word : getD l (n / 64) 0 < 2 ^ 64 → gap l n < 64 → n % 64 + gap l n < 64
+  in-word f h = go (ltb (n % 64 + gap l n) 64) refl
+    where
+      go : (b : Bool) → ltb (n % 64 + gap l n) 64 ≡ b → n % 64 + gap l n < 64
+      go true e = ltb-true (n % 64 + gap l n) 64 e
+      go false e =
+          let none = no-digit (getD l (n / 64) 0) 64 (n % 64 + gap l n) f (ltb-false (n % 64 + gap l n) 64 e) in
+          absurd (false≢true (sym none ∙ (sym (digits-shifted (getD l (n / 64) 0) (n % 64) (gap l n)) ∙ digit-behind h)))
+
+  module _ (v : ℕ) (u : Unmarked l v n) where
+    -- nor up to the gap's end, within the word
+    over-gap : (k : ℕ) → v ≤ k → k < n + gap l n → k < 64 * (n / 64 + 1) → marks l k ≡ false
+    over-gap k a h w = go (ltb k n) refl
+      where
+        go : (b : Bool) → ltb k n ≡ b → marks l k ≡ false
+        go true e = u k a (ltb-true k n e)
+        go false e =
+            let past = ltb-false k n e in
+            let split : k ≡ n + (k - n) = omega arith in
+            let inside : n % 64 + (k - n) < 64 = omega arith in
+            let before : k - n < lowest 64 (digits (onward l n)) = rw (digits-lowest 64 (onward l n)) (omega arith) in
+            rw split (marks-onward (k - n) inside ∙ before-lowest 64 (digits (onward l n)) (k - n) before)
+
+    -- nor in the rest of a word that is all gap
+    pub over-word : 64 ≤ gap l n → Unmarked l v (64 * (n / 64 + 1))
+    over-word h k a b = over-gap k a (omega arith) b
+
+    unmarked-so : (m : ℕ) → Unmarked l v m → (k : ℕ) → k < m → (marks l k && leb v k) ≡ false
+    unmarked-so m f k h = go (leb v k) refl
+      where
+        go : (b : Bool) → leb v k ≡ b → (marks l k && b) ≡ false
+        go true e = rw (f k (leb-true v k e) h)
+        go false e = and-false (marks l k)
+
+    -- so the first marked behind a gap is the lowest
+    pub found : getD l (n / 64) 0 < 2 ^ 64 → gap l n < 64 → v ≤ n → n < places
+        → n + gap l n ≡ lowest places (λ e. marks l e && leb v e)
+    found f h a b =
+        let inside = in-word f h in
+        let marked = marks-onward (gap l n) inside ∙ digit-behind h in
+        lowest-is places (n + gap l n) (λ e. marks l e && leb v e) (omega arith)
+        (unmarked-so (n + gap l n) (λ k c d. over-gap k c d (omega arith)))
+        (λ z. rw (marked, le-leb v (n + gap l n) (omega arith)))
+
+    pub none-found : places ≤ n → places ≡ lowest places (λ e. marks l e && leb v e)
+    none-found h =
+        lowest-is places places (λ e. marks l e && leb v e) (omega arith)
+        (unmarked-so places (λ k a b. u k a (omega arith)))
+        (λ z. absurd (omega arith))

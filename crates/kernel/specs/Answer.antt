@@ -1,0 +1,134 @@
+-- What start and instant answer, and what they leave in the lent rooms (01, "Refusal numbers" and "Rules of a pass").
+use Prim.Native.Nat.{ℕ, _+_, _*_}
+use mathlib.Core.Bool.{Bool, true, false, cond, _&&_}
+use mathlib.Core.Path.{_≡_}
+use mathlib.Core.Logic.{_≢_}
+use mathlib.Core.List.{List, _++_}
+use lib.ListN.{length, take, drop, replicate}
+use lib.Dec.{leb, ltb}
+use Rattle.events.specs.Events.{Events, none, howMany, lowest}
+use Rattle.events.specs.Members.{places, members}
+use Rattle.junior.specs.declared.Flag.{Flag}
+use Rattle.junior.specs.declared.Flag.the-variants.{SUSP, STOP, TERM}
+use Rattle.junior.specs.Configuration.{handed-in}
+use Rattle.junior.specs.Term.{Term, prog}
+use Rattle.junior.specs.Trace.{atoms}
+use Rattle.junior.specs.Rules.{Result}
+use Rattle.junior.specs.Instant.{Instant}
+use Rattle.junior.specs.AtRest.{AtRest}
+use Rattle.table.specs.declared.Checked.{Checked}
+use Rattle.table.specs.declared.Checked.the-variants.{BadLength, BadCounts, BadDistances, BadConfiguration, BadNode}
+use Rattle.table.specs.declared.Checked.the-variants.{TooDeep, EndlessLoop, TooHeavy, Accepted}
+use Rattle.table.specs.Records.{nodes, events}
+use Rattle.table.specs.Spells.{treeOf}
+use Rattle.table.specs.Verdict.{verdictOf, numberOf, indexOf}
+use Rattle.runner.specs.StateBytes.{stateBytes}
+use Rattle.kernel.specs.declared.Outcome.{Outcome}
+use Rattle.kernel.specs.declared.Outcome.the-variants.{Ran, Table, StateRoom, NotAtRest, UnlistedEvent}
+use Rattle.kernel.specs.declared.Outcome.the-variants.{AtomRoom}
+use Rattle.kernel.specs.declared.Answer.{Answer}
+use Rattle.kernel.specs.Resting.{blamed}
+
+-- this paper's number and index of each outcome
+unfoldable pub outcomeNumber : Outcome → ℕ
+outcomeNumber Ran = 0
+outcomeNumber (Table c) = numberOf c
+outcomeNumber StateRoom = 9
+outcomeNumber (NotAtRest i) = 10
+outcomeNumber (UnlistedEvent e) = 11
+outcomeNumber AtomRoom = 12
+
+unfoldable pub outcomeIndex : Outcome → ℕ
+outcomeIndex Ran = 0
+outcomeIndex (Table c) = indexOf c
+outcomeIndex StateRoom = 0
+outcomeIndex (NotAtRest i) = i
+outcomeIndex (UnlistedEvent e) = e
+outcomeIndex AtomRoom = 0
+
+-- a refused table is the outcome; an accepted one, with A atoms at most, goes on
+abbrev pub onAccepted : Checked → (ℕ → Outcome) → Outcome
+onAccepted BadLength go = Table BadLength
+onAccepted BadCounts go = Table BadCounts
+onAccepted BadDistances go = Table BadDistances
+onAccepted (BadConfiguration j) go = Table (BadConfiguration j)
+onAccepted (BadNode i) go = Table (BadNode i)
+onAccepted (TooDeep i) go = Table (TooDeep i)
+onAccepted (EndlessLoop i) go = Table (EndlessLoop i)
+onAccepted TooHeavy go = Table TooHeavy
+onAccepted (Accepted g a w) go = go a
+
+-- 9: the state room
+abbrev pub hasRoom : List ℕ → List ℕ → Bool
+hasRoom t s = leb (4 * nodes t) (length s)
+
+-- start meets 1 to 9
+unfoldable pub startOutcome : List ℕ → List ℕ → Outcome
+startOutcome t s = onAccepted (verdictOf t) (λ a. cond (hasRoom t s) Ran StateRoom)
+
+-- 11: the lowest event handed in at or above V; 256 if none is
+abbrev pub unlisted : List ℕ → Events → ℕ
+unlisted t X = lowest places (λ e. X e && leb (events t) e)
+
+-- an instant meets 1 to 12
+unfoldable pub instantOutcome : List ℕ → List ℕ → Events → List ℕ → Outcome
+instantOutcome t s X row =
+    onAccepted (verdictOf t) (λ a.
+    cond
+    (hasRoom t s)
+    (cond
+    (ltb (blamed t s) (nodes t))
+    (NotAtRest (blamed t s))
+    (cond (ltb (unlisted t X) places) (UnlistedEvent (unlisted t X)) (cond (leb a (length row)) Ran AtomRoom)))
+    StateRoom)
+
+-- the state room after a start: fresh, and past 4N bytes as it was
+unfoldable pub startedRoom : Outcome → List ℕ → List ℕ → List ℕ
+startedRoom Ran t s = replicate (4 * nodes t) 0 ++ drop (4 * nodes t) s
+startedRoom (Table c) t s = s
+startedRoom StateRoom t s = s
+startedRoom (NotAtRest i) t s = s
+startedRoom (UnlistedEvent e) t s = s
+startedRoom AtomRoom t s = s
+
+-- the whole of what start answers
+pub record Started (t s s′ : List ℕ) (r : Outcome) : Type 0 where
+  pub outcome-is : r ≡ startOutcome t s
+  pub room-is : s′ ≡ startedRoom r t s
+
+abbrev pub ended : Flag → Bool
+ended SUSP = false
+ended STOP = false
+ended TERM = true
+
+-- an instant was run: the term that stands in the state's bytes, the instant that the rules give it, and all of it in the answer and the rooms
+pub record Run (t s : List ℕ) (X : Events) (row s′ row′ : List ℕ) (r : Answer) : Type 0 where
+  pub term : Term
+  pub program : prog term ≡ treeOf t
+  pub bytes : take (4 * nodes t) s ≡ stateBytes term
+  pub at-rest : AtRest term
+  pub result : Result
+  pub instant : Instant ⊥ term (handed-in X) (r .passes) result
+  pub events-are : members (r .events) ≡ result .env .now
+  pub count-is : r .count ≡ howMany places (result .env .now)
+  pub lowest-is : r .lowest ≡ lowest places (result .env .now)
+  pub atoms-are : r .atoms ≡ length (atoms (result .acts))
+  pub finished-is : r .finished ≡ ended (result .flag)
+  pub state-is : s′ ≡ stateBytes (result .to) ++ drop (4 * nodes t) s
+  pub row-is : row′ ≡ atoms (result .acts) ++ drop (r .atoms) row
+
+-- an instant was refused: every other field 0 or false, the set empty, lowest 256
+pub record Refused (r : Answer) : Type 0 where
+  pub events-are : members (r .events) ≡ none
+  pub count-is : r .count ≡ 0
+  pub lowest-is : r .lowest ≡ places
+  pub atoms-are : r .atoms ≡ 0
+  pub finished-is : r .finished ≡ false
+  pub passes-are : r .passes ≡ 0
+
+-- the whole of what an instant answers
+pub record Answered (t s : List ℕ) (X : Events) (row s′ row′ : List ℕ) (r : Answer) : Type 0 where
+  pub outcome-is : r .outcome ≡ instantOutcome t s X row
+  pub ran : r .outcome ≡ Ran → Run t s X row s′ row′ r
+  -- nothing is written
+  pub refused : r .outcome ≢ Ran → Refused r × (s′ ≡ s) × (row′ ≡ row)

@@ -1,0 +1,79 @@
+-- Demand 2: "For an accepted table, a state at rest, listed events and enough room for actions, one instant gives exactly the event set, the
+-- actions in order, the finished answer, the pass count and the next state that Junior's rewriting rules give, read as the requirements settle
+-- them, left branch first."
+use Prim.Native.Nat.{ℕ, _*_, _<_, _≤_}
+use mathlib.Core.Bool.{true}
+use mathlib.Core.Path.{_≡_}
+use mathlib.Core.List.{List}
+use lib.ListN.{length, take, drop}
+use Rattle.events.specs.Events.{Events, howMany, lowest}
+use Rattle.events.specs.Members.{places, members}
+use Rattle.junior.specs.Configuration.{handed-in}
+use Rattle.junior.specs.Term.{Term, prog}
+use Rattle.junior.specs.Trace.{atoms}
+use Rattle.junior.specs.Rules.{Result}
+use Rattle.junior.specs.Instant.{Instant}
+use Rattle.junior.specs.Printed.{reads, _∣_—[_]—_passes→_∣_}
+use Rattle.junior.specs.AtRest.{AtRest}
+use Rattle.table.specs.declared.Checked.the-variants.{Accepted}
+use Rattle.table.specs.Records.{nodes, events}
+use Rattle.table.specs.Spells.{treeOf}
+use Rattle.table.specs.Verdict.{verdictOf}
+use Rattle.runner.specs.StateBytes.{stateBytes}
+use Rattle.kernel.specs.declared.Outcome.the-variants.{Ran}
+use Rattle.kernel.specs.declared.Answer.{Answer}
+use Rattle.kernel.specs.Resting.{blamed}
+use Rattle.kernel.specs.Answer.{ended}
+
+-- what an instant is handed
+pub record Premises (t s : List ℕ) (X : Events) (row : List ℕ) : Type 0 where
+  -- "an accepted table", with the generations, atoms and nodes worked out at loading
+  pub generations : ℕ
+  pub most-atoms : ℕ
+  pub weight : ℕ
+  pub accepted : verdictOf t ≡ Accepted generations most-atoms weight
+  -- "a state at rest": no node is to blame
+  pub room : 4 * nodes t ≤ length s
+  pub at-rest : blamed t s ≡ nodes t
+  -- "listed events"
+  pub listed : (e : ℕ) → X e ≡ true → e < events t
+  -- "enough room for actions"
+  pub row-room : most-atoms ≤ length row
+
+-- the term at rest that stands in the state's bytes: no other of the table's program does
+pub record Stands (t s : List ℕ) (x : Term) : Type 0 where
+  pub program : prog x ≡ treeOf t
+  pub bytes : take (4 * nodes t) s ≡ stateBytes x
+  pub at-rest : AtRest x
+  pub only : (y : Term) → prog y ≡ treeOf t → take (4 * nodes t) s ≡ stateBytes y → y ≡ x
+
+-- the answer and the rooms are what n passes that end with r give
+pub record Gives (t s row s′ row′ : List ℕ) (a : Answer) (n : ℕ) (r : Result) : Type 0 where
+  -- "exactly the event set", how many events are present and which is the lowest
+  pub event-set : members (a .events) ≡ r .env .now
+  pub event-count : a .count ≡ howMany places (r .env .now)
+  pub event-lowest : a .lowest ≡ lowest places (r .env .now)
+  -- "the actions in order"
+  pub action-count : a .atoms ≡ length (atoms (r .acts))
+  pub actions : take (a .atoms) row′ ≡ atoms (r .acts)
+  -- "the finished answer"
+  pub finished : a .finished ≡ ended (r .flag)
+  -- "the pass count"
+  pub pass-count : a .passes ≡ n
+  -- "the next state"
+  pub next-state : take (4 * nodes t) s′ ≡ stateBytes (r .to)
+  -- "the rest of each room keeps its contents" (01)
+  pub state-beyond : drop (4 * nodes t) s′ ≡ drop (4 * nodes t) s
+  pub row-beyond : drop (a .atoms) row′ ≡ drop (a .atoms) row
+
+pub record Demand2 (t s : List ℕ) (X : Events) (row s′ row′ : List ℕ) (a : Answer) : Type 0 where
+  -- "one instant": it isn't refused
+  pub ran : a .outcome ≡ Ran
+  pub term : Term
+  pub stands : Stands t s term
+  -- "that Junior's rewriting rules give .. left branch first": by rules without rule 9
+  pub there : (n : ℕ) × (r : Result) × Instant ⊥ term (handed-in X) n r
+  pub gives : {n : ℕ} {r : Result} → Instant ⊥ term (handed-in X) n r → Gives t s row s′ row′ a n r
+  -- "Junior's rewriting rules .. read as the requirements settle them": and by the rules as 000 prints them
+  pub as-printed : {n : ℕ} {r : Result} → Instant ⊥ term (handed-in X) n r
+      → reads term ∣ handed-in X —[ r .flag ]— n passes→ reads (r .to) ∣ r .env

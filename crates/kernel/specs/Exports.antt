@@ -1,0 +1,35 @@
+-- What the calls for C write into the lent places of an answer, as numbers.
+use Prim.Native.Nat.{ℕ}
+use mathlib.Core.Bool.{cond}
+use mathlib.Core.Path.{_≡_}
+use mathlib.Core.List.{List, [], _∷_, _++_}
+use Rattle.events.specs.Members.{marks}
+use Rattle.table.specs.declared.Checked.{Checked}
+use Rattle.table.specs.Verdict.{numberOf, indexOf, figuresOf}
+use Rattle.kernel.specs.declared.Outcome.{Outcome}
+use Rattle.kernel.specs.declared.Answer.{Answer}
+use Rattle.kernel.specs.Answer.{outcomeNumber, outcomeIndex, Started, Answered}
+
+-- number, index, G, A, W
+abbrev pub checkPlaces : Checked → List ℕ
+checkPlaces c = numberOf c ∷ indexOf c ∷ figuresOf c .generations ∷ figuresOf c .atoms ∷ figuresOf c .nodes ∷ []
+
+-- number, index
+abbrev pub startPlaces : Outcome → List ℕ
+startPlaces o = outcomeNumber o ∷ outcomeIndex o ∷ []
+
+-- number, index, how many events are present, the lowest, how many atoms were written, whether finished, passes, the set's words
+abbrev pub instantPlaces : Answer → List ℕ
+instantPlaces a =
+    startPlaces (a .outcome) ++ (a .count ∷ a .lowest ∷ a .atoms ∷ cond (a .finished) 1 0 ∷ a .passes ∷ a .events .words)
+
+pub record StartedInPlaces (t s s′ places : List ℕ) : Type 0 where
+  pub outcome : Outcome
+  pub started : Started t s s′ outcome
+  pub written : places ≡ startPlaces outcome
+
+-- `words` are those of the events handed in
+pub record AnsweredInPlaces (t s words row s′ row′ places : List ℕ) : Type 0 where
+  pub answer : Answer
+  pub answered : Answered t s (marks words) row s′ row′ answer
+  pub written : places ≡ instantPlaces answer

@@ -1,0 +1,9 @@
+pub mod Resting
+pub mod Inside
+pub mod Answer
+pub mod Passes
+pub mod Demand1
+pub mod Demand2
+pub mod Demand3
+pub mod Bench
+pub mod Exports

@@ -1,0 +1,39 @@
+-- What the functions of src/passes.rt promise. Private contracts alone cite this file; no public one does.
+use Prim.Native.Nat.{ℕ, _*_, _≤_}
+use mathlib.Core.Bool.{Bool}
+use mathlib.Core.Path.{_≡_}
+use mathlib.Core.List.{List}
+use lib.ListN.{length}
+use Rattle.events.specs.declared.EventSet.{EventSet}
+use Rattle.events.specs.Events.{howMany, lowest}
+use Rattle.events.specs.Members.{places, members}
+use Rattle.junior.specs.Term.{Term, prog}
+use Rattle.junior.specs.Figures.{G, A}
+use Rattle.junior.specs.AtRest.{AtRest}
+use Rattle.table.specs.Records.{nodes}
+use Rattle.table.specs.Spells.{treeOf}
+use Rattle.runner.specs.StateBytes.{stateBytes}
+use Rattle.runner.specs.Running.{Placed}
+use Rattle.kernel.specs.declared.Outcome.the-variants.{Ran}
+use Rattle.kernel.specs.declared.Answer.{Answer}
+
+-- past all refusals: a term at rest stands in the state, which is just as long, and the row has room for its atoms
+pub record Startable (t s row : List ℕ) : Type 0 where
+  pub term : Term
+  pub program : prog term ≡ treeOf t
+  pub placed : Placed t 0 (prog term)
+  pub long : length s ≡ 4 * nodes t
+  pub bytes : s ≡ stateBytes term
+  pub at-rest : AtRest term
+  pub few : G (prog term) ≤ 4094
+  pub room : A (prog term) ≤ length row
+
+-- the answer of an instant that was run
+pub record Reported (events : EventSet) (atoms : ℕ) (finished : Bool) (passes : ℕ) (r : Answer) : Type 0 where
+  pub outcome-is : r .outcome ≡ Ran
+  pub events-are : r .events ≡ events
+  pub count-is : r .count ≡ howMany places (members events)
+  pub lowest-is : r .lowest ≡ lowest places (members events)
+  pub atoms-are : r .atoms ≡ atoms
+  pub finished-is : r .finished ≡ finished
+  pub passes-are : r .passes ≡ passes

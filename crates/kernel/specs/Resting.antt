@@ -1,0 +1,70 @@
+-- States at rest, in the raw bytes (01, "State"): which node is to blame for one that isn't.
+use Prim.Native.Nat.{ℕ, zero, suc, _+_, _-_, _*_}
+use mathlib.Core.Bool.{Bool, true, false, cond, not, _&&_, _||_}
+use mathlib.Core.List.{List}
+use lib.Dec.{eqb, ltb}
+use Rattle.events.specs.Events.{lowest}
+use Rattle.table.specs.Records.{byte, word, nodes, kindAt, argumentAt, sizeAt, secondAt}
+
+-- node i's own bytes
+abbrev pub phaseAt : List ℕ → ℕ → ℕ
+phaseAt s i = byte s (4 * i)
+
+abbrev pub flagsAt : List ℕ → ℕ → ℕ
+flagsAt s i = byte s (4 * i + 1)
+
+abbrev pub countAt : List ℕ → ℕ → ℕ
+countAt s i = word s (4 * i + 2)
+
+-- node i, and the n nodes from i on, have no byte but zeros
+unfoldable pub zeroNode : List ℕ → ℕ → Bool
+zeroNode s i = eqb (phaseAt s i) 0 && (eqb (flagsAt s i) 0 && eqb (countAt s i) 0)
+
+unfoldable pub zeroNodes : List ℕ → ℕ → ℕ → Bool
+zeroNodes s i zero = true
+zeroNodes s i (suc n) = zeroNode s i && zeroNodes s (i + 1) n
+
+-- node i's first child's subtree, its second child's, all below it
+abbrev pub firstZero : List ℕ → List ℕ → ℕ → Bool
+firstZero t s i = zeroNodes s (i + 1) (sizeAt t (i + 1))
+
+abbrev pub secondZero : List ℕ → List ℕ → ℕ → Bool
+secondZero t s i = zeroNodes s (secondAt t i) (sizeAt t (secondAt t i))
+
+abbrev pub belowZero : List ℕ → List ℕ → ℕ → Bool
+belowZero t s i = zeroNodes s (i + 1) (sizeAt t i - 1)
+
+-- the phases at rest of a kind, but for phase 3, and the subtrees that each wants zero
+unfoldable pub phaseRests : List ℕ → List ℕ → ℕ → ℕ → ℕ → Bool
+phaseRests t s i k ph =
+    cond (eqb k 3) ((eqb ph 0 && secondZero t s i) || (eqb ph 2 && firstZero t s i))
+    (cond (eqb k 5 || eqb k 6) ((eqb ph 0 && firstZero t s i) || eqb ph 1)
+    (cond (eqb k 9)
+    ((eqb ph 0 && (firstZero t s i && secondZero t s i)) || ((eqb ph 1 && secondZero t s i) || (eqb ph 2 && firstZero t s i)))
+    (cond (eqb k 10) ((eqb ph 0 && secondZero t s i) || (eqb ph 2 && firstZero t s i)) (eqb ph 0))))
+
+-- Par's flags: each SUSP or TERM and not both TERM, a TERM flag only over a child in phase 3
+unfoldable pub flagsRest : List ℕ → List ℕ → ℕ → ℕ → Bool
+flagsRest t s i fl =
+    eqb fl 0 || ((eqb fl 2 && eqb (phaseAt s (i + 1)) 3) || (eqb fl 8 && eqb (phaseAt s (secondAt t i)) 3))
+
+-- a begun Repeat's count is below its argument, any other count is 0
+unfoldable pub countRests : List ℕ → ℕ → ℕ → ℕ → ℕ → Bool
+countRests t i k ph ct = cond (eqb k 6 && eqb ph 1) (ltb ct (argumentAt t i)) (eqb ct 0)
+
+-- node i isn't to blame
+unfoldable pub rests : List ℕ → List ℕ → ℕ → Bool
+rests t s i =
+    let k = kindAt t i in
+    let ph = phaseAt s i in
+    let fl = flagsAt s i in
+    let ct = countAt s i in
+    cond
+    (eqb ph 3)
+    (eqb fl 0 && (eqb ct 0 && belowZero t s i))
+    (phaseRests t s i k ph
+    && (cond (eqb k 4) (flagsRest t s i fl) (eqb fl 0) && countRests t i k ph ct))
+
+-- the lowest node to blame; N if none is
+abbrev pub blamed : List ℕ → List ℕ → ℕ
+blamed t s = lowest (nodes t) (λ i. not (rests t s i))

@@ -1,0 +1,144 @@
+// The kernel: check, start and run one instant. Each call takes its table, state, events and rooms as they come.
+
+ghost use mathlib.Core.Path.{_≡_};
+ghost use mathlib.Core.Bool.{_&&_};
+ghost use lib.Dec.{leb};
+ghost use Rattle.events.specs.Events.{lowest};
+ghost use Rattle.events.specs.Members.{places, members};
+ghost use Rattle.kernel.specs.Answer.{Started, instantOutcome, Answered, Refused};
+use crate::passes::run_passes;
+use crate::resting::first_blamed;
+use events::EventSet;
+use runner::leaf::clear;
+use table::Checked;
+use table::check;
+use table::records::word_at;
+
+pub mod exports;
+pub mod numbers;
+mod passes;
+mod resting;
+
+// How a call ended; specs/Answer.antt has each case's number and index (01, "Refusal numbers").
+pub enum Outcome {
+    // Nothing was refused.
+    Ran,
+    // The table was, and so.
+    Table(Checked),
+    StateRoom,
+    NotAtRest(usize),
+    UnlistedEvent(usize),
+    AtomRoom,
+}
+
+// What an instant answers (01, "Rules of a pass").
+pub struct Answer {
+    pub outcome: Outcome,
+    // The events present at its end, those handed in included; how many; the lowest, 256 if none.
+    pub events: EventSet,
+    pub count: usize,
+    pub lowest: usize,
+    // How many atoms were written, whether the program has finished, how many passes there were.
+    pub atoms: usize,
+    pub finished: bool,
+    pub passes: usize,
+}
+
+// Makes the state fresh: refusals 1 to 9.
+pub fn start(table: &[u8], state: &mut [u8]) -> Outcome
+    ensures { λ r. ⌜ Started (now (table .entry)) (now (state .entry)) (now (state .exit)) r ⌝ }
+{
+    let verdict = check(table);
+    match verdict {
+        Checked::Accepted {
+            generations: _,
+            atoms: _,
+            nodes: _,
+        } => {
+            let n = word_at(table, table.len() - 10);
+            if state.len() < 4 * n {
+                return Outcome::StateRoom;
+            }
+            clear(&mut state[..4 * n]);
+            Outcome::Ran
+        }
+        _ => Outcome::Table(verdict),
+    }
+}
+
+// Runs one instant with these events handed in: refusals 1 to 12. The numbers of the atoms done go into the row `atoms`, in order.
+pub fn instant(table: &[u8], state: &mut [u8], events: EventSet, atoms: &mut [u16]) -> Answer
+    ensures { λ r. ⌜ Answered (now (table .entry)) (now (state .entry)) (members events) (now (atoms .entry)) (now (state .exit)) (now (atoms .exit)) r ⌝ }
+{
+    let outcome = outcome_of(table, state, events, atoms);
+    match outcome {
+        Outcome::Ran => {
+            let n = word_at(table, table.len() - 10);
+            run_passes(table, &mut state[..4 * n], events, atoms)
+        }
+        _ => refused(outcome),
+    }
+}
+
+// The first check that an instant's table, state, events or room for atoms fails.
+fn outcome_of(table: &[u8], state: &[u8], events: EventSet, atoms: &[u16]) -> Outcome
+    ensures { λ r. ⌜ r ≡ instantOutcome (now (table .entry)) (now (state .entry)) (members events) (now (atoms .entry)) ⌝ }
+{
+    let verdict = check(table);
+    match verdict {
+        Checked::Accepted {
+            generations: _,
+            atoms: most,
+            nodes: _,
+        } => {
+            let n = word_at(table, table.len() - 10);
+            if state.len() < 4 * n {
+                return Outcome::StateRoom;
+            }
+            let i = first_blamed(table, n, state);
+            if i < n {
+                return Outcome::NotAtRest(i);
+            }
+            let v = word_at(table, table.len() - 6);
+            let e = lowest_from(events, v);
+            if e < EventSet::PLACES {
+                return Outcome::UnlistedEvent(e);
+            }
+            if most <= atoms.len() {
+                return Outcome::Ran;
+            }
+            Outcome::AtomRoom
+        }
+        _ => Outcome::Table(verdict),
+    }
+}
+
+// The lowest event of the set that is not below v; `PLACES` if none is.
+fn lowest_from(events: EventSet, v: usize) -> usize
+    ensures { λ r. ⌜ r ≡ lowest places (λ e. members events e && leb v e) ⌝ }
+{
+    let mut from = v;
+    while from < EventSet::PLACES {
+        let low = u64::trailing_zeros(events.words[from / 64] >> (from % 64)) as usize;
+        if low < 64 {
+            return from + low;
+        }
+        from = 64 * (from / 64 + 1);
+    }
+    EventSet::PLACES
+}
+
+// The answer where something was refused.
+fn refused(outcome: Outcome) -> Answer
+    ensures { λ r. ⌜ (r .outcome ≡ outcome) × Refused r ⌝ }
+{
+    Answer {
+        outcome,
+        events: EventSet::empty(),
+        count: 0,
+        lowest: EventSet::PLACES,
+        atoms: 0,
+        finished: false,
+        passes: 0,
+    }
+}

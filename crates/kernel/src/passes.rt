@@ -1,0 +1,51 @@
+// An instant's passes, over the state's own bytes.
+ghost use mathlib.Core.Path.{_≡_};
+ghost use Rattle.events.specs.Members.{members};
+ghost use Rattle.kernel.specs.declared.Outcome.the-variants.{Ran};
+ghost use Rattle.kernel.specs.Answer.{Run};
+ghost use Rattle.kernel.specs.Passes.{Startable, Reported};
+use crate::Answer;
+use crate::Outcome;
+use events::EventSet;
+use junior::Flag;
+use runner::run::run_node;
+
+// Passes from node 0 until one answers STOP or TERM (01, "Instant").
+pub fn run_passes(table: &[u8], state: &mut [u8], events: EventSet, atoms: &mut [u16]) -> Answer
+    requires { ⌜ Startable (now table) (now state) (now atoms) ⌝ }
+    ensures { λ r. ⌜ (r .outcome ≡ Ran) × Run (now (table .entry)) (now (state .entry)) (members events) (now (atoms .entry)) (now (state .exit)) (now (atoms .exit)) r ⌝ }
+{
+    let mut words = events.words;
+    let mut tally = [0usize; 3];
+    let mut passes = 0;
+    loop {
+        passes += 1;
+        let flag = run_node(table, 0, state, &mut words, atoms, &mut tally);
+        match flag {
+            Flag::SUSP => {
+                tally[2] = (tally[1] == 0) as usize;
+                tally[1] = 0;
+            }
+            Flag::STOP => return report(EventSet { words }, tally[0], false, passes),
+            Flag::TERM => {
+                state[0] = 3;
+                return report(EventSet { words }, tally[0], true, passes);
+            }
+        }
+    }
+}
+
+// The answer of an instant that was run.
+fn report(events: EventSet, atoms: usize, finished: bool, passes: usize) -> Answer
+    ensures { λ r. ⌜ Reported events atoms finished passes r ⌝ }
+{
+    Answer {
+        outcome: Outcome::Ran,
+        events,
+        count: events.count(),
+        lowest: events.lowest(),
+        atoms,
+        finished,
+        passes,
+    }
+}

@@ -1,0 +1,72 @@
+/* Checks a table, starts its program and runs three instants of it (01, "Bench list", K3), listing each as the listing program does. */
+#include <stdio.h>
+
+#include "zapper.h"
+
+/* Par(Seq(Await 0, Seq(Atom 7, Generate 1)), Await 1), two events */
+static const uint8_t table[] = {
+    4, 0, 0, 0, 0, 7, /* Par, of seven nodes */
+    3, 0, 0, 0, 0, 5, /* Seq */
+    8, 0, 0, 0, 0, 1, /* Await, configuration 0 */
+    3, 0, 0, 0, 0, 3, /* Seq */
+    2, 0, 0, 7, 0, 1, /* Atom 7 */
+    7, 0, 0, 1, 0, 1, /* Generate 1 */
+    8, 0, 0, 1, 0, 1, /* Await, configuration 1 */
+    0, 0, 0, 1,       /* event 0 */
+    0, 1, 0, 1,       /* event 1 */
+    0, 7, 0, 2, 0, 2, /* seven nodes, two configurations, two events */
+    0, 50, 0, 8,      /* back to the first node, back to the first configuration */
+};
+
+/* The numbers of a list, joined by commas; `-` if there is none. */
+static void print_events(const uint64_t *words)
+{
+    const char *before = " ";
+    for (int e = 0; e < 256; e++)
+        if (words[e / 64] >> (e % 64) & 1) {
+            printf("%s%d", before, e);
+            before = ",";
+        }
+    if (*before == ' ')
+        printf(" -");
+}
+
+static void print_atoms(const uint16_t *atoms, uint64_t count)
+{
+    const char *before = " ";
+    for (uint64_t k = 0; k < count; k++) {
+        printf("%s%u", before, (unsigned)atoms[k]);
+        before = ",";
+    }
+    if (*before == ' ')
+        printf(" -");
+}
+
+int main(void)
+{
+    static const uint64_t handed_in[3][ZAPPER_EVENT_WORDS] = {{0}, {1u << 0}, {1u << 1}};
+    uint8_t state[7 * 4];
+    uint16_t atoms[1];
+    uint64_t checked[ZAPPER_CHECK_PLACES], started[ZAPPER_START_PLACES], answer[ZAPPER_INSTANT_PLACES];
+
+    zapper_check(table, sizeof table, checked);
+    if (checked[ZAPPER_NUMBER] != 0) {
+        printf("table refused %d %d\n", (int)checked[ZAPPER_NUMBER], (int)checked[ZAPPER_INDEX]);
+        return 1;
+    }
+    printf("generations %d, atoms %d, weight %d\n", (int)checked[ZAPPER_GENERATIONS], (int)checked[ZAPPER_MOST_ATOMS], (int)checked[ZAPPER_WEIGHT]);
+
+    zapper_start(table, sizeof table, state, sizeof state, started);
+    for (int k = 0; k < 3; k++) {
+        zapper_instant(table, sizeof table, state, sizeof state, handed_in[k], atoms, sizeof atoms / sizeof atoms[0], answer);
+        if (answer[ZAPPER_NUMBER] != 0) {
+            printf("%d refused %d %d\n", k + 1, (int)answer[ZAPPER_NUMBER], (int)answer[ZAPPER_INDEX]);
+            return 1;
+        }
+        printf("%d %d %s", k + 1, (int)answer[ZAPPER_PASSES], answer[ZAPPER_FINISHED] ? "TERM" : "STOP");
+        print_events(answer + ZAPPER_EVENTS);
+        print_atoms(atoms, answer[ZAPPER_ATOMS]);
+        printf("\n");
+    }
+    return 0;
+}
