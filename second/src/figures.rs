@@ -1,0 +1,73 @@
+//! The loading figures of 01: which nodes stop, and the figures G, A and W (refusals 7 and 8).
+
+use crate::table::{Node, Refusal, Written};
+
+#[derive(Clone, Copy, Debug, PartialEq, Eq)]
+pub struct Figures {
+    pub g: u64,
+    pub a: u64,
+    pub w: u64,
+}
+
+/// The figures of a tree, meeting the refusals 7 and 8 in their order.
+pub fn load(root: &Node) -> Result<Figures, Refusal> {
+    if let Some(index) = endless_loop(root) {
+        return Err(Refusal::new(7, index));
+    }
+    let figures = Figures {
+        g: figure(root, &|form| u64::from(matches!(form, Written::Generate(_)))),
+        a: figure(root, &|form| u64::from(matches!(form, Written::Atom(_)))),
+        w: figure(root, &|_| 1),
+    };
+    if figures.g > 4094 || figures.a > 4096 || figures.w > 65_535 {
+        return Err(Refusal::new(8, 0));
+    }
+    Ok(figures)
+}
+
+/// A node stops if, freshly begun, it can't end in that same instant.
+fn stops(node: &Node) -> bool {
+    match &node.written {
+        Written::Stop | Written::Loop(_) => true,
+        Written::Nothing | Written::Atom(_) | Written::Generate(_) | Written::Await(_) => false,
+        Written::Seq(first, second) | Written::Par(first, second) => stops(first) || stops(second),
+        Written::When(_, first, second) | Written::Until(_, first, second) => stops(first) && stops(second),
+        Written::Control(_, body) | Written::Local(_, body) => stops(body),
+        Written::Repeat(count, body) => *count >= 1 && stops(body),
+    }
+}
+
+/// The lowest Loop whose body doesn't stop: the first one met, as indexes rise in reading order.
+fn endless_loop(node: &Node) -> Option<usize> {
+    match &node.written {
+        Written::Loop(body) if !stops(body) => Some(node.at),
+        Written::Nothing | Written::Stop | Written::Atom(_) | Written::Generate(_) | Written::Await(_) => None,
+        Written::Loop(body) | Written::Repeat(_, body) | Written::Control(_, body) | Written::Local(_, body) => {
+            endless_loop(body)
+        }
+        Written::Seq(first, second)
+        | Written::Par(first, second)
+        | Written::When(_, first, second)
+        | Written::Until(_, first, second) => endless_loop(first).or_else(|| endless_loop(second)),
+    }
+}
+
+/// A figure over own weights. Sums that grow too large stay at the largest number, which lies
+/// beyond every limit and still gives 0 when taken 0 times.
+fn figure(node: &Node, weight: &dyn Fn(&Written) -> u64) -> u64 {
+    let of = |child: &Node| figure(child, weight);
+    let below = match &node.written {
+        Written::Nothing | Written::Stop | Written::Atom(_) | Written::Generate(_) | Written::Await(_) => 0,
+        Written::Seq(first, second) | Written::Par(first, second) | Written::Until(_, first, second) => {
+            of(first).saturating_add(of(second))
+        }
+        Written::When(_, then, other) => of(then).max(of(other)),
+        Written::Control(_, body) | Written::Local(_, body) => of(body),
+        Written::Loop(body) => of(body).saturating_mul(2),
+        Written::Repeat(count, body) => {
+            let times = if stops(body) { (*count).min(2) } else { *count };
+            of(body).saturating_mul(u64::from(times))
+        }
+    };
+    weight(&node.written).saturating_add(below)
+}

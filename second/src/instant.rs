@@ -1,0 +1,78 @@
+//! The three calls of 01: check a table, start, and run one instant.
+
+use crate::env::{Env, Events};
+use crate::figures::{self, Figures};
+use crate::rules::{self, Actions};
+use crate::state;
+use crate::table::{self, Program, Refusal};
+use crate::term::{Flag, Term};
+
+/// What an instant answers when it isn't refused.
+#[derive(Clone, Debug, PartialEq, Eq)]
+pub struct Report {
+    pub events: Events,
+    pub atoms: usize,
+    pub finished: bool,
+    pub passes: usize,
+}
+
+/// Checks a table: refusals 1 to 8, or its figures.
+pub fn check(table: &[u8]) -> Result<Figures, Refusal> {
+    load(table).map(|(_, figures)| figures)
+}
+
+/// Makes the state fresh: refusals 1 to 9.
+pub fn start(table: &[u8], state: &mut [u8]) -> Result<(), Refusal> {
+    let (program, _) = load(table)?;
+    let room = room(&program, state)?;
+    room.fill(0);
+    Ok(())
+}
+
+/// Runs one instant: all refusals.
+pub fn instant(table: &[u8], state: &mut [u8], handed: Events, row: &mut [u16]) -> Result<Report, Refusal> {
+    let (program, figures) = load(table)?;
+    let room = room(&program, state)?;
+    if let Some(index) = state::blamed(&program.root, room) {
+        return Err(Refusal::new(10, index));
+    }
+    if let Some(event) = handed.rising().map(usize::from).find(|&event| event >= program.events) {
+        return Err(Refusal::new(11, event));
+    }
+    if (row.len() as u64) < figures.a {
+        return Err(Refusal::new(12, 0));
+    }
+    let mut actions = Actions::new();
+    let (answer, residual, events, passes) = passes(state::read(&program.root, room), handed, &mut actions);
+    state::write(&program.root, answer, &residual, room);
+    row[..actions.len()].copy_from_slice(&actions);
+    Ok(Report { events, atoms: actions.len(), finished: answer == Flag::Term, passes })
+}
+
+fn load(table: &[u8]) -> Result<(Program, Figures), Refusal> {
+    let program = table::read(table)?;
+    let figures = figures::load(&program.root)?;
+    Ok((program, figures))
+}
+
+/// The 4N bytes of the state room that the program uses, or refusal 9.
+fn room<'a>(program: &Program, state: &'a mut [u8]) -> Result<&'a mut [u8], Refusal> {
+    state.get_mut(..4 * program.root.size).ok_or(Refusal::new(9, 0))
+}
+
+/// Instant(t) of 000, 5.2: the answer, the residual, the present events and the number of passes.
+fn passes(t: Term, handed: Events, actions: &mut Actions) -> (Flag, Term, Events, usize) {
+    let mut now = t;
+    let mut e = Env { present: handed, eoi: false, moved: false };
+    let mut passes = 0;
+    loop {
+        let (answer, rest, after) = rules::run(&now, e, actions);
+        passes += 1;
+        e = match (answer, after.moved) {
+            (Flag::Stop | Flag::Term, _) => return (answer, rest, after.present, passes), // (47)
+            (Flag::Susp, false) => Env { eoi: true, ..after },                            // (48)
+            (Flag::Susp, true) => Env { moved: false, ..after },                          // (49)
+        };
+        now = rest;
+    }
+}

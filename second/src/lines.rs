@@ -1,0 +1,174 @@
+//! One call a line: reads the lines of the calls program and prints what each call answered
+//! and what the lent rooms hold afterwards.
+
+use crate::env::Events;
+use crate::instant::{self, Report};
+use crate::table::Refusal;
+use crate::words;
+
+/// A call with everything that it lends.
+#[derive(Clone, Debug, PartialEq, Eq)]
+pub enum Call {
+    Check { table: Vec<u8> },
+    Start { table: Vec<u8>, state: Vec<u8> },
+    Instant { table: Vec<u8>, state: Vec<u8>, events: Events, row: Vec<u16> },
+}
+
+/// The answer line of a line.
+pub fn answer(line: &[u8]) -> String {
+    match read(line) {
+        Some(call) => make(call),
+        None => "bad-line".to_string(),
+    }
+}
+
+/// A call as its line.
+pub fn print(call: &Call) -> String {
+    match call {
+        Call::Check { table } => format!("check {}", words::hex(table)),
+        Call::Start { table, state } => format!("start {} {}", words::hex(table), words::hex(state)),
+        Call::Instant { table, state, events, row } => format!(
+            "instant {} {} {} {}",
+            words::hex(table),
+            words::hex(state),
+            words::list(events.rising()),
+            words::hex(&words::row_bytes(row))
+        ),
+    }
+}
+
+fn read(line: &[u8]) -> Option<Call> {
+    if line.len() > 160_000 {
+        return None;
+    }
+    let words: Vec<&[u8]> = line.split(|&byte| byte == b' ').collect();
+    match words[..] {
+        [b"check", table] => Some(Call::Check { table: read_table(table)? }),
+        [b"start", table, state] => Some(Call::Start { table: read_table(table)?, state: read_state(state)? }),
+        [b"instant", table, state, events, row] => Some(Call::Instant {
+            table: read_table(table)?,
+            state: read_state(state)?,
+            events: read_events(events)?,
+            row: read_row(row)?,
+        }),
+        _ => None,
+    }
+}
+
+fn read_table(word: &[u8]) -> Option<Vec<u8>> {
+    words::read_hex(word).filter(|table| table.len() <= 33_000)
+}
+
+fn read_state(word: &[u8]) -> Option<Vec<u8>> {
+    words::read_hex(word).filter(|state| state.len() <= 17_000)
+}
+
+fn read_row(word: &[u8]) -> Option<Vec<u16>> {
+    let bytes = words::read_hex(word).filter(|bytes| bytes.len() % 2 == 0 && bytes.len() / 2 <= 4_200)?;
+    Some(bytes.chunks(2).map(|pair| u16::from_be_bytes([pair[0], pair[1]])).collect())
+}
+
+fn read_events(word: &[u8]) -> Option<Events> {
+    if word == b"-" {
+        return Some(Events::none());
+    }
+    word.split(|&byte| byte == b',').map(words::event).collect()
+}
+
+/// Makes the call and prints its answer.
+fn make(call: Call) -> String {
+    match call {
+        Call::Check { table } => match instant::check(&table) {
+            Ok(figures) => format!("0 0 {} {} {}", figures.g, figures.a, figures.w),
+            Err(Refusal { number, index }) => format!("{number} {index} 0 0 0"),
+        },
+        Call::Start { table, mut state } => {
+            let Refusal { number, index } = instant::start(&table, &mut state).err().unwrap_or(Refusal::new(0, 0));
+            format!("{number} {index} {}", words::hex(&state))
+        }
+        Call::Instant { table, mut state, events, mut row } => {
+            let answer = instant::instant(&table, &mut state, events, &mut row);
+            let Refusal { number, index } = answer.as_ref().err().copied().unwrap_or(Refusal::new(0, 0));
+            let refused = Report { events: Events::none(), atoms: 0, finished: false, passes: 0 };
+            let report = answer.unwrap_or(refused);
+            format!(
+                "{number} {index} {} {} {} {} {} {} {} {}",
+                words::list(report.events.rising()),
+                report.events.rising().count(),
+                report.events.rising().next().map_or(256, usize::from),
+                report.atoms,
+                u8::from(report.finished),
+                report.passes,
+                words::hex(&state),
+                words::hex(&words::row_bytes(&row))
+            )
+        }
+    }
+}
+
+#[cfg(test)]
+mod tests {
+    use super::*;
+
+    /// K1's table: a lone Nothing.
+    const NOTHING: &str = "00000000000100010000000100060000";
+
+    fn says(line: &str, wanted: &str) {
+        assert_eq!(answer(line.as_bytes()), wanted, "{line}");
+    }
+
+    #[test]
+    fn good_lines() {
+        says(&format!("check {NOTHING}"), "0 0 0 0 1");
+        says("check -", "1 0 0 0 0");
+        says(&format!("start {NOTHING} 0102030405"), "0 0 0000000005");
+        says(&format!("start {NOTHING} 010203"), "9 0 010203");
+        says(&format!("start {NOTHING} -"), "9 0 -");
+        says(&format!("instant {NOTHING} 00000000ff 0,0 -"), "0 0 0 1 0 0 1 1 03000000ff -");
+        says(&format!("instant {NOTHING} 00000000 - 0007"), "0 0 - 0 256 0 1 1 03000000 0007");
+        says(&format!("instant {NOTHING} 00000000 3,0,1 0007"), "11 1 - 0 256 0 0 0 00000000 0007");
+    }
+
+    #[test]
+    fn bad_lines() {
+        for line in ["", "check", "check  -", " check -", "check - ", "check - -", "Check -", "check 0", "check 0G"] {
+            says(line, "bad-line");
+        }
+        for line in ["start -", "start - - -", "instant - - -", "instant - - - - -", "instant - -  -", "check -\r"] {
+            says(line, "bad-line");
+        }
+        for events in ["", ",", "0,", ",0", "00", "256", "0,,1", "0 1", "-,0", "+1"] {
+            says(&format!("instant - - {events} -"), "bad-line");
+        }
+        for row in ["", "00", "0", "000000", "000G"] {
+            says(&format!("instant - - - {row}"), "bad-line");
+        }
+    }
+
+    #[test]
+    fn limits_of_a_line() {
+        let zeros = |bytes: usize| "00".repeat(bytes);
+        says(&format!("check {}", zeros(33_000)), "1 0 0 0 0");
+        says(&format!("check {}", zeros(33_001)), "bad-line");
+        says(&format!("start - {}", zeros(17_000)), &format!("1 0 {}", zeros(17_000)));
+        says(&format!("start - {}", zeros(17_001)), "bad-line");
+        says(&format!("instant - - - {}", zeros(8_400)), &format!("1 0 - 0 256 0 0 0 - {}", zeros(8_400)));
+        says(&format!("instant - - - {}", zeros(8_402)), "bad-line");
+        // The events may be as many as the line holds: 12 + 159,986 + 2 bytes are 160,000.
+        let many = ",10".repeat(53_328);
+        says(&format!("instant - - 10{many} -"), "1 0 - 0 256 0 0 0 - -");
+        says(&format!("instant - - 100{many} -"), "bad-line");
+    }
+
+    #[test]
+    fn a_call_reads_as_it_is_printed() {
+        let call = Call::Instant {
+            table: vec![1, 2],
+            state: vec![],
+            events: [3, 200].into_iter().collect(),
+            row: vec![7, 65_535],
+        };
+        assert_eq!(print(&call), "instant 0102 - 3,200 0007ffff");
+        assert_eq!(read(print(&call).as_bytes()), Some(call));
+    }
+}

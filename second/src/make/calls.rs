@@ -1,0 +1,165 @@
+//! Random call lines: conversations of instants, damaged tables and states, odd rooms, bad lines.
+
+use super::draft::Records;
+use super::random::Random;
+use super::{grow, harm, limits, rest};
+use crate::env::Events;
+use crate::figures::Figures;
+use crate::instant;
+use crate::lines::{print, Call};
+use crate::table::{self, Program};
+
+/// As many lines as asked for, the same for the same seed.
+pub fn lines(cases: usize, seed: u64) -> impl Iterator<Item = String> {
+    let mut maker = Maker { r: Random::new(seed), talk: None };
+    (0..cases).map(move |_| maker.line())
+}
+
+struct Maker {
+    r: Random,
+    talk: Option<Talk>,
+}
+
+/// A table under way and the state it has come to.
+struct Talk {
+    table: Vec<u8>,
+    program: Program,
+    figures: Figures,
+    state: Vec<u8>,
+}
+
+impl Maker {
+    fn line(&mut self) -> String {
+        match self.r.weigh(&[6, 12, 4, 7, 65, 3, 3]) {
+            0 => print(&Call::Check { table: grow::program(&mut self.r).bytes() }),
+            1 => print(&Call::Check { table: self.damaged_table() }),
+            2 => print(&Call::Check { table: limits::near(&mut self.r).bytes() }),
+            3 => self.start(),
+            4 => print(&self.instant()),
+            5 => self.damaged_instant(),
+            _ => self.bad_line(),
+        }
+    }
+
+    fn damaged_table(&mut self) -> Vec<u8> {
+        let records = grow::program(&mut self.r);
+        harm::damaged(&mut self.r, records)
+    }
+
+    fn start(&mut self) -> String {
+        let table = if self.r.chance(80) { grow::program(&mut self.r).bytes() } else { self.damaged_table() };
+        let nodes = table::read(&table).map_or(3, |program| program.root.size);
+        let length = match self.r.weigh(&[40, 30, 20, 10]) {
+            0 => 4 * nodes,
+            1 => 4 * nodes + self.r.between(1, 9),
+            2 => 4 * nodes - 1,
+            _ => self.r.below(4 * nodes),
+        };
+        let state = self.r.bytes(length);
+        print(&Call::Start { table, state })
+    }
+
+    /// An instant of a good table: mostly the next one of a conversation.
+    fn instant(&mut self) -> Call {
+        let mut talk = match self.talk.take() {
+            Some(talk) if self.r.chance(80) => talk,
+            _ => self.begin(),
+        };
+        let mut state = match self.r.weigh(&[55, 33, 12]) {
+            0 => talk.state.clone(),
+            1 => rest::state(&mut self.r, &talk.program.root),
+            _ => {
+                let mut state = rest::state(&mut self.r, &talk.program.root);
+                rest::damage(&mut self.r, &mut state, talk.program.root.size);
+                state
+            }
+        };
+        match self.r.weigh(&[70, 26, 4]) {
+            0 => {}
+            1 => {
+                let more = self.r.between(1, 6);
+                state.extend(self.r.bytes(more));
+            }
+            _ => state.truncate(self.r.below(state.len())),
+        }
+        let events = self.events(talk.program.events);
+        let places = match self.r.weigh(&[50, 46, 4]) {
+            0 => talk.figures.a as usize,
+            1 => talk.figures.a as usize + self.r.between(1, 3),
+            _ => (talk.figures.a as usize).saturating_sub(1),
+        };
+        let row: Vec<u16> = (0..places).map(|_| self.r.below(65_536) as u16).collect();
+
+        // The conversation goes on from what the instant leaves, unless it was refused or is over.
+        let mut after = state.clone();
+        let report = instant::instant(&talk.table, &mut after, events, &mut row.clone());
+        let table = talk.table.clone();
+        if report.is_ok_and(|report| !report.finished || self.r.chance(20)) {
+            after.truncate(talk.state.len());
+            talk.state = after;
+            self.talk = Some(talk);
+        }
+        Call::Instant { table, state, events, row }
+    }
+
+    /// A conversation over a random program that is accepted and writes few atoms.
+    fn begin(&mut self) -> Talk {
+        loop {
+            let table = grow::program(&mut self.r).bytes();
+            if let (Ok(program), Ok(figures)) = (table::read(&table), instant::check(&table)) {
+                if figures.a <= 60 || self.r.chance(2) {
+                    let state = vec![0; 4 * program.root.size];
+                    return Talk { table, program, figures, state };
+                }
+            }
+        }
+    }
+
+    /// Events to hand in, seldom one at or above V.
+    fn events(&mut self, v: usize) -> Events {
+        let likely = *self.r.pick(&[0, 15, 35, 60]);
+        let mut events: Events = (0..v.min(8) as u8).filter(|_| self.r.chance(likely)).collect();
+        if v > 8 && self.r.chance(50) {
+            events = events.with(self.r.below(v) as u8);
+        }
+        if v < 256 && self.r.chance(4) {
+            events = events.with(v as u8);
+        }
+        if self.r.chance(2) {
+            events = events.with(self.r.byte());
+        }
+        events
+    }
+
+    /// An instant of a damaged table, in rooms that would do for the sound one.
+    fn damaged_instant(&mut self) -> String {
+        let records: Records = grow::program(&mut self.r);
+        let state = vec![0; 4 * records.nodes.len()];
+        let row = vec![0; self.r.below(30)];
+        let events = self.events(usize::from(records.events));
+        print(&Call::Instant { table: harm::damaged(&mut self.r, records), state, events, row })
+    }
+
+    /// A line that was good before one change; a few changes leave it good.
+    fn bad_line(&mut self) -> String {
+        let line = print(&self.instant());
+        let mut words: Vec<String> = line.split(' ').map(str::to_string).collect();
+        let place = self.r.below(words.len());
+        match self.r.below(10) {
+            0 => words[place].push(' '),
+            1 => words[place].insert(0, ' '),
+            2 => words[place] = words[place].to_uppercase(),
+            3 => words[place].push('0'),
+            4 => words[place].push('\r'),
+            5 => words[place].clear(),
+            6 => drop(words.remove(place)),
+            7 => words.insert(place, "-".to_string()),
+            8 => {
+                words[3] =
+                    self.r.pick(&["256", "00", "1,", ",1", "1,,2", "01", "+1", "1;2", "0,0", "3,1,3"]).to_string()
+            }
+            _ => words[0] = self.r.pick(&["check", "start", "Instant", "run", "instants"]).to_string(),
+        }
+        words.join(" ")
+    }
+}

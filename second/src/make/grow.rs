@@ -1,0 +1,209 @@
+//! Random programs, biased to few events that many forms share.
+
+use super::draft::short::*;
+use super::draft::{Cond, Draft, Records};
+use super::random::Random;
+
+/// What a program is grown from.
+struct Ground<'a> {
+    r: &'a mut Random,
+    /// V.
+    events: usize,
+    /// The conditions that tests choose from, so that several tests ask the same.
+    conds: Vec<Cond>,
+}
+
+/// A random program as records, mostly of an acceptable table.
+pub fn program(r: &mut Random) -> Records {
+    let lasting = r.chance(15);
+    records(r, lasting)
+}
+
+/// A random program that never ends.
+pub fn lasting(r: &mut Random) -> Records {
+    records(r, true)
+}
+
+fn records(r: &mut Random, lasting: bool) -> Records {
+    let events = match r.weigh(&[10, 30, 25, 15, 10, 6, 4]) {
+        5 => r.between(6, 20),
+        6 => r.between(21, 256),
+        few => few + 1,
+    };
+    let conds = (0..r.between(1, 5)).map(|_| cond(r, events, 3)).collect();
+    let nodes = match r.weigh(&[12, 40, 34, 12, 2]) {
+        0 => r.between(1, 3),
+        1 => r.between(4, 10),
+        2 => r.between(11, 25),
+        3 => r.between(26, 60),
+        _ => r.between(61, 160),
+    };
+    let mut ground = Ground { r, events, conds };
+    let program = match ground.r.weigh(&[50, 10, 32, 8]) {
+        0 => ground.draft(nodes),
+        1 => ground.chain(nodes / 5 + 1),
+        2 => ground.dominoes(nodes / 4),
+        _ => ground.stopping(nodes),
+    };
+    let program = if lasting { forever(seq(program, stop())) } else { program };
+    let events = ground.events;
+    let mut records =
+        if r.chance(70) { Records::sharing(events as u16, &program) } else { Records::new(events as u16, &program) };
+    if r.chance(15) {
+        // Configurations that no test names.
+        let unused = cond(r, events, 4);
+        records.put_cond(&unused);
+    }
+    records
+}
+
+/// A random condition of at most this height.
+pub fn cond(r: &mut Random, events: usize, height: usize) -> Cond {
+    if height <= 1 || r.chance(35) {
+        return event(r.below(events) as u8);
+    }
+    match r.below(3) {
+        0 => not(cond(r, events, height - 1)),
+        1 => and(cond(r, events, height - 1), cond(r, events, height - 1)),
+        _ => or(cond(r, events, height - 1), cond(r, events, height - 1)),
+    }
+}
+
+impl Ground<'_> {
+    fn event(&mut self) -> u16 {
+        // Low events more often, so that forms meet.
+        let bound = if self.r.chance(60) { self.events.min(3) } else { self.events };
+        self.r.below(bound) as u16
+    }
+
+    fn test(&mut self) -> Cond {
+        if self.r.chance(40) {
+            let s = self.event();
+            event(s as u8)
+        } else {
+            self.r.pick(&self.conds).clone()
+        }
+    }
+
+    fn leaf(&mut self) -> Draft {
+        match self.r.weigh(&[6, 14, 22, 30, 28]) {
+            0 => nothing(),
+            1 => stop(),
+            2 => self.atom(),
+            3 => generate(self.event()),
+            _ => wait(self.test()),
+        }
+    }
+
+    fn atom(&mut self) -> Draft {
+        atom(if self.r.chance(90) { self.r.below(100) as u16 } else { self.r.below(65_536) as u16 })
+    }
+
+    fn count(&mut self) -> u16 {
+        match self.r.weigh(&[8, 22, 30, 20, 12, 6, 2]) {
+            5 => self.r.between(5, 12) as u16,
+            6 => self.r.between(13, 400) as u16,
+            count => count as u16,
+        }
+    }
+
+    /// Any program of about this many nodes.
+    fn draft(&mut self, nodes: usize) -> Draft {
+        if nodes <= 1 || self.r.chance(4) {
+            return self.leaf();
+        }
+        let one = nodes - 1;
+        let (two, rest) = self.split(one);
+        match self.r.weigh(&[24, 28, 7, 9, 8, 10, 7, 9]) {
+            0 => seq(self.draft(two), self.draft(rest)),
+            1 => par(self.draft(two), self.draft(rest)),
+            // Now and then a body that doesn't stop.
+            2 => forever(if self.r.chance(12) { self.draft(one) } else { self.stopping(one) }),
+            3 => repeat(self.count(), self.draft(one)),
+            4 => when(self.test(), self.draft(two), self.draft(rest)),
+            5 => until(self.test(), self.draft(two), self.draft(rest)),
+            6 => control(self.event(), self.draft(one)),
+            _ => local(self.event(), self.draft(one)),
+        }
+    }
+
+    /// A program that can't end in the instant in which it is begun.
+    fn stopping(&mut self, nodes: usize) -> Draft {
+        if nodes <= 1 {
+            return stop();
+        }
+        let one = nodes - 1;
+        let (two, rest) = self.split(one);
+        match self.r.weigh(&[24, 14, 14, 8, 7, 7, 7, 7, 7, 5]) {
+            0 => seq(self.draft(two), self.stopping(rest)),
+            1 => seq(self.stopping(two), self.draft(rest)),
+            2 => par(self.draft(two), self.stopping(rest)),
+            3 => par(self.stopping(two), self.draft(rest)),
+            4 => forever(self.stopping(one)),
+            5 => repeat(self.count().max(1), self.stopping(one)),
+            6 => when(self.test(), self.stopping(two), self.stopping(rest)),
+            7 => until(self.test(), self.stopping(two), self.stopping(rest)),
+            8 => control(self.event(), self.stopping(one)),
+            _ => local(self.event(), self.stopping(one)),
+        }
+    }
+
+    /// Branches that wake each other, often against the order in which a pass runs them.
+    fn chain(&mut self, links: usize) -> Draft {
+        let mut whole = self.leaf();
+        for _ in 0..links {
+            let reaction = match self.r.below(4) {
+                0 => generate(self.event()),
+                1 => seq(self.atom(), generate(self.event())),
+                2 => until(self.test(), self.stopping(2), seq(self.atom(), generate(self.event()))),
+                _ => when(self.test(), generate(self.event()), self.leaf()),
+            };
+            let link = seq(wait(self.test()), reaction);
+            whole = if self.r.chance(70) { par(whole, link) } else { par(link, whole) };
+            if self.r.chance(20) {
+                whole = local(self.event(), whole);
+            }
+        }
+        whole
+    }
+
+    /// Branches of which each wakes the next by an event of its own, so that an instant takes many passes
+    /// while tests, scopes and bodies are held in between.
+    fn dominoes(&mut self, links: usize) -> Draft {
+        self.events = self.events.max(links + 1).min(256);
+        let mut whole = if self.r.chance(50) { generate(0) } else { self.leaf() };
+        for link in 0..links.min(255) {
+            let (wake, next) = (event(link as u8), generate(link as u16 + 1));
+            let next = match self.r.below(10) {
+                0..=4 => next,
+                5..=8 => seq(self.atom(), next),
+                _ => seq(self.leaf(), next),
+            };
+            let link = match self.r.weigh(&[30, 14, 14, 14, 14, 4, 10]) {
+                0 => seq(wait(wake), next),
+                1 => control(link as u16, seq(next, self.leaf())),
+                2 => when(wake, next, self.leaf()),
+                3 => until(wake, self.stopping(3), next),
+                4 => local(self.event(), par(seq(wait(wake), next), self.leaf())),
+                5 => local(link as u16 + 1, par(seq(wait(wake), seq(next, self.leaf())), wait(event(link as u8 + 1)))),
+                _ => seq(wait(or(wake, self.test())), seq(next, self.stopping(2))),
+            };
+            whole = if self.r.chance(75) { par(link, whole) } else { par(whole, link) };
+            whole = match self.r.below(24) {
+                0 => local(self.event(), whole),
+                1 => until(self.test(), whole, self.leaf()),
+                2 => seq(whole, self.leaf()),
+                3 => repeat(2, whole),
+                4 => forever(seq(whole, stop())),
+                _ => whole,
+            };
+        }
+        whole
+    }
+
+    /// Divides nodes among two children, each at least one.
+    fn split(&mut self, nodes: usize) -> (usize, usize) {
+        let first = self.r.between(1, nodes.max(2) - 1);
+        (first, nodes.saturating_sub(first).max(1))
+    }
+}

@@ -1,0 +1,90 @@
+//! Damaged tables: records with wrong numbers, flipped bits, cuts and additions.
+
+use super::draft::Records;
+use super::random::Random;
+
+/// The bytes of a table that is damaged in one or two ways. Most, not all, are refused.
+pub fn damaged(r: &mut Random, mut records: Records) -> Vec<u8> {
+    let ways = if r.chance(75) { 1 } else { 2 };
+    for _ in 0..ways {
+        if r.chance(55) {
+            records = in_a_record(r, records);
+        } else {
+            let mut bytes = records.bytes();
+            in_the_bytes(r, &mut bytes);
+            return bytes;
+        }
+    }
+    records.bytes()
+}
+
+/// Writes a wrong number into one record, or exchanges two.
+fn in_a_record(r: &mut Random, mut records: Records) -> Records {
+    let (n, m) = (records.nodes.len(), records.configs.len());
+    if m > 0 && r.chance(40) {
+        let other = r.below(m);
+        let config = &mut records.configs[r.below(m)];
+        match r.below(4) {
+            0 => config.kind = r.below(6) as u8,
+            1 => config.event = near(r, records.events) as u8,
+            2 => config.size = near(r, config.size),
+            _ => records.configs.swap(0, other),
+        }
+    } else {
+        let other = r.below(n);
+        let limit = if r.chance(50) { records.events } else { m as u16 };
+        let node = &mut records.nodes[r.below(n)];
+        match r.below(6) {
+            0 => node.kind = r.below(15) as u8,
+            1 => node.zero = r.byte(),
+            2 => node.argument = near(r, node.argument),
+            3 => node.argument = near(r, limit),
+            4 => node.size = near(r, node.size),
+            _ => records.nodes.swap(0, other),
+        }
+    }
+    records
+}
+
+/// A number at or near another, or at an end of the range.
+fn near(r: &mut Random, number: u16) -> u16 {
+    match r.below(8) {
+        0 | 1 => number.wrapping_add(1),
+        2 | 3 => number.wrapping_sub(1),
+        4 => number,
+        5 => 0,
+        6 => 65_535,
+        _ => r.below(300) as u16,
+    }
+}
+
+/// Flips, changes, cuts or adds bytes anywhere, often in the trailer.
+fn in_the_bytes(r: &mut Random, bytes: &mut Vec<u8>) {
+    let length = bytes.len();
+    match r.weigh(&[25, 25, 20, 10, 10, 10]) {
+        0 => {
+            let place = r.below(length);
+            bytes[place] ^= 1 << r.below(8);
+        }
+        1 => {
+            let place = r.below(length);
+            bytes[place] = r.below(16) as u8;
+        }
+        2 => {
+            let place = length - 10 + 2 * r.below(5);
+            let number = near(r, u16::from_be_bytes([bytes[place], bytes[place + 1]]));
+            bytes[place..place + 2].copy_from_slice(&number.to_be_bytes());
+        }
+        3 => bytes.truncate(r.below(length)),
+        4 => {
+            let cut = r.between(1, length.min(12));
+            bytes.drain(..cut);
+        }
+        _ => {
+            let added = r.between(1, 8);
+            let more = r.bytes(added);
+            let place = if r.chance(50) { 0 } else { length };
+            bytes.splice(place..place, more);
+        }
+    }
+}

@@ -1,0 +1,216 @@
+//! The rewriting rules of 000, each with its number beside it, with what 01 settles:
+//! Par with two suspended branches merges (rule 8), Control keeps its body's environment,
+//! Until* that is false stops at any time, and a node that answers TERM leaves Nothing.
+
+use crate::config::Config;
+use crate::env::Env;
+use crate::term::{Flag, Form, Term};
+use std::rc::Rc;
+
+/// The row of actions that atoms have executed, in order.
+pub type Actions = Vec<u16>;
+
+/// What a rule concludes.
+enum Conclusion {
+    /// A flag, a residual and an environment.
+    Says(Flag, Term, Env),
+    /// What its last premise concludes, which runs this term in this environment.
+    AsRunning(Term, Env),
+}
+use Conclusion::{AsRunning, Says};
+
+/// Rewrites a term once: t, E -> t', E' with a flag.
+pub fn run(t: &Term, e: Env, actions: &mut Actions) -> (Flag, Term, Env) {
+    let mut next = step(t, e, actions);
+    loop {
+        match next {
+            AsRunning(u, e) => next = step(&u, e, actions),
+            Says(Flag::Term, _, e) => return (Flag::Term, t.becomes(Form::Gone), e),
+            Says(flag, rest, e) => return (flag, rest, e),
+        }
+    }
+}
+
+/// Applies the one rule that fits the term and the environment.
+fn step(t: &Term, e: Env, actions: &mut Actions) -> Conclusion {
+    match &*t.form {
+        Form::Nothing | Form::Gone => Says(Flag::Term, t.clone(), e), // (1)
+        Form::Stop => Says(Flag::Stop, t.becomes(Form::Gone), e),     // (2)
+        Form::Atom(a) => {
+            actions.push(*a);
+            Says(Flag::Term, t.becomes(Form::Gone), e) // (3)
+        }
+        Form::Seq(first, second) => seq(t, first, second, e, actions),
+        Form::Par(a, b, first, second) => par(t, (*a, *b), first, second, e, actions),
+        Form::Loop(body) => repeat_for_ever(t, body, e, actions),
+        Form::Repeat(n, body) => repeat(t, *n, body, e),
+        Form::Generate(s) => {
+            let e = Env { present: e.present.with(*s), moved: true, ..e };
+            Says(Flag::Term, t.becomes(Form::Gone), e) // (16)
+        }
+        Form::Await(c) => wait(t, c, e),
+        Form::When(c, then, other) => when(t, c, then, other, e),
+        Form::Until(c, body, handler) => until(t, c, body, handler, e, actions),
+        Form::UntilStar(c, body, handler) => until_star(t, c, body, handler, e),
+        Form::Control(s, body) => control(t, *s, body, e, actions),
+        Form::LocalMinus(s, body) => local_minus(t, *s, body, e, actions),
+        Form::LocalPlus(s, body) => local_plus(t, *s, body, e, actions),
+    }
+}
+
+fn seq(t: &Term, first: &Term, second: &Term, e: Env, actions: &mut Actions) -> Conclusion {
+    match run(first, e, actions) {
+        (Flag::Term, _, e1) => AsRunning(second.clone(), e1), // (4)
+        (a, rest, e1) => Says(a, t.becomes(Form::Seq(rest, second.clone())), e1), // (5)
+    }
+}
+
+fn par(t: &Term, flags: (Flag, Flag), first: &Term, second: &Term, e: Env, actions: &mut Actions) -> Conclusion {
+    let (a, first, b, second, e) = match flags {
+        // (8), Merge: the first branch, then the second.
+        (Flag::Susp, Flag::Susp) => {
+            let (a, rest1, e1) = run(first, e, actions);
+            let (b, rest2, e2) = run(second, e1, actions);
+            (a, rest1, b, rest2, e2)
+        }
+        // (10): only the first branch is suspended.
+        (Flag::Susp, b) => {
+            let (a, rest, e1) = run(first, e, actions);
+            (a, rest, b, second.clone(), e1)
+        }
+        // (11): only the second branch is suspended.
+        (a, Flag::Susp) => {
+            let (b, rest, e1) = run(second, e, actions);
+            (a, first.clone(), b, rest, e1)
+        }
+        _ => unreachable!("no rule runs a Par without a suspended branch"),
+    };
+    Says(gamma(a, b), t.becomes(Form::Par(delta1(a, b), delta2(a, b), first, second)), e)
+}
+
+/// The joined flag (000, 2.4).
+fn gamma(a: Flag, b: Flag) -> Flag {
+    if a == Flag::Susp || b == Flag::Susp {
+        Flag::Susp
+    } else if a == Flag::Term && b == Flag::Term {
+        Flag::Term
+    } else {
+        Flag::Stop
+    }
+}
+
+/// The first branch's new flag (000, 2.4).
+fn delta1(a: Flag, b: Flag) -> Flag {
+    if a == Flag::Stop && (b == Flag::Stop || b == Flag::Term) {
+        Flag::Susp
+    } else {
+        a
+    }
+}
+
+/// The second branch's new flag (000, 2.4).
+fn delta2(a: Flag, b: Flag) -> Flag {
+    if b == Flag::Stop && (a == Flag::Stop || a == Flag::Term) {
+        Flag::Susp
+    } else {
+        b
+    }
+}
+
+fn repeat_for_ever(t: &Term, body: &Term, e: Env, actions: &mut Actions) -> Conclusion {
+    match run(body, e, actions) {
+        (Flag::Term, _, e1) => AsRunning(t.clone(), e1), // (13), in E' as 001 prints it
+        (a, rest, e1) => Says(a, t.becomes(Form::Seq(rest, t.clone())), e1), // (12)
+    }
+}
+
+fn repeat(t: &Term, n: u16, body: &Term, e: Env) -> Conclusion {
+    if n == 0 {
+        return Says(Flag::Term, t.becomes(Form::Gone), e); // (14)
+    }
+    let fewer = t.becomes(Form::Repeat(n - 1, body.clone()));
+    AsRunning(t.becomes(Form::Seq(body.clone(), fewer)), e) // (15)
+}
+
+fn when(t: &Term, c: &Rc<Config>, then: &Term, other: &Term, e: Env) -> Conclusion {
+    if c.sat(e) && !e.eoi {
+        AsRunning(then.clone(), e) // (17)
+    } else if c.sat(e) {
+        Says(Flag::Stop, then.clone(), e) // (18)
+    } else if c.unsat(e) && !e.eoi {
+        AsRunning(other.clone(), e) // (19)
+    } else if c.unsat(e) {
+        Says(Flag::Stop, other.clone(), e) // (20)
+    } else {
+        Says(Flag::Susp, t.clone(), e) // (21)
+    }
+}
+
+fn wait(t: &Term, c: &Rc<Config>, e: Env) -> Conclusion {
+    if c.sat(e) && !e.eoi {
+        Says(Flag::Term, t.becomes(Form::Gone), e) // (22)
+    } else if c.sat(e) {
+        Says(Flag::Stop, t.becomes(Form::Gone), e) // (23)
+    } else if c.unsat(e) {
+        Says(Flag::Stop, t.clone(), e) // (24)
+    } else {
+        Says(Flag::Susp, t.clone(), e) // (25)
+    }
+}
+
+fn control(t: &Term, s: u8, body: &Term, e: Env, actions: &mut Actions) -> Conclusion {
+    let event = Config::Event(s);
+    if event.sat(e) {
+        let (a, rest, e1) = run(body, e, actions);
+        Says(a, t.becomes(Form::Control(s, rest)), e1) // (26), keeping E' as 001 does
+    } else if event.unsat(e) {
+        Says(Flag::Stop, t.clone(), e) // (27)
+    } else {
+        Says(Flag::Susp, t.clone(), e) // (28)
+    }
+}
+
+fn until(t: &Term, c: &Rc<Config>, body: &Term, handler: &Term, e: Env, actions: &mut Actions) -> Conclusion {
+    let (a, rest, e1) = run(body, e, actions);
+    if a == Flag::Stop {
+        let star = t.becomes(Form::UntilStar(c.clone(), rest, handler.clone()));
+        AsRunning(star, e1) // (30)
+    } else {
+        Says(a, t.becomes(Form::Until(c.clone(), rest, handler.clone())), e1) // (29)
+    }
+}
+
+fn until_star(t: &Term, c: &Rc<Config>, body: &Term, handler: &Term, e: Env) -> Conclusion {
+    if c.sat(e) && !e.eoi {
+        AsRunning(handler.clone(), e) // (31)
+    } else if c.sat(e) {
+        Says(Flag::Stop, handler.clone(), e) // (32)
+    } else if c.unsat(e) {
+        // (33), before the end too, as 001 has it
+        Says(Flag::Stop, t.becomes(Form::Until(c.clone(), body.clone(), handler.clone())), e)
+    } else {
+        Says(Flag::Susp, t.clone(), e) // (34)
+    }
+}
+
+fn local_minus(t: &Term, s: u8, body: &Term, e: Env, actions: &mut Actions) -> Conclusion {
+    let inside = Env { present: e.present.without(s), ..e };
+    let (a, rest, e1) = run(body, inside, actions);
+    let form = if a == Flag::Susp && e1.present.has(s) {
+        Form::LocalPlus(s, rest) // (36)
+    } else {
+        Form::LocalMinus(s, rest) // (35), (38)
+    };
+    Says(a, t.becomes(form), Env { present: e1.present.as_in(e.present, s), ..e1 })
+}
+
+fn local_plus(t: &Term, s: u8, body: &Term, e: Env, actions: &mut Actions) -> Conclusion {
+    let inside = Env { present: e.present.with(s), ..e };
+    let (a, rest, e1) = run(body, inside, actions);
+    let form = if a == Flag::Susp {
+        Form::LocalPlus(s, rest) // (37)
+    } else {
+        Form::LocalMinus(s, rest) // (39)
+    };
+    Says(a, t.becomes(form), Env { present: e1.present.as_in(e.present, s), ..e1 })
+}

@@ -1,0 +1,80 @@
+//! Tests typed in from the documents: the bench list, the readings taken, the listing, and laws over random calls.
+
+mod bench;
+mod laws;
+mod listings;
+mod readings;
+mod rules;
+
+use crate::env::Events;
+use crate::figures::Figures;
+use crate::instant::{self, Report};
+use crate::make::draft::{Draft, Records};
+use crate::table::Refusal;
+
+/// A table under way, with an atom row and a state of its own.
+struct Play {
+    table: Vec<u8>,
+    state: Vec<u8>,
+    atoms: Vec<u16>,
+}
+
+impl Play {
+    /// Starts a program over V events.
+    fn new(events: u16, program: Draft) -> Play {
+        Play::of(&Records::new(events, &program))
+    }
+
+    fn of(records: &Records) -> Play {
+        let table = records.bytes();
+        let mut state = vec![0xee; 4 * records.nodes.len()];
+        assert_eq!(instant::start(&table, &mut state), Ok(()));
+        Play { table, state, atoms: vec![] }
+    }
+
+    /// Goes on from a state in which each of these bytes stands.
+    fn from(events: u16, program: Draft, cells: &[(usize, u8)]) -> Play {
+        let mut play = Play::new(events, program);
+        for &(place, value) in cells {
+            play.state[place] = value;
+        }
+        play
+    }
+
+    fn call(&mut self, events: &[u8]) -> Result<Report, Refusal> {
+        let mut row = vec![0; 4096];
+        let answer = instant::instant(&self.table, &mut self.state, set(events), &mut row);
+        self.atoms = row[..answer.as_ref().map_or(0, |report| report.atoms)].to_vec();
+        answer
+    }
+
+    /// Runs an instant that must take these passes, answer this flag, and leave these events and atoms.
+    fn instant(&mut self, handed: &[u8], passes: usize, answer: &str, events: &[u8], atoms: &[u16]) {
+        let report = self.call(handed).expect("no refusal");
+        let flag = if report.finished { "TERM" } else { "STOP" };
+        let present: Vec<u8> = report.events.rising().collect();
+        assert_eq!((report.passes, flag, &present[..], &self.atoms[..]), (passes, answer, events, atoms));
+    }
+
+    /// The phase of each node.
+    fn phases(&self) -> Vec<u8> {
+        self.state.iter().step_by(4).copied().collect()
+    }
+}
+
+fn set(events: &[u8]) -> Events {
+    events.iter().copied().collect()
+}
+
+/// Checks a program over V events.
+fn check(events: u16, program: Draft) -> Result<Figures, Refusal> {
+    instant::check(&Records::new(events, &program).bytes())
+}
+
+fn figures(g: u64, a: u64, w: u64) -> Result<Figures, Refusal> {
+    Ok(Figures { g, a, w })
+}
+
+fn refused<T>(number: u8, index: usize) -> Result<T, Refusal> {
+    Err(Refusal::new(number, index))
+}
