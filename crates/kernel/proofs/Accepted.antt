@@ -21,9 +21,9 @@ use Rattle.table.specs.Spells.{Spells, treeOf}
 use Rattle.table.specs.Verdict.{lengthGood, countsGood, distancesGood, Node, preorder, firstSuch, deep, endless}
 use Rattle.table.specs.Verdict.{light, programVerdict, nodesVerdict, recordsVerdict, verdictOf, numberOf}
 use Rattle.table.specs.Inside.{Framed, ConfigurationsGood}
-use Rattle.runner.specs.Running.{Loaded, Placed}
-use Rattle.runner.proofs.Frames.{written}
-use Rattle.runner.proofs.LoadedNode.{root-size}
+use Rattle.steps.specs.Running.{Loaded, Placed}
+use Rattle.steps.proofs.Frames.{written}
+use Rattle.steps.proofs.LoadedNode.{root-size}
 use Rattle.table.proofs.Grown.{spells-tree}
 
 -- where two answers are chosen from and one can't be meant, it was the other

@@ -11,7 +11,7 @@ use Rattle.junior.specs.Term.{Term, prog}
 use Rattle.junior.specs.AtRest.{AtRest}
 use Rattle.table.specs.Records.{nodes}
 use Rattle.table.specs.Spells.{treeOf}
-use Rattle.runner.specs.StateBytes.{stateBytes}
+use Rattle.steps.specs.StateBytes.{stateBytes}
 use Rattle.kernel.specs.declared.Outcome.the-variants.{Ran}
 use Rattle.kernel.specs.declared.Answer.{Answer}
 use Rattle.kernel.specs.Resting.{blamed}

@@ -26,8 +26,8 @@ use Rattle.table.specs.Good.{goodConfiguration}
 use Rattle.table.specs.Spells.{form, configurationOf, programOf, treeOf}
 use Rattle.table.specs.Verdict.{numberOf, indexOf, lengthGood, countsGood, distancesGood, preorder, firstSuch, light}
 use Rattle.table.specs.Verdict.{programVerdict, nodesVerdict, recordsVerdict, verdictOf}
-use Rattle.runner.specs.StateBytes.{below, stateBytes}
-use Rattle.runner.proofs.Parts.{fresh-zeros}
+use Rattle.steps.specs.StateBytes.{below, stateBytes}
+use Rattle.steps.proofs.Parts.{fresh-zeros}
 use Rattle.kernel.specs.declared.Outcome.the-variants.{Ran}
 use Rattle.kernel.specs.Answer.{startedRoom, Started}
 use Rattle.kernel.specs.Bench.{Line, line-of, Entry, accepted, refused, Goes, Shown, All, phases, bench-list}

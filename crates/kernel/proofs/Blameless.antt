@@ -18,10 +18,10 @@ use Rattle.junior.specs.Term.{repeat0, repeat1, when0, when1, when2, until0, un
 use Rattle.junior.specs.AtRest.{AtRest, Waiting, Over}
 use Rattle.table.specs.Records.{nodes, secondAt}
 use Rattle.table.specs.Spells.{Spells, treeOf}
-use Rattle.runner.specs.StateBytes.{Own, head, code, before, in-phase, zeros, below, stateBytes}
-use Rattle.runner.specs.Running.{Placed}
-use Rattle.runner.proofs.Parts.{blank, blank-below, blank-both, size-pos, len-bytes}
-use Rattle.runner.proofs.Frames.{written}
+use Rattle.steps.specs.StateBytes.{Own, head, code, before, in-phase, zeros, below, stateBytes}
+use Rattle.steps.specs.Running.{Placed}
+use Rattle.steps.proofs.Parts.{blank, blank-below, blank-both, size-pos, len-bytes}
+use Rattle.steps.proofs.Frames.{written}
 use Rattle.kernel.specs.Resting.{phaseAt, firstZero, secondZero, belowZero, phaseRests}
 use Rattle.kernel.specs.Resting.{flagsRest, countRests, rests, blamed}
 use Rattle.kernel.proofs.NodeBytes.{bytesAt, Owns, both-parts, node-owns, bytes-zero, first-byte}

@@ -10,7 +10,7 @@ use borrow.Author.Tests.{eqb-true}
 use Rattle.table.specs.Records.{nodes, kindAt, zeroAt, argumentAt, sizeAt, secondAt}
 use Rattle.table.specs.Good.{goodNode, children, argumentLimit, laidOut}
 use Rattle.table.proofs.Laid.{both, Laid, none, one, two, laid}
-use Rattle.runner.specs.Running.{Loaded}
+use Rattle.steps.specs.Running.{Loaded}
 
 -- a good record is laid out as its kind wants, and record 0 is the whole tree
 good-laid : (t : List ℕ) (i : ℕ) → goodNode t i ≡ true

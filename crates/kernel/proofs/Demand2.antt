@@ -21,8 +21,8 @@ use Rattle.junior.proofs.Going.{program-kept}
 use Rattle.junior.proofs.AsPrinted.{instant-as-printed}
 use Rattle.table.specs.Records.{nodes, events}
 use Rattle.table.specs.Spells.{treeOf}
-use Rattle.runner.specs.StateBytes.{stateBytes}
-use Rattle.runner.proofs.Parts.{len-bytes}
+use Rattle.steps.specs.StateBytes.{stateBytes}
+use Rattle.steps.proofs.Parts.{len-bytes}
 use Rattle.kernel.specs.declared.Outcome.the-variants.{Ran}
 use Rattle.kernel.specs.declared.Answer.{Answer}
 use Rattle.kernel.specs.Answer.{unlisted, instantOutcome, Run, Answered}

@@ -9,7 +9,7 @@ use borrow.Author.Tests.{eqb-true}
 use Rattle.table.specs.Records.{nodes, kindAt, argumentAt, sizeAt}
 use Rattle.table.specs.Good.{children}
 use Rattle.table.proofs.Laid.{both}
-use Rattle.runner.specs.Running.{Loaded}
+use Rattle.steps.specs.Running.{Loaded}
 use Rattle.kernel.specs.Resting.{phaseAt, flagsAt, countAt, zeroNode, firstZero, secondZero, belowZero}
 use Rattle.kernel.specs.Resting.{phaseRests}
 use Rattle.kernel.specs.Resting.{flagsRest, countRests, rests}

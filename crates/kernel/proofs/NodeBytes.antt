@@ -10,8 +10,8 @@ use lib.Seq.{getD-take, getD-drop, drop-drop, take-add}
 use lib.Dec.{eqb}
 use borrow.Author.Tests.{eqb-true}
 use Rattle.table.specs.Records.{byte}
-use Rattle.runner.specs.StateBytes.{Own, before, in-phase}
-use Rattle.runner.proofs.Parts.{blank, blank-below, own-of, own-below}
+use Rattle.steps.specs.StateBytes.{Own, before, in-phase}
+use Rattle.steps.proofs.Parts.{blank, blank-below, own-of, own-below}
 use Rattle.kernel.specs.Resting.{phaseAt, flagsAt, countAt, zeroNode, zeroNodes}
 
 -- tests taken apart

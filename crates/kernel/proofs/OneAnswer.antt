@@ -19,7 +19,7 @@ use Rattle.junior.proofs.Deterministic.{one-outcome}
 use Rattle.table.specs.declared.Checked.{Checked}
 use Rattle.table.specs.Records.{nodes}
 use Rattle.table.specs.Verdict.{verdictOf}
-use Rattle.runner.specs.StateBytes.{stateBytes}
+use Rattle.steps.specs.StateBytes.{stateBytes}
 use Rattle.kernel.specs.declared.Outcome.{Outcome}
 use Rattle.kernel.specs.declared.Outcome.the-variants.{Ran, Table, StateRoom, NotAtRest, UnlistedEvent}
 use Rattle.kernel.specs.declared.Outcome.the-variants.{AtomRoom}

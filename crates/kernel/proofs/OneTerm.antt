@@ -13,8 +13,8 @@ use Rattle.junior.specs.Program.{Program, Nothing, Stop, Atom, Seq, Par, Loop, 
 use Rattle.junior.specs.Program.{Until, Control, Local, size}
 use Rattle.junior.specs.Term.{Term, done, nothing, stop, atom, generate, await, seq0, seq2, par, loop0, loop1}
 use Rattle.junior.specs.Term.{repeat0, repeat1, when0, when1, when2, until0, until*, until2, control, local, prog}
-use Rattle.runner.specs.StateBytes.{code, zeros, below, stateBytes}
-use Rattle.runner.proofs.Parts.{len-bytes}
+use Rattle.steps.specs.StateBytes.{code, zeros, below, stateBytes}
+use Rattle.steps.proofs.Parts.{len-bytes}
 
 abbrev flag-of : ℕ → Flag
 flag-of n = cond (eqb n 0) SUSP (cond (eqb n 1) STOP TERM)

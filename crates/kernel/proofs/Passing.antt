@@ -30,9 +30,9 @@ use Rattle.junior.proofs.End.{ended}
 use Rattle.junior.proofs.Figures.{pot, cost-A, suspends, pot-at-rest}
 use Rattle.junior.proofs.Instants.{uses-up, goes-on}
 use Rattle.table.specs.Records.{nodes}
-use Rattle.runner.specs.StateBytes.{zeros, below, stateBytes}
-use Rattle.runner.specs.Running.{atoms-done, envOf, Ready, Ran, Wrote}
-use Rattle.runner.proofs.Parts.{len-bytes, size-pos}
+use Rattle.steps.specs.StateBytes.{zeros, below, stateBytes}
+use Rattle.steps.specs.Running.{atoms-done, envOf, Ready, Ran, Wrote}
+use Rattle.steps.proofs.Parts.{len-bytes, size-pos}
 use Rattle.kernel.specs.declared.Answer.{Answer}
 use Rattle.kernel.specs.Answer.{Run, ended as ended-by}
 use Rattle.kernel.specs.Passes.{Startable, Reported}

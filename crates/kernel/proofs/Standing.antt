@@ -17,11 +17,11 @@ use Rattle.junior.specs.AtRest.{AtRest, Over}
 use Rattle.table.specs.Records.{byte, nodes, kindAt, zeroAt, argumentAt, sizeAt, secondAt}
 use Rattle.table.specs.Good.{goodNode, laidOut, children, argumentLimit}
 use Rattle.table.specs.Spells.{Spells, treeOf}
-use Rattle.runner.specs.StateBytes.{Own, head, before, in-phase, zeros, below, stateBytes}
-use Rattle.runner.specs.Running.{Placed}
-use Rattle.runner.proofs.Parts.{blank, size-pos}
-use Rattle.runner.proofs.Shape.{Shape, is-done, is-local, shape-by}
-use Rattle.runner.proofs.Frames.{written}
+use Rattle.steps.specs.StateBytes.{Own, head, before, in-phase, zeros, below, stateBytes}
+use Rattle.steps.specs.Running.{Placed}
+use Rattle.steps.proofs.Parts.{blank, size-pos}
+use Rattle.steps.proofs.Shape.{Shape, is-done, is-local, shape-by}
+use Rattle.steps.proofs.Frames.{written}
 use Rattle.kernel.specs.Resting.{phaseAt, flagsAt, countAt, zeroNodes, firstZero, secondZero, belowZero}
 use Rattle.kernel.specs.Resting.{phaseRests}
 use Rattle.kernel.specs.Resting.{flagsRest, countRests, rests, blamed}

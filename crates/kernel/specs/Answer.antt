@@ -22,7 +22,7 @@ use Rattle.table.specs.declared.Checked.the-variants.{TooDeep, EndlessLoop, Too
 use Rattle.table.specs.Records.{nodes, events}
 use Rattle.table.specs.Spells.{treeOf}
 use Rattle.table.specs.Verdict.{verdictOf, numberOf, indexOf}
-use Rattle.runner.specs.StateBytes.{stateBytes}
+use Rattle.steps.specs.StateBytes.{stateBytes}
 use Rattle.kernel.specs.declared.Outcome.{Outcome}
 use Rattle.kernel.specs.declared.Outcome.the-variants.{Ran, Table, StateRoom, NotAtRest, UnlistedEvent}
 use Rattle.kernel.specs.declared.Outcome.the-variants.{AtomRoom}

@@ -18,7 +18,7 @@ use Rattle.table.specs.declared.Checked.the-variants.{Accepted}
 use Rattle.table.specs.Records.{nodes}
 use Rattle.table.specs.Spells.{treeOf}
 use Rattle.table.specs.Verdict.{verdictOf, numberOf, indexOf}
-use Rattle.runner.specs.StateBytes.{stateBytes}
+use Rattle.steps.specs.StateBytes.{stateBytes}
 use Rattle.kernel.specs.declared.Outcome.the-variants.{Ran}
 use Rattle.kernel.specs.Answer.{Started}
 

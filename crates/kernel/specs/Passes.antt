@@ -12,8 +12,8 @@ use Rattle.junior.specs.Figures.{G, A}
 use Rattle.junior.specs.AtRest.{AtRest}
 use Rattle.table.specs.Records.{nodes}
 use Rattle.table.specs.Spells.{treeOf}
-use Rattle.runner.specs.StateBytes.{stateBytes}
-use Rattle.runner.specs.Running.{Placed}
+use Rattle.steps.specs.StateBytes.{stateBytes}
+use Rattle.steps.specs.Running.{Placed}
 use Rattle.kernel.specs.declared.Outcome.the-variants.{Ran}
 use Rattle.kernel.specs.declared.Answer.{Answer}
 

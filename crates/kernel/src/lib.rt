@@ -9,7 +9,7 @@ ghost use Rattle.kernel.specs.Answer.{Started, instantOutcome, Answered,
 use crate::passes::run_passes;
 use crate::resting::first_blamed;
 use events::EventSet;
-use runner::leaf::clear;
+use steps::clear;
 use table::Checked;
 use table::check;
 use table::records::word_at;

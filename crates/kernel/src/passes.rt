@@ -8,7 +8,7 @@ use crate::Answer;
 use crate::Outcome;
 use events::EventSet;
 use junior::Flag;
-use runner::run::run_node;
+use runner::run_node;
 
 // Passes from node 0 until one answers STOP or TERM (01, "Instant").
 pub fn run_passes(table: &[u8], state: &mut [u8], events: EventSet, atoms: &mut [u16]) -> Answer

@@ -19,13 +19,13 @@ use Rattle.junior.proofs.Verdicts.{test-event}
 use Rattle.junior.proofs.Going.{Going, Controlled}
 use Rattle.table.specs.Records.{argumentAt}
 use Rattle.table.specs.Spells.{Spells}
-use Rattle.runner.specs.Running.{Ready, Ran, Live, Runs, Any, Kind, envOf}
-use Rattle.runner.proofs.Shape.{Shape, is-done, is-control, shape-by}
-use Rattle.runner.proofs.Frames.{control-body}
-use Rattle.runner.proofs.Children.{falling, only-cut, first-at}
+use Rattle.steps.specs.Running.{Ready, Ran, Live, Runs, Any, Kind, envOf}
+use Rattle.steps.proofs.Shape.{Shape, is-done, is-control, shape-by}
+use Rattle.steps.proofs.Frames.{control-body}
+use Rattle.steps.proofs.Children.{falling, only-cut, first-at}
 use Rattle.runner.proofs.Only.{only-asks, only-ran}
 use Rattle.runner.proofs.Tally.{not-ended, is-ended}
-use Rattle.runner.proofs.Done.{phase-0-left, ran-alone, ran-kept}
+use Rattle.steps.proofs.Done.{phase-0-left, ran-alone, ran-kept}
 
 pub data Controls : Term → Type 0 where
   controls : (s : ℕ) (x : Term) → Controls (control s x)
@@ -52,7 +52,7 @@ module _ {table : List ℕ} {i : ℕ} {state words row tally : List ℕ} {a : �
 
     pub control-asks : {t : Term} → Controls t → Ready 0 table i state words row tally t
         → {k : ℕ} (rank : ℕ) → falling table i rank ≡ k
-        → (falling table (i + 1) 69999 < k) × Live 0 Any table (i + 1) (midOf 4 (length state - 4) state) words row tally
+        → (falling table (i + 1) 3 < k) × Live 0 Any table (i + 1) (midOf 4 (length state - 4) state) words row tally
     control-asks (controls s x) h rank falls =
         only-asks (control-body s) h (omega arith) (h .wide) (body-goes s x h) rank falls
 

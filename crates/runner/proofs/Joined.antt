@@ -17,11 +17,11 @@ use Rattle.junior.specs.Term.{Term, done, par, prog, leave}
 use Rattle.junior.specs.Trace.{Place}
 use Rattle.junior.specs.AtRest.{Over}
 use Rattle.junior.proofs.Going.{Going, Stand, stands}
-use Rattle.runner.specs.StateBytes.{code, zeros, below, stateBytes}
-use Rattle.runner.specs.Running.{Ran}
-use Rattle.runner.specs.Running.{left, gone, ended, isTERM, parEnd}
-use Rattle.runner.proofs.Parts.{first-of, with-first, rest-of, with-rest, size-pos, blank-two, part-is, put-is}
-use Rattle.runner.proofs.Done.{left-leave}
+use Rattle.steps.specs.StateBytes.{code, zeros, below, stateBytes}
+use Rattle.steps.specs.Running.{Ran}
+use Rattle.steps.specs.Running.{left, gone, ended, isTERM, parEnd}
+use Rattle.steps.proofs.Parts.{first-of, with-first, rest-of, with-rest, size-pos, blank-two, part-is, put-is}
+use Rattle.steps.proofs.Done.{left-leave}
 
 -- a Par's bytes: its flags, those of its first branch, n nodes, and those of its second
 pub record Two (state : List ℕ) (flags n : ℕ) (a b : List ℕ) : Type 0 where

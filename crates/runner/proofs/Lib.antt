@@ -1,12 +1,3 @@
-pub mod Parts
-pub mod Shape
-pub mod Flags
-pub mod Frames
-pub mod Children
-pub mod Done
-pub mod LoadedNode
-pub mod TestInside
-pub mod Leaves
 pub mod Seq
 pub mod Node
 pub mod Par

@@ -21,14 +21,14 @@ use Rattle.junior.proofs.Grows.{grows}
 use Rattle.junior.proofs.Going.{Going}
 use Rattle.table.specs.Records.{argumentAt}
 use Rattle.table.specs.Spells.{Spells}
-use Rattle.runner.specs.StateBytes.{in-phase}
-use Rattle.runner.specs.Running.{Ready, Ran, Live, Runs, Any, Kind, envOf, signAfter}
-use Rattle.runner.proofs.Shape.{Shape, is-done, is-local, shape-by}
-use Rattle.runner.proofs.Frames.{local-body}
-use Rattle.runner.proofs.LoadedNode.{local-placed}
-use Rattle.runner.proofs.Children.{at-node, falling, only-cut, first-at, phase-is}
+use Rattle.steps.specs.StateBytes.{in-phase}
+use Rattle.steps.specs.Running.{Ready, Ran, Live, Runs, Any, Kind, envOf, signAfter}
+use Rattle.steps.proofs.Shape.{Shape, is-done, is-local, shape-by}
+use Rattle.steps.proofs.Frames.{local-body}
+use Rattle.steps.proofs.LoadedNode.{local-placed}
+use Rattle.steps.proofs.Children.{at-node, falling, only-cut, first-at, phase-is}
 use Rattle.runner.proofs.Only.{only-asks, only-ran}
-use Rattle.runner.proofs.Done.{own-left, ran-long, back-in, ran-phase}
+use Rattle.steps.proofs.Done.{own-left, ran-long, back-in, ran-phase}
 
 pub data Locals : Term → Type 0 where
   locals : (b : Bool) (e : ℕ) (x : Term) → Locals (local b e x)
@@ -93,7 +93,7 @@ module _ {table : List ℕ} {i : ℕ} {state words row tally : List ℕ} {a : �
     inside-goes b e x h = subst (λ (X : Events). Going X x) (sym (inside-marks b e x h)) (h .going)
 
     pub local-asks : {t : Term} → Locals t → Ready 0 table i state words row tally t → {k : ℕ} (rank : ℕ) → falling table i rank ≡ k
-        → (falling table (i + 1) 69999 < k) × Live 0 Any table (i + 1) (midOf 4 (length state - 4) state) words₁ row tally
+        → (falling table (i + 1) 3 < k) × Live 0 Any table (i + 1) (midOf 4 (length state - 4) state) words₁ row tally
     local-asks (locals b e x) h rank falls =
         only-asks (local-body b e) h (omega arith) (still-wide m (h .wide)) (inside-goes b e x h) rank falls
 

@@ -18,15 +18,15 @@ use Rattle.junior.proofs.Kept.{prog-fresh}
 use Rattle.junior.proofs.Held.{held-fresh, begun, ends-unheld}
 use Rattle.junior.proofs.Going.{Going, rest-going, fresh-at-rest}
 use Rattle.junior.proofs.Figures.{pot, pot-fresh}
-use Rattle.runner.specs.StateBytes.{below}
-use Rattle.runner.specs.Running.{Ready, Ran, Live, Runs, Any, Kind, KindPhase}
-use Rattle.runner.proofs.Parts.{fresh-zeros}
-use Rattle.runner.proofs.Shape.{Shape, is-done, is-loop0, is-loop1, shape-by}
-use Rattle.runner.proofs.Frames.{loop-body}
-use Rattle.runner.proofs.Children.{at-node, falling, only-cut, first-at, phase-is}
+use Rattle.steps.specs.StateBytes.{below}
+use Rattle.steps.specs.Running.{Ready, Ran, Live, Runs, Any, Kind, KindPhase}
+use Rattle.steps.proofs.Parts.{fresh-zeros}
+use Rattle.steps.proofs.Shape.{Shape, is-done, is-loop0, is-loop1, shape-by}
+use Rattle.steps.proofs.Frames.{loop-body}
+use Rattle.steps.proofs.Children.{at-node, falling, only-cut, first-at, phase-is}
 use Rattle.runner.proofs.Only.{only-asks, only-ran}
-use Rattle.runner.proofs.Done.{ready-as, room-after, few, ran-flag, ran-zeros, ran-long, ran-then}
-use Rattle.runner.proofs.Done.{back-kept, back-long, back-in, own-stays, ran-kept, ran-phase}
+use Rattle.steps.proofs.Done.{ready-as, room-after, few, ran-flag, ran-zeros, ran-long, ran-then}
+use Rattle.steps.proofs.Done.{back-kept, back-long, back-in, own-stays, ran-kept, ran-phase}
 
 -- a Loop that is to begin its body
 pub data Begins : Term → Type 0 where
@@ -55,7 +55,7 @@ module _ {table : List ℕ} {i : ℕ} {state words row tally : List ℕ} where
       (omega (arith, h .room, pot-begun p (h .placed .loops .0)))
 
   pub begin-asks : {t : Term} → Begins t → Ready 1 table i state words row tally t → {k : ℕ} (rank : ℕ) → falling table i rank ≡ k
-      → (falling table (i + 1) 69999 < k) × Live 0 Any table (i + 1) (midOf 4 (length state - 4) state) words row tally
+      → (falling table (i + 1) 3 < k) × Live 0 Any table (i + 1) (midOf 4 (length state - 4) state) words row tally
   unfolding Going
   begin-asks (begins p) h rank falls =
       let b = in-body p h in only-asks loop-body b (omega arith) (b .wide) (b .going) rank falls
@@ -100,7 +100,7 @@ module _ {table : List ℕ} {i : ℕ} {state words row tally : List ℕ} where
   loops-by {t} w h n = loops-of (shape-by t (w .0) refl) (w .1) (λ e. n (phase-is h ∙ e))
 
   pub loop-asks : {t : Term} → Loops t → Ready 0 table i state words row tally t → {k : ℕ} (rank : ℕ) → falling table i rank ≡ k
-      → (falling table (i + 1) 69999 < k) × Live 0 Any table (i + 1) (midOf 4 (length state - 4) state) words row tally
+      → (falling table (i + 1) 3 < k) × Live 0 Any table (i + 1) (midOf 4 (length state - 4) state) words row tally
   unfolding Going
   loop-asks (loops x) h rank falls = only-asks loop-body h (omega arith) (h .wide) (h .going) rank falls
 

@@ -13,13 +13,13 @@ use Rattle.junior.specs.Term.{Term, prog}
 use Rattle.junior.specs.Rules.{r1}
 use Rattle.junior.specs.Trace.{Place, collect}
 use Rattle.table.specs.Records.{kindAt}
-use Rattle.runner.specs.StateBytes.{below}
-use Rattle.runner.specs.Running.{Ready, Ran, Live, Runs, Any, Kind, Phase}
-use Rattle.runner.proofs.Parts.{size-pos}
-use Rattle.runner.proofs.Shape.{Shape, is-done, is-nothing, shape-by}
-use Rattle.runner.proofs.Frames.{kind-of, in-table}
-use Rattle.runner.proofs.Children.{falling, falls, phase-is}
-use Rattle.runner.proofs.Done.{ran-alone}
+use Rattle.steps.specs.StateBytes.{below}
+use Rattle.steps.specs.Running.{Ready, Ran, Live, Runs, Any, Kind, Phase}
+use Rattle.steps.proofs.Parts.{size-pos}
+use Rattle.steps.proofs.Shape.{Shape, is-done, is-nothing, shape-by}
+use Rattle.steps.proofs.Frames.{kind-of, in-table}
+use Rattle.steps.proofs.Children.{falling, falls, phase-is}
+use Rattle.steps.proofs.Done.{ran-alone}
 
 kind-below : (p : Program) → kind p < 13
 unfolding kind
@@ -74,9 +74,9 @@ module _ {table : List ℕ} {i : ℕ} {state words row tally : List ℕ} where
     pub leaf-asks : Live 0 Any table i state words row tally → Live 0 (Kind k) table i state words row tally
     leaf-asks (t, w, h) = (t, of-kind h, h)
 
-    pub form-asks : {m : ℕ} → falling table i 69999 ≡ m → Live 0 Any table i state words row tally
-        → (falling table i 69998 < m) × Live 0 (Kind k) table i state words row tally
-    form-asks e (t, w, h) = (falls 69999 69998 h e (omega arith), (t, of-kind h, h))
+    pub form-asks : {m : ℕ} → falling table i 3 ≡ m → Live 0 Any table i state words row tally
+        → (falling table i 2 < m) × Live 0 (Kind k) table i state words row tally
+    form-asks e (t, w, h) = (falls 3 2 h e (omega arith), (t, of-kind h, h))
 
     pub kind-runs : {state′ words′ row′ tally′ : List ℕ} {α : Flag}
         → Runs 0 (Kind k) table i state words row tally state′ words′ row′ tally′ α

@@ -10,11 +10,11 @@ use Rattle.junior.specs.declared.Flag.{Flag}
 use Rattle.junior.specs.Term.{Term, prog}
 use Rattle.junior.specs.Trace.{Place}
 use Rattle.junior.proofs.Going.{Going}
-use Rattle.runner.specs.StateBytes.{Own}
-use Rattle.runner.specs.Running.{Ready, Ran, Live, Runs, Any}
-use Rattle.runner.proofs.Parts.{size-pos}
-use Rattle.runner.proofs.Frames.{Frame, in-table}
-use Rattle.runner.proofs.Children.{falling, own-in, only-cut, asks, child-ran, next-index}
+use Rattle.steps.specs.StateBytes.{Own}
+use Rattle.steps.specs.Running.{Ready, Ran, Live, Runs, Any}
+use Rattle.steps.proofs.Parts.{size-pos}
+use Rattle.steps.proofs.Frames.{Frame, in-table}
+use Rattle.steps.proofs.Children.{falling, own-in, only-cut, asks, child-ran, next-index}
 
 module _ {skip : ℕ} {table : List ℕ} {i : ℕ} {state words row tally : List ℕ} {t : Term}
     (h : Ready skip table i state words row tally t) where
@@ -29,7 +29,7 @@ module _ {own : Own} {f : Term → Term} (o : Frame own 0 0 f) {skip : ℕ} {tab
     {words₁ : List ℕ} (wide : 64 * length words₁ ≡ places) (goes : Going (marks words₁) x) where
   -- what run_node asks for the child, and that it ran
   pub only-asks : {k : ℕ} (rank : ℕ) → falling table i rank ≡ k
-      → (falling table (i + 1) 69999 < k) × Live 0 Any table (i + 1) (midOf 4 (length state - 4) state) words₁ row tally
+      → (falling table (i + 1) 3 < k) × Live 0 Any table (i + 1) (midOf 4 (length state - 4) state) words₁ row tally
   only-asks rank falls = asks o h (only-cut h o) low rank falls (next-index i) wide goes
 
   pub only-ran : {s words′ row′ tally′ : List ℕ} {α : Flag}

@@ -20,19 +20,19 @@ use Rattle.junior.proofs.Going.{Going, Suspended, going-more}
 use Rattle.junior.proofs.Figures.{pot}
 use Rattle.table.specs.Records.{sizeAt}
 use Rattle.table.specs.Spells.{Spells}
-use Rattle.runner.specs.StateBytes.{code, head, below, stateBytes}
-use Rattle.runner.specs.Running.{envOf, Placed, Ready, Wrote, Ran, Live, Runs, Any, Kind, BothSuspended}
-use Rattle.runner.specs.Running.{LeftSuspended}
-use Rattle.runner.specs.Running.{RightSuspended, parEnd, atoms-done}
-use Rattle.runner.proofs.Parts.{first-of, with-first, rest-of, with-rest, size-pos, len-bytes}
-use Rattle.runner.proofs.Shape.{Shape, is-done, is-par, shape-by}
-use Rattle.runner.proofs.Flags.{code-same, code-below}
-use Rattle.runner.proofs.Frames.{written, in-table}
-use Rattle.runner.proofs.Children.{asks-for, at-node, falling, first-at, second-at, byte-is}
+use Rattle.steps.specs.StateBytes.{code, head, below, stateBytes}
+use Rattle.steps.specs.Running.{envOf, Placed, Ready, Wrote, Ran, Live, Runs, Any, Kind, BothSuspended}
+use Rattle.steps.specs.Running.{LeftSuspended}
+use Rattle.steps.specs.Running.{RightSuspended, parEnd, atoms-done}
+use Rattle.steps.proofs.Parts.{first-of, with-first, rest-of, with-rest, size-pos, len-bytes}
+use Rattle.steps.proofs.Shape.{Shape, is-done, is-par, shape-by}
+use Rattle.steps.proofs.Flags.{code-same, code-below}
+use Rattle.steps.proofs.Frames.{written, in-table}
+use Rattle.steps.proofs.Children.{asks-for, at-node, falling, first-at, second-at, byte-is}
 use Rattle.runner.proofs.Joined.{Two, first-part, put-first, ends, second-part, put-second}
 use Rattle.runner.proofs.Joined.{end-asks}
 use Rattle.runner.proofs.Joined.{Branch, branch-stood, branch-ran, par-ended}
-use Rattle.runner.proofs.Done.{few, ran-flag, ran-long, room-after, wrote-as, wrote-then}
+use Rattle.steps.proofs.Done.{few, ran-flag, ran-long, room-after, wrote-as, wrote-then}
 
 -- a Par, and which of its branches run
 pub data Branches : Flag → Flag → Type 0 where
@@ -233,7 +233,7 @@ module _ {table : List ℕ} {i : ℕ} {state words row tally : List ℕ} {n : �
   -- the first branch is run
   pub first-asks : {β : Flag} {t : Term} → First β t → Ready 0 table i state words row tally t → {k : ℕ} (rank : ℕ)
       → falling table i rank ≡ k
-      → (falling table (i + 1) 69999 < k) × Live 0 Any table (i + 1) (first-of state n) words row tally
+      → (falling table (i + 1) 3 < k) × Live 0 Any table (i + 1) (first-of state n) words row tally
   unfolding prog size
   first-asks (first-runs t u) h rank e = asks-for h rank e (first-ready h) (omega arith)
 
@@ -289,7 +289,7 @@ module _ {table : List ℕ} {i : ℕ} {state words row tally : List ℕ} {n : �
 
       pub then-asks : {t : Term} → First SUSP t → Ready 0 table i state words row tally t → {k : ℕ} (rank : ℕ)
           → falling table i rank ≡ k
-          → (falling table (i + 1 + n) 69999 < k)
+          → (falling table (i + 1 + n) 3 < k)
           × Live 0 Any table (i + 1 + n) (rest-of (with-first state n s) n) words′ row′ tally′
       unfolding prog size
       then-asks (first-runs t u) h rank e = asks-for h rank e (both-second h) (omega arith)
@@ -337,7 +337,7 @@ module _ {table : List ℕ} {i : ℕ} {state words row tally : List ℕ} {n : �
 
   pub right-asks : {t : Term} → Right t → Ready 0 table i state words row tally t → {k : ℕ} (rank : ℕ)
       → falling table i rank ≡ k
-      → (falling table (i + 1 + n) 69999 < k) × Live 0 Any table (i + 1 + n) (rest-of state n) words row tally
+      → (falling table (i + 1 + n) 3 < k) × Live 0 Any table (i + 1 + n) (rest-of state n) words row tally
   unfolding prog size
   right-asks (α, k, second-runs t u) h rank e = asks-for h rank e (right-ready h) (omega arith)
 

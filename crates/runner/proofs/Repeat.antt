@@ -21,17 +21,17 @@ use Rattle.junior.proofs.Going.{Going, rest-going, fresh-at-rest}
 use Rattle.junior.proofs.Figures.{pot, pot-at-rest, pot-again}
 use Rattle.table.specs.Records.{word, argumentAt}
 use Rattle.table.specs.Spells.{Spells}
-use Rattle.runner.specs.StateBytes.{head, below, zeros}
-use Rattle.runner.specs.Running.{Ready, Ran, Live, Runs, Any, Kind, Times}
-use Rattle.runner.proofs.Parts.{fresh-zeros, blank-below, own-of}
-use Rattle.runner.proofs.Shape.{Shape, is-done, is-repeat0, is-repeat1, shape-by}
-use Rattle.runner.proofs.Frames.{repeat-body}
-use Rattle.runner.proofs.LoadedNode.{repeat-below}
-use Rattle.runner.proofs.Children.{at-node, falling, byte-is, only-cut, put-back, first-at, phase-is, unseen}
+use Rattle.steps.specs.StateBytes.{head, below, zeros}
+use Rattle.steps.specs.Running.{Ready, Ran, Live, Runs, Any, Kind, Times}
+use Rattle.steps.proofs.Parts.{fresh-zeros, blank-below, own-of}
+use Rattle.steps.proofs.Shape.{Shape, is-done, is-repeat0, is-repeat1, shape-by}
+use Rattle.steps.proofs.Frames.{repeat-body}
+use Rattle.steps.proofs.LoadedNode.{repeat-below}
+use Rattle.steps.proofs.Children.{at-node, falling, byte-is, only-cut, put-back, first-at, phase-is, unseen}
 use Rattle.runner.proofs.Only.{only-asks, only-ran}
-use Rattle.runner.proofs.Done.{ready-as, room-after, few, ran-flag, ran-zeros, ran-long, ran-alone, ran-by}
-use Rattle.runner.proofs.Done.{ran-then, ran-around}
-use Rattle.runner.proofs.Done.{back-long, back-in, own-stays}
+use Rattle.steps.proofs.Done.{ready-as, room-after, few, ran-flag, ran-zeros, ran-long, ran-alone, ran-by}
+use Rattle.steps.proofs.Done.{ran-then, ran-around}
+use Rattle.steps.proofs.Done.{back-long, back-in, own-stays}
 
 -- one not begun
 pub data Unbegun : Term → Type 0 where
@@ -69,12 +69,12 @@ module _ {table : List ℕ} {i : ℕ} {state words row tally : List ℕ} where
     repeat-ends (unbegun (suc n) p) h z P = absurd (omega (arith, h .placed .spelled .1))
 
     -- what run_times asks, one run less being then to begin, and that it is the Repeat's own run
-    pub repeat-asks : {t : Term} → Unbegun t → Ready 0 table i state words row tally t → a ≢ 0 → a < 65536
-        → {k : ℕ} → falling table i 69998 ≡ k
-        → (falling table i (a - 1 + 1) < k) × ((Live 4 (Times (a - 1)) table i state words row tally) × (getD state 1 0 ≡ 0))
+    pub repeat-asks : {t : Term} → Unbegun t → Ready 0 table i state words row tally t → a ≢ 0
+        → {k : ℕ} → falling table i 2 ≡ k
+        → (falling table i 0 < k) × ((Live 4 (Times (a - 1)) table i state words row tally) × (getD state 1 0 ≡ 0))
     unfolding prog kind Spells
-    repeat-asks (unbegun zero p) h n l falls = absurd (n (names ∙ h .placed .spelled .1))
-    repeat-asks (unbegun (suc n) p) h _ l falls =
+    repeat-asks (unbegun zero p) h n falls = absurd (n (names ∙ h .placed .spelled .1))
+    repeat-asks (unbegun (suc n) p) h _ falls =
         (omega arith, ((repeat1 (suc n) n (fresh p), (refl, refl, omega (arith, h .placed .spelled .1)), first-run n p h), byte-is h 1 (omega arith)))
 
     pub repeat-ran : {t : Term} → Unbegun t → Ready 0 table i state words row tally t → a ≢ 0
@@ -124,14 +124,14 @@ module _ {table : List ℕ} {i : ℕ} {state words row tally : List ℕ} where
       sym (is ∙ rw (byte-is h 2 (omega arith), byte-is h 3 (omega arith)) (div-add-mod' (head t .count) 256)),
     )
 
-    pub counts-asks : k < 65536 → {m : ℕ} → falling table i 69998 ≡ m
-        → (falling table i (k + 1) < m) × ((Live 4 (Times k) table i state words row tally) × (getD state 1 0 ≡ 0))
-    counts-asks l falls = (omega arith, ((t, counts, unseen h 4), byte-is h 1 (omega arith) ∙ no-flags (in-run-by t counts)))
+    pub counts-asks : {m : ℕ} → falling table i 2 ≡ m
+        → (falling table i 0 < m) × ((Live 4 (Times k) table i state words row tally) × (getD state 1 0 ≡ 0))
+    counts-asks falls = (omega arith, ((t, counts, unseen h 4), byte-is h 1 (omega arith) ∙ no-flags (in-run-by t counts)))
 
-  pub times-asks : {t : Term} {k : ℕ} → InRun k t → Ready 4 table i state words row tally t → {m : ℕ} → falling table i (k + 1) ≡ m
-      → (falling table (i + 1) 69999 < m) × Live 0 Any table (i + 1) (midOf 4 (length state - 4) state) words row tally
+  pub times-asks : {t : Term} {k : ℕ} → InRun k t → Ready 4 table i state words row tally t → {m : ℕ} → falling table i 0 ≡ m
+      → (falling table (i + 1) 3 < m) × Live 0 Any table (i + 1) (midOf 4 (length state - 4) state) words row tally
   unfolding Going
-  times-asks (in-run n k x) h falls = only-asks (repeat-body n k) h (omega arith) (h .wide) (h .going .1) (k + 1) falls
+  times-asks (in-run n k x) h falls = only-asks (repeat-body n k) h (omega arith) (h .wide) (h .going .1) 0 falls
 
   pub times-below : {t : Term} {k : ℕ} → InRun k t → Ready 4 table i state words row tally t → k < 65536
   unfolding Going prog
@@ -193,17 +193,17 @@ module _ {table : List ℕ} {i : ℕ} {state words row tally : List ℕ} where
           (omega (arith, h .going .0), rest-going _ (fresh (prog x)) (fresh-at-rest (prog x)))
           (room-after h g (repeat1 n k (fresh (prog x))) (simp (ends-unheld (g .rewrites)) (omega arith)))
 
-      pub next-asks : {t : Term} {k : ℕ} → InRun k t → Ready 4 table i state words row tally t → getD state 1 0 ≡ 0 → α ≡ TERM → k ≢ 0
-          → {m : ℕ} → falling table i (k + 1) ≡ m
-          → (falling table i (k - 1 + 1) < m)
-          × ((Live 4 (Times (k - 1)) table i (putMid 4 (length state - 4) state s) words′ row′ tally′)
-          × (getD (putMid 4 (length state - 4) state s) 1 0 ≡ 0))
+      next-live : {t : Term} {k : ℕ} → InRun k t → Ready 4 table i state words row tally t → α ≡ TERM → k ≢ 0
+          → Live 4 (Times (k - 1)) table i (putMid 4 (length state - 4) state s) words′ row′ tally′
       unfolding prog kind
-      next-asks (in-run n zero x) h z a l falls = absurd (l refl)
-      next-asks (in-run n (suc k) x) h z a l falls =
-          (omega arith, ((repeat1 n k (fresh (prog x)), (refl, refl, omega arith), next n k x h a), ap (λ y. getD y 1 0) (back n (suc k) x h) ∙ z))
+      next-live (in-run n zero x) h a l = absurd (l refl)
+      next-live (in-run n (suc k) x) h a l = (repeat1 n k (fresh (prog x)), (refl, refl, omega arith), next n k x h a)
 
-      pub times-again : {t : Term} {k : ℕ} → InRun k t → Ready 4 table i state words row tally t → α ≡ TERM → k ≢ 0
+      next-flags : {t : Term} {k : ℕ} → InRun k t → Ready 4 table i state words row tally t → getD state 1 0 ≡ 0
+          → getD (putMid 4 (length state - 4) state s) 1 0 ≡ 0
+      next-flags (in-run n k x) h z = ap (λ y. getD y 1 0) (back n k x h) ∙ z
+
+      times-again : {t : Term} {k : ℕ} → InRun k t → Ready 4 table i state words row tally t → α ≡ TERM → k ≢ 0
           → {state″ words″ row″ tally″ : List ℕ} {β : Flag}
           → Runs 4 (Times (k - 1)) table i (putMid 4 (length state - 4) state s) words′ row′ tally′ state″ words″ row″ tally″ β
           → (P : Place)
@@ -214,3 +214,32 @@ module _ {table : List ℕ} {i : ℕ} {state words row tally : List ℕ} where
       times-again (in-run n (suc k) x) h a l then P at =
           let g = ran-flag a (rest-ran n (suc k) x h P at) in
           run-then h g (then (repeat1 n k (fresh (prog x))) (refl, refl, omega arith) (next n k x h a) P at)
+
+-- before a turn of the loop: the Repeat with `left` runs still to begin can be run, and what that does now is what it does from the entry on
+pub record Turn (table : List ℕ) (i : ℕ) (state₀ words₀ row₀ tally₀ : List ℕ) (k : ℕ) (state words row tally : List ℕ) (left : ℕ) : Type 0 where
+  pub live : Live 4 (Times left) table i state words row tally
+  pub no-flags-yet : getD state 1 0 ≡ 0
+  pub goes-on : {state′ words′ row′ tally′ : List ℕ} {α : Flag}
+      → Runs 4 (Times left) table i state words row tally state′ words′ row′ tally′ α
+      → Runs 4 (Times k) table i state₀ words₀ row₀ tally₀ state′ words′ row′ tally′ α
+
+module _ {table : List ℕ} {i : ℕ} {state₀ words₀ row₀ tally₀ : List ℕ} {k : ℕ} where
+  pub first-turn : Live 4 (Times k) table i state₀ words₀ row₀ tally₀ → getD state₀ 1 0 ≡ 0
+      → Turn table i state₀ words₀ row₀ tally₀ k state₀ words₀ row₀ tally₀ k
+  first-turn l z = record { live = l; no-flags-yet = z; goes-on = λ run. run }
+
+  pub next-turn : {state words row tally : List ℕ} {left : ℕ} → Turn table i state₀ words₀ row₀ tally₀ k state words row tally left
+      → {s words′ row′ tally′ : List ℕ} {α : Flag}
+      → Runs 0 Any table (i + 1) (midOf 4 (length state - 4) state) words row tally s words′ row′ tally′ α
+      → length words′ ≡ length words
+      → length tally′ ≡ length tally
+      → α ≡ TERM
+      → left ≢ 0
+      → Turn table i state₀ words₀ row₀ tally₀ k (putMid 4 (length state - 4) state s) words′ row′ tally′ (left - 1)
+  next-turn u run wl tl a l =
+      let v = in-run-by (u .live .0) (u .live .1) in
+      record {
+        live = next-live run wl tl v (u .live .2) a l;
+        no-flags-yet = next-flags run wl tl v (u .live .2) (u .no-flags-yet);
+        goes-on = λ then. u .goes-on (λ x w h. times-again run wl tl (in-run-by x w) h a l then);
+      }

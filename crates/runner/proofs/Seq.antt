@@ -20,15 +20,15 @@ use Rattle.junior.proofs.Going.{Going, rest-going, fresh-at-rest}
 use Rattle.junior.proofs.Figures.{pot, pot-fresh}
 use Rattle.table.specs.Records.{sizeAt}
 use Rattle.table.specs.Spells.{Spells}
-use Rattle.runner.specs.StateBytes.{in-phase, zeros, below}
-use Rattle.runner.specs.Running.{Placed, Ready, Ran, Live, Runs, Any, Kind, Phase, phaseAfter}
-use Rattle.runner.proofs.Parts.{first-of, with-first, rest-of, with-rest, fresh-zeros}
-use Rattle.runner.proofs.Shape.{Shape, is-done, is-seq0, is-seq2, is-when2, is-until2, is-local, shape-by}
-use Rattle.runner.proofs.Frames.{Frame, seq-first, seq-second, when-second, until-second, written}
-use Rattle.runner.proofs.Children.{at-node, falling, first-cut, second-cut, asks, child-ran, next-index}
-use Rattle.runner.proofs.Children.{first-at, second-at, phase-is, next-in-table, till-in}
-use Rattle.runner.proofs.Done.{ready-as, room-after, few, ran-flag, ran-zeros, ran-long, ran-then}
-use Rattle.runner.proofs.Done.{back-kept, back-long, back-in, own-stays, phase-left, ran-kept, ran-phase}
+use Rattle.steps.specs.StateBytes.{in-phase, zeros, below}
+use Rattle.steps.specs.Running.{Placed, Ready, Ran, Live, Runs, Any, Kind, Phase, phaseAfter}
+use Rattle.steps.proofs.Parts.{first-of, with-first, rest-of, with-rest, fresh-zeros}
+use Rattle.steps.proofs.Shape.{Shape, is-done, is-seq0, is-seq2, is-when2, is-until2, is-local, shape-by}
+use Rattle.steps.proofs.Frames.{Frame, seq-first, seq-second, when-second, until-second, written}
+use Rattle.steps.proofs.Children.{at-node, falling, first-cut, second-cut, asks, child-ran, next-index}
+use Rattle.steps.proofs.Children.{first-at, second-at, phase-is, next-in-table, till-in}
+use Rattle.steps.proofs.Done.{ready-as, room-after, few, ran-flag, ran-zeros, ran-long, ran-then}
+use Rattle.steps.proofs.Done.{back-kept, back-long, back-in, own-stays, phase-left, ran-kept, ran-phase}
 
 -- a node x in its second child: its rule there is the child's
 pub data Second : Term → Type 0 where
@@ -64,7 +64,7 @@ module _ {table : List ℕ} {i : ℕ} {state words row tally : List ℕ} {n : �
 
   pub second-asks : {t : Term} → Second t → Ready 1 table i state words row tally t
       → {k : ℕ} (rank : ℕ) → falling table i rank ≡ k
-      → (falling table (i + 1 + n) 69999 < k)
+      → (falling table (i + 1 + n) 3 < k)
       × Live 0 Any table (i + 1 + n) (rest-of state n) words row tally
   second-asks (in-second p o x z g d) h rank falls =
       let e = m ∙ z table i (h .placed) in
@@ -128,7 +128,7 @@ module _ {table : List ℕ} {i : ℕ} {state words row tally : List ℕ} {n : �
 
   pub first-asks : {t : Term} → Seq0 t → Ready 0 table i state words row tally t
       → {k : ℕ} (rank : ℕ) → falling table i rank ≡ k
-      → (falling table (i + 1) 69999 < k)
+      → (falling table (i + 1) 3 < k)
       × Live 0 Any table (i + 1) (first-of state n) words row tally
   unfolding Going
   first-asks (in-first x q) h rank falls =

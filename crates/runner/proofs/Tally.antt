@@ -9,7 +9,7 @@ use lib.ListN.{length}
 use lib.Dec.{ltb}
 use borrow.Author.Tests.{lt-ltb, le-ltb}
 use Rattle.junior.specs.Term.{Term}
-use Rattle.runner.specs.Running.{Ready}
+use Rattle.steps.specs.Running.{Ready}
 
 pub tally-in : {skip : ℕ} {table : List ℕ} {i : ℕ} {state words row tally : List ℕ} {t : Term}
     → Ready skip table i state words row tally t

@@ -24,19 +24,19 @@ use Rattle.junior.proofs.Going.{Going, Stand, rest-going, fresh-at-rest, stands
 use Rattle.junior.proofs.Figures.{pot, pot-fresh}
 use Rattle.table.specs.Records.{sizeAt}
 use Rattle.table.specs.Spells.{Spells}
-use Rattle.runner.specs.StateBytes.{head, in-phase, zeros, below, stateBytes}
-use Rattle.runner.specs.Running.{Placed, Ready, Ran, Live, Runs, Any, Kind, Phase, KindPhase, envOf}
-use Rattle.runner.specs.Running.{HasTest, TestRead}
-use Rattle.runner.proofs.Parts.{size-pos, len-bytes, fresh-zeros, own-of, part-is, put-is}
-use Rattle.runner.proofs.Shape.{Shape, is-done, is-until0, is-until*, is-until2, shape-by}
-use Rattle.runner.proofs.Frames.{until-first, written, in-table}
-use Rattle.runner.proofs.Children.{at-node, falling, first-cut, asks, child-ran, next-index, first-at}
-use Rattle.runner.proofs.Children.{phase-is}
-use Rattle.runner.proofs.Children.{next-in-table, till-in, byte-is, own-and-below}
-use Rattle.runner.proofs.Done.{ready-as, room-after, few, ran-flag, ran-alone, ran-by, ran-then, ran-long}
-use Rattle.runner.proofs.Done.{back-long}
-use Rattle.runner.proofs.Done.{phase-0-left, back-kept, ran-kept}
-use Rattle.runner.proofs.LoadedNode.{until-test}
+use Rattle.steps.specs.StateBytes.{head, in-phase, zeros, below, stateBytes}
+use Rattle.steps.specs.Running.{Placed, Ready, Ran, Live, Runs, Any, Kind, Phase, KindPhase, envOf}
+use Rattle.steps.specs.Running.{HasTest, TestRead}
+use Rattle.steps.proofs.Parts.{size-pos, len-bytes, fresh-zeros, own-of, part-is, put-is}
+use Rattle.steps.proofs.Shape.{Shape, is-done, is-until0, is-until*, is-until2, shape-by}
+use Rattle.steps.proofs.Frames.{until-first, written, in-table}
+use Rattle.steps.proofs.Children.{at-node, falling, first-cut, asks, child-ran, next-index, first-at}
+use Rattle.steps.proofs.Children.{phase-is}
+use Rattle.steps.proofs.Children.{next-in-table, till-in, byte-is, own-and-below}
+use Rattle.steps.proofs.Done.{ready-as, room-after, few, ran-flag, ran-alone, ran-by, ran-then, ran-long}
+use Rattle.steps.proofs.Done.{back-long}
+use Rattle.steps.proofs.Done.{phase-0-left, back-kept, ran-kept}
+use Rattle.steps.proofs.LoadedNode.{until-test}
 
 -- an Until in its body
 pub data Until0 : Term → Type 0 where
@@ -66,7 +66,7 @@ module _ {table : List ℕ} {i : ℕ} {state words row tally : List ℕ} {n : �
 
   pub body-asks : {t : Term} → Until0 t → Ready 0 table i state words row tally t
       → {k : ℕ} (rank : ℕ) → falling table i rank ≡ k
-      → (falling table (i + 1) 69999 < k) × Live 0 Any table (i + 1) (midOf 4 (4 + 4 * n - 4) state) words row tally
+      → (falling table (i + 1) 3 < k) × Live 0 Any table (i + 1) (midOf 4 (4 + 4 * n - 4) state) words row tally
   unfolding Going
   body-asks (in-body c x q) h rank falls =
       asks (until-first c q) h (first-cut h (until-first c q) m) (omega arith) rank falls (next-index i) (h .wide) (h .going)

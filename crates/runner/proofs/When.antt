@@ -23,17 +23,17 @@ use Rattle.junior.proofs.Going.{Going, rest-going, fresh-at-rest}
 use Rattle.junior.proofs.Figures.{pot, pot-fresh}
 use Rattle.table.specs.Records.{sizeAt}
 use Rattle.table.specs.Spells.{Spells}
-use Rattle.runner.specs.StateBytes.{head, in-phase, zeros, below, stateBytes}
-use Rattle.runner.specs.Running.{Placed, Ready, Ran, Live, Runs, Any, Kind, Phase, KindPhase, phaseAfter, envOf}
-use Rattle.runner.specs.Running.{HasTest, TestRead}
-use Rattle.runner.proofs.Parts.{fresh-zeros}
-use Rattle.runner.proofs.Shape.{Shape, is-done, is-when0, is-when1, is-when2, shape-by}
-use Rattle.runner.proofs.Frames.{when-first}
-use Rattle.runner.proofs.Children.{at-node, falling, first-cut, asks, child-ran, next-index, first-at}
-use Rattle.runner.proofs.Children.{phase-is}
-use Rattle.runner.proofs.Children.{next-in-table, till-in, byte-is, own-and-below}
-use Rattle.runner.proofs.Done.{ready-as, ran-alone, ran-by, ran-long, back-in, phase-left, ran-phase}
-use Rattle.runner.proofs.LoadedNode.{when-test}
+use Rattle.steps.specs.StateBytes.{head, in-phase, zeros, below, stateBytes}
+use Rattle.steps.specs.Running.{Placed, Ready, Ran, Live, Runs, Any, Kind, Phase, KindPhase, phaseAfter, envOf}
+use Rattle.steps.specs.Running.{HasTest, TestRead}
+use Rattle.steps.proofs.Parts.{fresh-zeros}
+use Rattle.steps.proofs.Shape.{Shape, is-done, is-when0, is-when1, is-when2, shape-by}
+use Rattle.steps.proofs.Frames.{when-first}
+use Rattle.steps.proofs.Children.{at-node, falling, first-cut, asks, child-ran, next-index, first-at}
+use Rattle.steps.proofs.Children.{phase-is}
+use Rattle.steps.proofs.Children.{next-in-table, till-in, byte-is, own-and-below}
+use Rattle.steps.proofs.Done.{ready-as, ran-alone, ran-by, ran-long, back-in, phase-left, ran-phase}
+use Rattle.steps.proofs.LoadedNode.{when-test}
 
 -- a node in its then branch
 pub data Then : Term → Type 0 where
@@ -56,7 +56,7 @@ module _ {table : List ℕ} {i : ℕ} {state words row tally : List ℕ} {n : �
 
   pub then-asks : {t : Term} → Then t → Ready 1 table i state words row tally t
       → {k : ℕ} (rank : ℕ) → falling table i rank ≡ k
-      → (falling table (i + 1) 69999 < k) × Live 0 Any table (i + 1) (midOf 4 (4 + 4 * n - 4) state) words row tally
+      → (falling table (i + 1) 3 < k) × Live 0 Any table (i + 1) (midOf 4 (4 + 4 * n - 4) state) words row tally
   unfolding Going
   then-asks (in-then c x q) h rank falls =
       asks (when-first c q) h (first-cut h (when-first c q) m) (omega arith) rank falls (next-index i) (h .wide) (h .going)

@@ -1,0 +1,108 @@
+use Rattle.runner.proofs as proofs
+use proofs.+begin_loop+run_both+run_control+run_left+run_local+run_loop+run_node+run_par+run_repeat+run_right+run_second+run_seq+run_star+run_then+run_times+run_until+run_when.Lts-run_both as lts
+use proofs.run_both.Reads.{Pre, Post}
+use proofs.+begin_loop+run_both+run_control+run_left+run_local+run_loop+run_node+run_par+run_repeat+run_right+run_second+run_seq+run_star+run_then+run_times+run_until+run_when.Proof.Measures.{exactly}
+use proofs.+begin_loop+run_both+run_control+run_left+run_local+run_loop+run_node+run_par+run_repeat+run_right+run_second+run_seq+run_star+run_then+run_times+run_until+run_when.Proof.Measures.{smaller}
+use proofs.+begin_loop+run_both+run_control+run_left+run_local+run_loop+run_node+run_par+run_repeat+run_right+run_second+run_seq+run_star+run_then+run_times+run_until+run_when.Proof.Measures.{μ-run-both}
+use proofs.+begin_loop+run_both+run_control+run_left+run_local+run_loop+run_node+run_par+run_repeat+run_right+run_second+run_seq+run_star+run_then+run_times+run_until+run_when.Proof.Measures.{μ-run-node}
+use Rattle.table.proofs.records.size_at.Reads as size-at-reads
+use Rattle.steps.proofs.par_end.Reads as par-end-reads
+use borrow.Fn.Kinds.{In, Out}
+use Prim.Native.Nat.{ℕ}
+use borrow.Author.Needs.{needs}
+use proofs.Par.{par-by, both-by, par-reads, par-fits, first-asks, both-fits, then-asks, both-end-asks, both-ran}
+
+module _ (t : ℕ) where
+  abbrev given : lts.Claims
+  given = (
+    size-at-reads.Asked,
+    size-at-reads.Learnt,
+    smaller proofs.run_node.Kinds.ps μ-run-node proofs.run_node.Reads.Pre t,
+    proofs.run_node.Reads.Post,
+    par-end-reads.Asked,
+    par-end-reads.Learnt,
+  )
+
+  abbrev Of : (lts.Claims → In 5 lts.ps → Out 5 lts.ps lts.r → Type 0) → Type 0
+  Of N = N given (exactly lts.ps μ-run-both Pre t) Post
+
+  -- let n = size_at(table, i + 1);
+  size-at-requires : Of lts.Need-size-at-requires
+  size-at-requires c κs =
+      let start = c .before .before .before .before .before in
+      par-reads (par-by (start .pre .1 .1 .0) (start .pre .1 .2)) (start .pre .1 .2)
+
+  -- let f = run_node(table, i + 1, &mut state[4..4 + 4 * n], words, atoms, tally);
+  part-run-node-end : Of lts.Need-part-run-node-end
+  part-run-node-end c =
+      let start = c .before .before .before .before .before .before in
+      let size-at = c .size-at in
+      par-fits (size-at .ensures .0) (par-by (start .pre .1 .1 .0) (start .pre .1 .2)) (start .pre .1 .2)
+
+  run-node-requires : Of lts.Need-run-node-requires
+  run-node-requires c κs =
+      let start = c .before .before .before .before .before .before .before .before .before .before in
+      let size-at = c .before .before .before .before .size-at in
+      first-asks (size-at .ensures .0) (both-by (start .pre .1 .2) (start .pre .1 .1)) (start .pre .1 .2) 1 (start .pre .0)
+
+  -- &mut state[4 + 4 * n..],
+  sub-run-node-2 : Of lts.Need-sub-run-node-2
+  sub-run-node-2 c =
+      let start = c .before .before .before .before .before .before .before .before .before .before .before .before .before .before .before .before .before .before .before in
+      let size-at = c .before .before .before .before .before .before .before .before .before .before .before .before .before .size-at in
+      let run-node = c .before .before .before .before .before .before .before .before .run-node in
+      both-fits (size-at .ensures .0) (run-node .ensures) (both-by (start .pre .1 .2) (start .pre .1 .1)) (start .pre .1 .2)
+
+  -- let g = run_node(
+  run-node-requires-2 : Of lts.Need-run-node-requires-2
+  run-node-requires-2 c κs =
+      let start = c .before .before .before .before .before .before .before .before .before .before .before .before .before .before .before .before .before .before .before .before .before .before .before in
+      let size-at = c .before .before .before .before .before .before .before .before .before .before .before .before .before .before .before .before .before .size-at in
+      let run-node = c .before .before .before .before .before .before .before .before .before .before .before .before .run-node in
+      then-asks (size-at .ensures .0) (run-node .ensures) (run-node .kept .1 .1 .1 .0) (run-node .kept .1 .1 .1 .1 .1 .0) (both-by (start .pre .1 .2) (start .pre .1 .1)) (start .pre .1 .2) 1 (start .pre .0)
+
+  -- par_end(state, 4 + 4 * n, f, g)
+  par-end-requires : Of lts.Need-par-end-requires
+  par-end-requires c κs =
+      let start = c .before .before .before .before .before .before .before .before .before .before .before .before .before .before .before .before .before .before .before .before .before .before .before .before .before .before .before .before .before .before .before .before .before in
+      let size-at = c .before .before .before .before .before .before .before .before .before .before .before .before .before .before .before .before .before .before .before .before .before .before .before .before .before .before .before .size-at in
+      let run-node = c .before .before .before .before .before .before .before .before .before .before .before .before .before .before .before .before .before .before .before .before .before .before .run-node in
+      let run-node2 = c .before .before .before .before .before .before .before .before .before .run-node2 in
+      both-end-asks (size-at .ensures .0) (run-node .ensures) (run-node .kept .1 .1 .1 .0) (run-node .kept .1 .1 .1 .1 .1 .0) (run-node2 .ensures) (both-by (start .pre .1 .2) (start .pre .1 .1)) (start .pre .1 .2)
+
+  -- fn run_both
+  returns : Of lts.Need-returns
+  returns c x w h =
+      let size-at = c .before .before .before .before .before .before .before .before .before .before .before .before .before .before .before .before .before .before .before .before .before .before .before .before .before .before .before .before .before .before .size-at in
+      let run-node = c .before .before .before .before .before .before .before .before .before .before .before .before .before .before .before .before .before .before .before .before .before .before .before .before .before .run-node in
+      let run-node2 = c .before .before .before .before .before .before .before .before .before .before .before .before .run-node2 in
+      let par-end = c .before .before .par-end in
+      both-ran (size-at .ensures .0) (run-node .ensures) (run-node .kept .1 .1 .1 .0) (run-node .kept .1 .1 .1 .1 .1 .0) (run-node2 .ensures) (both-by h w) h (par-end .ensures)
+
+  pub closed : {M : Type 1} → lts.Closed given (exactly lts.ps μ-run-both Pre t) Post M
+  closed = lts.spec given (exactly lts.ps μ-run-both Pre t) Post
+      (λ c. search needs)  -- add-size-at: let n = size_at(table, i + 1);
+      size-at-requires
+      (λ c. search needs)  -- add-run-node: let f = run_node(table, i + 1, &mut state[4..4 + 4 * n],..
+      (λ c. search needs)  -- mul-run-node
+      (λ c. search needs)  -- add-run-node-2
+      (λ c. search needs)  -- sub-run-node
+      (λ c. search needs)  -- part-run-node-start
+      part-run-node-end
+      run-node-requires
+      (λ c. search needs)  -- add-run-node-3: i + 1 + n,
+      (λ c. search needs)  -- add-run-node-4
+      (λ c. search needs)  -- mul-run-node-2: &mut state[4 + 4 * n..],
+      (λ c. search needs)  -- add-run-node-5
+      sub-run-node-2
+      sub-run-node-2  -- part-run-node-start-2
+      (λ c. search needs)  -- part-run-node-end-2
+      run-node-requires-2
+      (λ c. search needs)  -- mul-par-end: par_end(state, 4 + 4 * n, f, g)
+      (λ c. search needs)  -- add-par-end
+      par-end-requires
+      (λ c. search needs)  -- same-length: fn run_both
+      (λ c. search needs)  -- same-length-2
+      (λ c. search needs)  -- same-length-3
+      (λ c. search needs)  -- same-length-4
+      returns

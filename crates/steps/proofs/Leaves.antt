@@ -1,0 +1,140 @@
+-- What the forms without children do when they run, and a node that reads as Nothing.
+use Prim.Native.Nat.{ℕ, suc, _+_, _-_, _*_, _<_}
+use mathlib.Core.Bool.{Bool, true, false, cond}
+use mathlib.Core.Path.{_≡_, refl, ap, sym, _∙_}
+use mathlib.Core.Logic.{_≢_}
+use mathlib.Core.List.{List, [], _∷_}
+use native.Mathlib.Omega.{arith}
+use native.Mathlib.Numerals.{add-one}
+use lib.Dec.{ltb}
+use lib.ListN.{length, set, replicate}
+use lib.Seq.{set-split, getD-set-same, getD-set-other}
+use borrow.Author.Tests.{lt-ltb}
+use Rattle.events.specs.Events.{put}
+use Rattle.events.specs.Members.{marks}
+use Rattle.junior.specs.declared.Flag.the-variants.{SUSP, STOP, TERM}
+use Rattle.junior.specs.declared.Verdict.{Verdict}
+use Rattle.junior.specs.declared.Verdict.the-variants.{Sat, Unsat, Unknown}
+use Rattle.junior.specs.Configuration.{generated}
+use Rattle.junior.specs.Program.{Program, Atom, Generate, size, kind}
+use Rattle.junior.specs.Term.{Term, done, prog}
+use Rattle.junior.specs.Trace.{Place, did-atom, did-generate, collect}
+use Rattle.junior.specs.Rules.{r1-on, r2, r3, r16, r22, r23, r24, r25}
+use Rattle.junior.proofs.Figures.{pot}
+use Rattle.table.specs.Records.{argumentAt}
+use Rattle.table.specs.Spells.{Spells}
+use Rattle.steps.specs.StateBytes.{zeros, below, stateBytes}
+use Rattle.steps.specs.Running.{Ready, Ran, HasTest, TestRead, envOf, atoms-done}
+use Rattle.steps.proofs.Parts.{size-pos}
+use Rattle.steps.proofs.Shape.{Shape, is-done, is-stop, is-atom, is-generate, is-await, is-local}
+use Rattle.steps.proofs.LoadedNode.{generate-placed, await-test}
+use Rattle.steps.proofs.Done.{ran-alone, wrote-none}
+
+-- all bytes of a node in phase 3 are zero but the phase
+done-zeros : (p : Program) → set (stateBytes (done p)) 0 0 ≡ zeros p
+unfolding below
+done-zeros p =
+    let n : suc (suc (suc (suc (4 * size p - 4)))) ≡ 4 * size p = omega (arith, size-pos p) in
+    ap (λ (k : ℕ). replicate k 0) n
+
+-- the atoms counted in the tally are none of the environment
+count-apart : (words tally : List ℕ) (n : ℕ) → envOf words (set tally 0 n) ≡ envOf words tally
+count-apart words [] n = refl
+count-apart words (a ∷ l) n = refl
+
+moved : (words words′ tally : List ℕ) (s : ℕ) → length tally ≡ 3 → marks words′ ≡ put s true (marks words)
+    → envOf words′ (set tally 1 1) ≡ generated s (envOf words tally)
+moved words words′ [] s n e = absurd (omega arith)
+moved words words′ (a ∷ []) s n e = absurd (omega arith)
+moved words words′ (a ∷ b ∷ l) s n e = rw e
+
+no-sign : (b : Bool) → _≡_ {A = ℕ} (cond b 1 0) 3 → ⊥
+no-sign true e = omega arith
+no-sign false e = omega arith
+
+module _ {table : List ℕ} {i : ℕ} {state words row tally : List ℕ} where
+  pub done-ran : {P : Place} {t : Term} {k : ℕ} → Shape t k 3 → Ready 0 table i state words row tally t
+      → Ran P t words row tally (set state 0 0) words row tally TERM
+  unfolding collect prog
+  done-ran (is-done p k) h = ran-alone r1-on refl (ap (λ (l : List ℕ). set l 0 0) (h .bytes) ∙ done-zeros p)
+  done-ran (is-local b s u k) h = absurd (no-sign b k)
+
+  pub stop-ran : {P : Place} {t : Term} {ph : ℕ} → Shape t 1 ph → ph ≢ 3 → Ready 0 table i state words row tally t
+      → Ran P t words row tally (set state 0 3) words row tally STOP
+  unfolding collect below size
+  stop-ran (is-done p k) n h = absurd (n refl)
+  stop-ran is-stop n h = ran-alone r2 refl (ap (λ (l : List ℕ). set l 0 3) (h .bytes))
+
+  pub atom-room : {t : Term} {ph : ℕ} → Shape t 2 ph → ph ≢ 3 → Ready 0 table i state words row tally t
+      → atoms-done tally < length row
+  unfolding pot kind
+  atom-room (is-done p k) n h = absurd (n refl)
+  atom-room (is-atom a) n h = omega (arith, h .room)
+
+  pub atom-ran : {P : Place} {t : Term} {ph : ℕ} → Shape t 2 ph → ph ≢ 3 → Ready 0 table i state words row tally t
+      → (a : ℕ) → a ≡ argumentAt table i
+      → Ran P t words row tally state words (set row (atoms-done tally) a) (set tally 0 (atoms-done tally + 1)) TERM
+  unfolding collect below prog size Spells
+  atom-ran (is-done p k) n h a e = absurd (n refl)
+  atom-ran (is-atom b) n h a e =
+      let at = atoms-done tally in
+      let same : a ≡ b = e ∙ h .placed .spelled .1 in
+      record {
+        to = done (Atom b);
+        acts = did-atom b ∷ [];
+        rewrites = rw (count-apart words tally (at + 1)) r3;
+        bytes = h .bytes;
+        wrote = record {
+          done-is = getD-set-same tally 0 (at + 1) 0 (omega (arith, h .tallied));
+          row-is = rw (same, add-one) (set-split row at b (atom-room (is-atom b) n h));
+        };
+      }
+
+  pub generate-ran : {P : Place} {t : Term} {ph : ℕ} → Shape t 7 ph → ph ≢ 3 → Ready 0 table i state words row tally t
+      → (s : ℕ) → s ≡ argumentAt table i
+      → (words′ : List ℕ) → marks words′ ≡ put s (ltb s (64 * length words)) (marks words)
+      → Ran P t words row tally state words′ row (set tally 1 1) TERM
+  unfolding collect below prog size Spells
+  generate-ran (is-done p k) n h s e words′ m = absurd (n refl)
+  generate-ran (is-generate b) n h s e words′ m =
+      let same : s ≡ b = e ∙ h .placed .spelled .1 in
+      let there = lt-ltb b (64 * length words) (omega (arith, generate-placed (h .placed), h .wide)) in
+      record {
+        to = done (Generate b);
+        acts = did-generate b ∷ [];
+        rewrites = rw (moved words words′ tally b (h .tallied) (rw (same, there) at m)) r16;
+        bytes = h .bytes;
+        wrote = rw (getD-set-other tally 1 0 1 0 (λ z. omega arith)) (wrote-none row (atoms-done tally));
+      }
+
+  -- an Await's configuration can be read, and the Await goes by what it is read as
+  pub await-has : {t : Term} {ph : ℕ} → Shape t 8 ph → ph ≢ 3 → Ready 0 table i state words row tally t → HasTest table i tally
+  unfolding prog
+  await-has (is-done p k) n h = absurd (n refl)
+  await-has (is-await c) n h = await-test (h .tallied) (h .placed)
+
+  module _ {v : Verdict} (reads : TestRead table i words tally v) where
+    pub await-waits : {P : Place} {t : Term} {ph : ℕ} → Shape t 8 ph → ph ≢ 3 → Ready 0 table i state words row tally t
+        → v ≡ Unknown → Ran P t words row tally state words row tally SUSP
+    unfolding collect prog Spells
+    await-waits (is-done p k) n h e = absurd (n refl)
+    await-waits (is-await c) n h e = ran-alone (r25 (sym (reads c (h .placed .spelled .1)) ∙ e)) refl (h .bytes)
+
+    pub await-fails : {P : Place} {t : Term} {ph : ℕ} → Shape t 8 ph → ph ≢ 3 → Ready 0 table i state words row tally t
+        → v ≡ Unsat → Ran P t words row tally state words row tally STOP
+    unfolding collect prog Spells
+    await-fails (is-done p k) n h e = absurd (n refl)
+    await-fails (is-await c) n h e = ran-alone (r24 (sym (reads c (h .placed .spelled .1)) ∙ e)) refl (h .bytes)
+
+    pub await-ends : {P : Place} {t : Term} {ph : ℕ} → Shape t 8 ph → ph ≢ 3 → Ready 0 table i state words row tally t
+        → v ≡ Sat → envOf words tally .eoi ≡ false → Ran P t words row tally state words row tally TERM
+    unfolding collect below prog size Spells
+    await-ends (is-done p k) n h e o = absurd (n refl)
+    await-ends (is-await c) n h e o = ran-alone (r22 (sym (reads c (h .placed .spelled .1)) ∙ e) o) refl (h .bytes)
+
+    pub await-stops : {P : Place} {t : Term} {ph : ℕ} → Shape t 8 ph → ph ≢ 3 → Ready 0 table i state words row tally t
+        → v ≡ Sat → envOf words tally .eoi ≡ true → Ran P t words row tally (set state 0 3) words row tally STOP
+    unfolding collect below prog size Spells
+    await-stops (is-done p k) n h e o = absurd (n refl)
+    await-stops (is-await c) n h e o =
+        ran-alone (r23 (sym (reads c (h .placed .spelled .1)) ∙ e) o) refl (ap (λ (l : List ℕ). set l 0 3) (h .bytes))

@@ -1,0 +1,9 @@
+pub mod Parts
+pub mod Shape
+pub mod Flags
+pub mod Frames
+pub mod Children
+pub mod Done
+pub mod LoadedNode
+pub mod TestInside
+pub mod Leaves

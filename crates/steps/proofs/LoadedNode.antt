@@ -1,0 +1,93 @@
+-- What is known of a node of a loaded table: its event has a place, its configuration stands in the table.
+use Prim.Native.Nat.{ℕ, _+_, _*_, _≤_, _<_}
+use mathlib.Core.Bool.{true, _||_}
+use mathlib.Core.Path.{_≡_, refl}
+use mathlib.Core.List.{List}
+use native.Mathlib.Omega.{arith}
+use lib.ListN.{length}
+use lib.Dec.{eqb, leb, ltb}
+use borrow.Author.Tests.{eqb-true, ltb-true}
+use Rattle.events.specs.Members.{places}
+use Rattle.junior.specs.Configuration.{Config}
+use Rattle.junior.specs.Program.{Program, Repeat, Generate, Await, When, Until, Control, Local, kind}
+use Rattle.table.specs.Records.{nodes, configurations, events, kindAt, zeroAt, argumentAt, sizeAt}
+use Rattle.table.specs.Good.{argumentLimit, goodNode, laidOut, children}
+use Rattle.table.specs.Spells.{Spells, Configured, tested, weight}
+use Rattle.table.proofs.Laid.{both}
+use Rattle.steps.specs.Running.{Loaded, Placed, HasTest}
+use Rattle.steps.proofs.Parts.{size-pos}
+use Rattle.steps.proofs.Frames.{kind-of}
+use Rattle.steps.proofs.TestInside.{ends-inside}
+
+module _ {table : List ℕ} (l : Loaded table) where
+  -- what the last two tests of a node say
+  argument-laid : (i : ℕ) → i < nodes table
+      → (argumentAt table i < argumentLimit table (kindAt table i)) × ((ltb 0 i || eqb (sizeAt table i) (nodes table)) ≡ true)
+  unfolding goodNode
+  argument-laid i h =
+      let k = both {a = leb (kindAt table i) 12} (l .nodes-good i h) in
+      let z = both {a = eqb (zeroAt table i) 0} (k .1) in
+      let a = both (z .1) in
+      (ltb-true _ _ (a .0), both {a = laidOut (sizeAt table) (nodes table) i (children (kindAt table i))} (a .1) .1)
+
+  pub root-size : sizeAt table 0 ≡ nodes table
+  root-size = eqb-true _ _ (argument-laid 0 (omega (arith, l .framed .n-least)) .1)
+
+module _ {table : List ℕ} {i : ℕ} {p : Program} (h : Placed table i p) where
+  within : i < nodes table
+  within = omega (arith, h .inside, size-pos p)
+
+  argument-below : {limit : ℕ} → argumentLimit table (kind p) ≡ limit → argumentAt table i < limit
+  argument-below e = rw (kind-of h, e) at (argument-laid (h .loaded) i within .0)
+
+  event-placed : argumentLimit table (kind p) ≡ events table → argumentAt table i < places
+  event-placed e = omega (arith, argument-below e, h .loaded .framed .v-most)
+
+  has-test : argumentLimit table (kind p) ≡ configurations table → (c : Config) → Configured table (tested table i) c
+      → {tally : List ℕ} → length tally ≡ 3 → HasTest table i tally
+  has-test e c s n =
+      record { loaded = h .loaded; node = within; tests = argument-below e; spelled = (c, s); tallied = n }
+
+-- the events that nodes name
+module _ {table : List ℕ} {i s : ℕ} where
+  pub generate-placed : Placed table i (Generate s) → s < places
+  unfolding Spells kind argumentLimit
+  generate-placed h = omega (arith, event-placed h refl, h .spelled .1)
+
+  pub control-placed : {p : Program} → Placed table i (Control s p) → s < places
+  unfolding Spells kind argumentLimit
+  control-placed h = omega (arith, event-placed h refl, h .spelled .1)
+
+  pub local-placed : {p : Program} → Placed table i (Local s p) → s < places
+  unfolding Spells kind argumentLimit
+  local-placed h = omega (arith, event-placed h refl, h .spelled .1)
+
+-- how often a Repeat runs its body is a number of 16 bits
+pub repeat-below : {table : List ℕ} {i n : ℕ} {p : Program} → Placed table i (Repeat n p) → n < 65536
+unfolding Spells kind argumentLimit
+repeat-below h = omega (arith, argument-below h refl, h .spelled .1)
+
+-- the configurations that nodes test
+module _ {table : List ℕ} {i : ℕ} {c : Config} {tally : List ℕ} (n : length tally ≡ 3) where
+  pub await-test : Placed table i (Await c) → HasTest table i tally
+  unfolding Spells kind argumentLimit
+  await-test h = has-test h refl c (h .spelled .1) n
+
+  pub when-test : {p q : Program} → Placed table i (When c p q) → HasTest table i tally
+  unfolding Spells kind argumentLimit
+  when-test h = has-test h refl c (h .spelled .1) n
+
+  pub until-test : {p q : Program} → Placed table i (Until c p q) → HasTest table i tally
+  unfolding Spells kind argumentLimit
+  until-test h = has-test h refl c (h .spelled .1) n
+
+-- a test's configuration ends in the table
+pub test-inside : {table : List ℕ} {i : ℕ} {tally : List ℕ} → HasTest table i tally → (c : Config)
+    → Configured table (tested table i) c → tested table i + 4 * weight c ≤ length table
+test-inside {table} {i} h c s =
+    omega (arith, ends-inside table (h .loaded .configurations-good) c (argumentAt table i) (h .tests) s, h .loaded .framed .long)
+
+-- where a test's configuration begins, by the sizes and arguments that the code reads
+pub test-at : {table : List ℕ} {i : ℕ} {tally : List ℕ} → HasTest table i tally → (n a : ℕ) → n ≡ sizeAt table 0
+    → a ≡ argumentAt table i → 6 * n + 4 * a ≡ tested table i
+test-at h n a e f = omega (arith, root-size (h .loaded))

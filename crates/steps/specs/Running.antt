@@ -1,0 +1,183 @@
+-- What the functions of a pass promise one another. Private contracts alone cite this file; the public one is specs/Pass.antt.
+use Prim.Native.Nat.{ℕ, _+_, _*_, _%_, _≤_, _<_}
+use mathlib.Core.Bool.{Bool, true, false, cond}
+use mathlib.Core.Path.{_≡_}
+use mathlib.Core.Logic.{_≢_}
+use mathlib.Core.List.{List, _++_}
+use lib.ListN.{length, getD, take, drop, set}
+use lib.Dec.{ltb}
+use Rattle.events.specs.Members.{places, marks}
+use Rattle.junior.specs.declared.Flag.{Flag}
+use Rattle.junior.specs.declared.Flag.the-variants.{SUSP, STOP, TERM}
+use Rattle.junior.specs.declared.Verdict.{Verdict}
+use Rattle.junior.specs.Flags.{γ, δ₁, δ₂}
+use Rattle.junior.specs.Configuration.{Config, Env, test}
+use Rattle.junior.specs.Program.{Program, kind, size}
+use Rattle.junior.specs.Term.{Term, prog}
+use Rattle.junior.specs.Trace.{Place, Act, atoms}
+use Rattle.junior.specs.Rules.{Rewrites, answers}
+use Rattle.junior.specs.Figures.{LoopsStop, per}
+use Rattle.junior.proofs.Going.{Going}
+use Rattle.junior.proofs.Figures.{pot}
+use Rattle.table.specs.Records.{nodes, configurations, events, argumentAt}
+use Rattle.table.specs.Good.{goodNode}
+use Rattle.table.specs.Spells.{Spells, Configured, tested}
+use Rattle.table.specs.Inside.{Framed, ConfigurationsGood}
+use Rattle.steps.specs.StateBytes.{code, head, zeros, stateBytes}
+
+-- The tally of an instant: how many atoms are done, whether something moved, whether the end is declared (0 for no).
+abbrev pub atoms-done : List ℕ → ℕ
+atoms-done tally = getD tally 0 0
+
+-- the environment that the words and the tally stand for
+abbrev pub envOf : List ℕ → List ℕ → Env
+envOf words tally = record { now = marks words; eoi = ltb 0 (getD tally 2 0); move = ltb 0 (getD tally 1 0) }
+
+-- past refusals 1 to 5
+pub record Loaded (table : List ℕ) : Type 0 where
+  pub framed : Framed table (nodes table) (configurations table) (events table)
+  pub configurations-good : ConfigurationsGood table
+  pub nodes-good : (i : ℕ) → i < nodes table → goodNode table i ≡ true
+
+-- p stands at node i of such a table, and its Loops stop
+pub record Placed (table : List ℕ) (i : ℕ) (p : Program) : Type 0 where
+  pub loaded : Loaded table
+  pub spelled : Spells table i p
+  pub inside : i + size p ≤ nodes table
+  pub loops : LoopsStop p
+
+-- the bytes of a term, all but the first few
+abbrev pub Bytes : ℕ → List ℕ → Term → Type 0
+Bytes skip state t = drop skip state ≡ drop skip (stateBytes t)
+
+-- t, at node i of the table, can be run: its bytes but for the first `skip` are in the state, and the row has room for its atoms
+pub record Ready (skip : ℕ) (table : List ℕ) (i : ℕ) (state words row tally : List ℕ) (t : Term) : Type 0 where
+  pub placed : Placed table i (prog t)
+  pub wide : 64 * length words ≡ places
+  pub tallied : length tally ≡ 3
+  pub long : length state ≡ 4 * size (prog t)
+  pub bytes : Bytes skip state t
+  pub going : Going (marks words) t
+  pub room : atoms-done tally + pot (per 2) t ≤ length row
+
+-- the bytes that a node leaves: all zero if it answers TERM, for whoever keeps it in sight to mark it as phase 3
+abbrev pub left : Flag → Term → List ℕ
+left SUSP t = stateBytes t
+left STOP t = stateBytes t
+left TERM t = zeros (prog t)
+
+-- the atoms xs went into the row behind the first `at`
+pub record Wrote (xs row : List ℕ) (at : ℕ) (row′ : List ℕ) (at′ : ℕ) : Type 0 where
+  pub done-is : at′ ≡ at + length xs
+  pub row-is : row′ ≡ take at row ++ (xs ++ drop (at + length xs) row)
+
+-- t at place P was run once, by the rules
+pub record Ran (P : Place) (t : Term) (words row tally state′ words′ row′ tally′ : List ℕ) (α : Flag) : Type 0 where
+  pub to : Term
+  pub acts : List Act
+  pub rewrites : Rewrites ⊥ P t (envOf words tally) (answers α to (envOf words′ tally′) acts)
+  pub bytes : state′ ≡ left α to
+  pub wrote : Wrote (atoms acts) row (atoms-done tally) row′ (atoms-done tally′)
+
+-- which terms a function runs
+abbrev pub Any : Term → Type 0
+Any t = Unit {0}
+
+-- those of a kind that don't read as Nothing
+abbrev pub Kind : ℕ → Term → Type 0
+Kind k t = (kind (prog t) ≡ k) × (head t .phase ≢ 3)
+
+-- those in a phase
+abbrev pub Phase : ℕ → Term → Type 0
+Phase ph t = head t .phase ≡ ph
+
+-- those of a kind in a phase
+abbrev pub KindPhase : ℕ → ℕ → Term → Type 0
+KindPhase k ph t = (kind (prog t) ≡ k) × (head t .phase ≡ ph)
+
+-- begun Repeats with k runs still to begin
+abbrev pub Times : ℕ → Term → Type 0
+Times k t = (kind (prog t) ≡ 6) × (head t .phase ≡ 1) × (head t .count ≡ k)
+
+-- Pars by which branches are suspended: both, only the first, only the second
+abbrev pub BothSuspended : Term → Type 0
+BothSuspended t = Kind 4 t × (head t .flags ≡ 0)
+
+abbrev pub LeftSuspended : Term → Type 0
+LeftSuspended t = Kind 4 t × (head t .flags % 4 ≡ 0) × (head t .flags ≢ 0)
+
+abbrev pub RightSuspended : Term → Type 0
+RightSuspended t = Kind 4 t × (head t .flags % 4 ≢ 0)
+
+-- what each function of the cycle asks, and what it gives: whatever such term stands there was run once
+abbrev pub Live : ℕ → (Term → Type 0) → List ℕ → ℕ → List ℕ → List ℕ → List ℕ → List ℕ → Type 0
+Live skip W table i state words row tally = (t : Term) × W t × Ready skip table i state words row tally t
+
+abbrev pub Runs :
+    ℕ
+    → (Term → Type 0)
+    → List ℕ
+    → ℕ
+    → List ℕ
+    → List ℕ
+    → List ℕ
+    → List ℕ
+    → List ℕ
+    → List ℕ
+    → List ℕ
+    → List ℕ
+    → Flag
+    → Type 0
+Runs skip W table i state words row tally state′ words′ row′ tally′ α =
+    (t : Term)
+    → W t
+    → Ready skip table i state words row tally t
+    → (P : Place)
+    → P .node ≡ i
+    → Ran P t words row tally state′ words′ row′ tally′ α
+
+-- node i tests a configuration, which stands in the table, and what reading it gives
+pub record HasTest (table : List ℕ) (i : ℕ) (tally : List ℕ) : Type 0 where
+  pub loaded : Loaded table
+  pub node : i < nodes table
+  pub tests : argumentAt table i < configurations table
+  pub spelled : (c : Config) × Configured table (tested table i) c
+  pub tallied : length tally ≡ 3
+
+abbrev pub TestRead : List ℕ → ℕ → List ℕ → List ℕ → Verdict → Type 0
+TestRead table i words tally r = (c : Config) → Configured table (tested table i) c → r ≡ test c (envOf words tally)
+
+-- the phase of a node in its part: 0 once that has ended
+abbrev pub phaseAfter : Flag → ℕ → ℕ
+phaseAfter SUSP ph = ph
+phaseAfter STOP ph = ph
+phaseAfter TERM ph = 0
+
+-- a Local's sign, as a phase, by its body's flag and its event then
+abbrev pub signAfter : Flag → Bool → ℕ
+signAfter SUSP present = cond present 1 0
+signAfter STOP present = 0
+signAfter TERM present = 0
+
+abbrev pub isTERM : Flag → Bool
+isTERM SUSP = false
+isTERM STOP = false
+isTERM TERM = true
+
+-- an ended branch is phase 3 while its Par goes on
+abbrev pub gone : Flag → ℕ
+gone SUSP = 3
+gone STOP = 3
+gone TERM = 0
+
+-- the bytes s of a node whose branch at byte `at` has answered α: if it has ended, this is its phase
+abbrev pub ended : Flag → ℕ → ℕ → List ℕ → List ℕ
+ended SUSP at phase s = s
+ended STOP at phase s = s
+ended TERM at phase s = set s at phase
+
+-- the bytes of a Par whose branches answered α and β, the second standing at byte `second`
+abbrev pub parEnd : Flag → Flag → ℕ → List ℕ → List ℕ
+parEnd α β second s =
+    let flags = cond (isTERM (γ α β)) 0 (code (δ₁ α β) + 4 * code (δ₂ α β)) in
+    ended β second (gone (γ α β)) (ended α 4 (gone (γ α β)) (set s 1 flags))
