@@ -1,7 +1,7 @@
--- Reading a configuration by its parts: what stands at its parts, that these are smaller, and what the whole reads as.
-use Prim.Native.Nat.{ℕ, _+_, _*_, _≤_, _<_}
-use mathlib.Core.Bool.{Bool, _||_}
-use mathlib.Core.Path.{_≡_, refl, sym, ap, ap₂, _∙_}
+-- Reading a configuration by its parts: what stands at its parts, that these are smaller, and the rank of the whole.
+use Prim.Native.Nat.{ℕ, _+_, _-_, _*_, _≤_, _<_, min, max}
+use mathlib.Core.Bool.{Bool, true, false, cond, _||_}
+use mathlib.Core.Path.{_≡_, refl, sym, ap, _∙_}
 use mathlib.Core.List.{List}
 use native.Mathlib.Omega.{arith}
 use lib.ListN.{length}
@@ -10,9 +10,10 @@ use Rattle.junior.specs.declared.Verdict.{Verdict}
 use Rattle.junior.specs.declared.Verdict.the-variants.{Sat, Unsat, Unknown}
 use Rattle.junior.specs.Configuration.{Config, Event, Not, And, Or, Env, verdict, test}
 use Rattle.junior.proofs.Verdicts.{not₃, and₃, or₃, test-event, test-not, test-and, test-or}
-use Rattle.table.specs.Records.{partKind, partEvent, partSize, firstPart, secondPart}
+use Rattle.table.specs.Records.{partKind, partEvent, partSize, secondPart}
 use Rattle.table.specs.Spells.{Configured, weight}
 use Rattle.table.specs.Reading.{ConfigurationAt, environment, ReadAs}
+use Rattle.table.specs.Inside.Ranks.{rank, unranked, absentRank, joinedRank, RanksAs, IsAbsentRank}
 
 -- the written size is the number of records
 pub written : (t : List ℕ) (c : ℕ) (d : Config) → Configured t c d → partSize t c ≡ weight d
@@ -63,64 +64,114 @@ second-part t c (Or d e, h, l) k n =
     let w = written t (c + 4) d (h .2) in
     record { there = (e, h .3, omega arith); less = omega (arith, written t (secondPart t c) e (h .3), h .1, some-record d) }
 
--- two numerals are not equal
-apart : {A : Type 0} {k a b : ℕ} → k ≡ a → k ≡ b → (a ≡ b → ⊥) → A
-apart e f h = absurd (h (sym e ∙ f))
+-- what stands at byte c, by its kind
+data Stands (t : List ℕ) (c : ℕ) : ℕ → Config → Type 0 where
+  event : {s : ℕ} → partEvent t c ≡ s → Stands t c 0 (Event s)
+  negation : {d : Config} → Configured t (c + 4) d → Stands t c 1 (Not d)
+  conjunction : {d e : Config} → Configured t (c + 4) d → Configured t (secondPart t c) e → Stands t c 2 (And d e)
+  disjunction : {d e : Config} → Configured t (c + 4) d → Configured t (secondPart t c) e → Stands t c 3 (Or d e)
 
-module _ (t : List ℕ) (c : ℕ) (words : List ℕ) (ended : Bool) where
-  pub reads-event : (r : Verdict)
-      → partKind t c ≡ 0
-      → r ≡ verdict (marks words (partEvent t c) || ended) (marks words (partEvent t c))
-      → ReadAs t c words ended r
-  unfolding Configured
-  reads-event r k e (Event s) m h = e ∙ (ap (λ (n : ℕ). verdict (marks words n || ended) (marks words n)) (h .2) ∙ sym (test-event s _))
-  reads-event r k e (Not d) m h = apart k (h .0) (λ z. omega arith)
-  reads-event r k e (And d f) m h = apart k (h .0) (λ z. omega arith)
-  reads-event r k e (Or d f) m h = apart k (h .0) (λ z. omega arith)
+stands : {t : List ℕ} {c k : ℕ} (d : Config) → partKind t c ≡ k → Configured t c d → Stands t c k d
+unfolding Configured
+stands (Event s) k h = rw (sym k ∙ h .0) (event (h .2))
+stands (Not d) k h = rw (sym k ∙ h .0) (negation (h .2))
+stands (And d e) k h = rw (sym k ∙ h .0) (conjunction (h .2) (h .3))
+stands (Or d e) k h = rw (sym k ∙ h .0) (disjunction (h .2) (h .3))
 
-  pub reads-not : (v r : Verdict) → partKind t c ≡ 1 → ReadAs t (c + 4) words ended v → r ≡ not₃ v → ReadAs t c words ended r
-  unfolding Configured
-  reads-not v r k f e (Event s) m h = apart k (h .0) (λ z. omega arith)
-  reads-not v r k f e (Not d) m h = e ∙ (ap not₃ (f d m (h .2)) ∙ sym (test-not d _))
-  reads-not v r k f e (And d g) m h = apart k (h .0) (λ z. omega arith)
-  reads-not v r k f e (Or d g) m h = apart k (h .0) (λ z. omega arith)
+-- ranks of three-valued logic
+rank-event : (present ended : Bool) → cond present 2 (absentRank ended) ≡ rank (verdict (present || ended) present)
+rank-event true ended = refl
+rank-event false true = refl
+rank-event false false = refl
 
-  -- for an And: if the first part is unsat, that is all; else both are read
-  pub reads-unsat : (v : Verdict) → partKind t c ≡ 2 → ReadAs t (c + 4) words ended v → v ≡ Unsat → ReadAs t c words ended Unsat
-  unfolding Configured
-  reads-unsat v k f e (Event s) m h = apart k (h .0) (λ z. omega arith)
-  reads-unsat v k f e (Not d) m h = apart k (h .0) (λ z. omega arith)
-  reads-unsat v k f e (And d g) m h = ap (λ x. and₃ x (test g (environment words ended m))) (sym e ∙ f d m (h .2)) ∙ sym (test-and d g _)
-  reads-unsat v k f e (Or d g) m h = apart k (h .0) (λ z. omega arith)
+rank-not : (v : Verdict) → 2 - rank v ≡ rank (not₃ v)
+rank-not Sat = refl
+rank-not Unsat = refl
+rank-not Unknown = refl
 
-  pub reads-and : (v w r : Verdict)
-      → partKind t c ≡ 2
-      → ReadAs t (c + 4) words ended v
-      → ReadAs t (secondPart t c) words ended w
-      → r ≡ and₃ v w
-      → ReadAs t c words ended r
-  unfolding Configured
-  reads-and v w r k f g e (Event s) m h = apart k (h .0) (λ z. omega arith)
-  reads-and v w r k f g e (Not d) m h = apart k (h .0) (λ z. omega arith)
-  reads-and v w r k f g e (And d i) m h = e ∙ (ap₂ and₃ (f d m (h .2)) (g i m (h .3)) ∙ sym (test-and d i _))
-  reads-and v w r k f g e (Or d i) m h = apart k (h .0) (λ z. omega arith)
+rank-and : (v w : Verdict) → min (rank v) (rank w) ≡ rank (and₃ v w)
+rank-and Sat Sat = refl
+rank-and Sat Unsat = refl
+rank-and Sat Unknown = refl
+rank-and Unsat Sat = refl
+rank-and Unsat Unsat = refl
+rank-and Unsat Unknown = refl
+rank-and Unknown Sat = refl
+rank-and Unknown Unsat = refl
+rank-and Unknown Unknown = refl
 
-  -- for an Or: if the first part is sat, that is all; else both are read
-  module _ (n₀ : partKind t c ≡ 0 → ⊥) (n₁ : partKind t c ≡ 1 → ⊥) (n₂ : partKind t c ≡ 2 → ⊥) where
-    pub reads-sat : (v : Verdict) → ReadAs t (c + 4) words ended v → v ≡ Sat → ReadAs t c words ended Sat
-    unfolding Configured
-    reads-sat v f e (Event s) m h = absurd (n₀ (h .0))
-    reads-sat v f e (Not d) m h = absurd (n₁ (h .0))
-    reads-sat v f e (And d g) m h = absurd (n₂ (h .0))
-    reads-sat v f e (Or d g) m h = ap (λ x. or₃ x (test g (environment words ended m))) (sym e ∙ f d m (h .2)) ∙ sym (test-or d g _)
+rank-or : (v w : Verdict) → max (rank v) (rank w) ≡ rank (or₃ v w)
+rank-or Sat Sat = refl
+rank-or Sat Unsat = refl
+rank-or Sat Unknown = refl
+rank-or Unsat Sat = refl
+rank-or Unsat Unsat = refl
+rank-or Unsat Unknown = refl
+rank-or Unknown Sat = refl
+rank-or Unknown Unsat = refl
+rank-or Unknown Unknown = refl
 
-    pub reads-or : (v w r : Verdict)
-        → ReadAs t (c + 4) words ended v
-        → ReadAs t (secondPart t c) words ended w
-        → r ≡ or₃ v w
-        → ReadAs t c words ended r
-    unfolding Configured
-    reads-or v w r f g e (Event s) m h = absurd (n₀ (h .0))
-    reads-or v w r f g e (Not d) m h = absurd (n₁ (h .0))
-    reads-or v w r f g e (And d i) m h = absurd (n₂ (h .0))
-    reads-or v w r f g e (Or d i) m h = e ∙ (ap₂ or₃ (f d m (h .2)) (g i m (h .3)) ∙ sym (test-or d i _))
+rank-most : (v : Verdict) → rank v ≤ 2
+rank-most Sat = omega arith
+rank-most Unsat = omega arith
+rank-most Unknown = omega arith
+
+ranked : (v : Verdict) → unranked (rank v) ≡ v
+unfolding unranked
+ranked Sat = refl
+ranked Unsat = refl
+ranked Unknown = refl
+
+module _ (t : List ℕ) (c : ℕ) (words : List ℕ) (absent : ℕ) where
+  -- a rank is at most 2
+  pub ranks-most : (r : ℕ) → ConfigurationAt t c → IsAbsentRank absent → RanksAs t c words absent r → r ≤ 2
+  ranks-most r (d, h, l) (ended, a) f = rw (f d ended false h a) (rank-most (test d (environment words ended false)))
+
+  pub ranks-read : (r : ℕ) (v : Verdict) (ended : Bool) → RanksAs t c words absent r → absent ≡ absentRank ended → v ≡ unranked r
+      → ReadAs t c words ended v
+  ranks-read r v ended f a e d moved h = e ∙ (ap unranked (f d ended moved h a) ∙ ranked (test d (environment words ended moved)))
+
+  pub ranks-event : (event r : ℕ) → partKind t c ≡ 0 → event ≡ partEvent t c → r ≡ cond (marks words event) 2 absent
+      → RanksAs t c words absent r
+  ranks-event n r k f e d ended moved h a = e ∙ go (stands d k h)
+    where
+      go : {d : Config} → Stands t c 0 d → cond (marks words n) 2 absent ≡ rank (test d (environment words ended moved))
+      go (event {s} g) = rw (f, g, a, test-event s (environment words ended moved)) (rank-event (marks words s) ended)
+
+  pub ranks-not : (f : ℕ) → partKind t c ≡ 1 → RanksAs t (c + 4) words absent f → RanksAs t c words absent (2 - f)
+  ranks-not f k first d ended moved h a = go (stands d k h)
+    where
+      go : {d : Config} → Stands t c 1 d → 2 - f ≡ rank (test d (environment words ended moved))
+      go (negation {d} e) =
+          rw (test-not d (environment words ended moved), first d ended moved e a) (rank-not (test d (environment words ended moved)))
+
+  module _ (f : ℕ) (not-event : partKind t c ≡ 0 → ⊥) (not-not : partKind t c ≡ 1 → ⊥) (first : RanksAs t (c + 4) words absent f) where
+    pub ranks-both : (k g r : ℕ) → k ≡ partKind t c → RanksAs t (secondPart t c) words absent g → r ≡ joinedRank k f g
+        → RanksAs t c words absent r
+    ranks-both k g r same second e d ended moved h a = e ∙ rw same (go not-event not-not (stands d refl h))
+      where
+        E : Env
+        E = environment words ended moved
+
+        go : {k : ℕ} {d : Config} → (k ≡ 0 → ⊥) → (k ≡ 1 → ⊥) → Stands t c k d → joinedRank k f g ≡ rank (test d E)
+        go n m (event e) = absurd (n refl)
+        go n m (negation e) = absurd (m refl)
+        go n m (conjunction {d} {e} x y) =
+            rw (test-and d e E, first d ended moved x a, second e ended moved y a) (rank-and (test d E) (test e E))
+        go n m (disjunction {d} {e} x y) =
+            rw (test-or d e E, first d ended moved x a, second e ended moved y a) (rank-or (test d E) (test e E))
+
+    -- the first part decides an and by 0, an or by 2
+    pub ranks-first : f ≡ 2 * (partKind t c - 2) → RanksAs t c words absent f
+    ranks-first decided d ended moved h a = go not-event not-not decided (stands d refl h)
+      where
+        E : Env
+        E = environment words ended moved
+
+        go : {k : ℕ} {d : Config} → (k ≡ 0 → ⊥) → (k ≡ 1 → ⊥) → f ≡ 2 * (k - 2) → Stands t c k d → f ≡ rank (test d E)
+        go n m z (event e) = absurd (n refl)
+        go n m z (negation e) = absurd (m refl)
+        go n m z (conjunction {d} {e} x y) =
+            rw (test-and d e E) (omega (arith, rank-and (test d E) (test e E), first d ended moved x a))
+        go n m z (disjunction {d} {e} x y) =
+            rw (test-or d e E) (omega (arith, rank-or (test d E) (test e E), rank-most (test e E), first d ended moved x a))

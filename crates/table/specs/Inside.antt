@@ -7,6 +7,7 @@ use lib.ListN.{length}
 use Rattle.table.specs.Records.{nodes, configurations, events, configurationAt}
 use Rattle.table.specs.Good.{goodConfiguration}
 pub mod Framing
+pub mod Ranks
 pub mod Ways
 pub mod Weighing
 

@@ -1,12 +1,14 @@
-// Reading a configuration where it stands, by the definitions fixed and eval (000, 4.1).
+// Reading a configuration where it stands, by the definitions fixed and eval (000, 4.1). Inside, a verdict is its rank: 0 unsat,
+// 1 unknown, 2 sat.
 ghost use mathlib.Core.Path.{_≡_};
-ghost use mathlib.Core.Bool.{_||_};
-ghost use Rattle.junior.specs.Configuration.{verdict};
-ghost use Rattle.junior.proofs.Verdicts.{not₃, and₃, or₃};
+ghost use mathlib.Core.Bool.{cond};
+ghost use Rattle.events.specs.Members.{marks};
+ghost use Rattle.table.specs.Records.{partKind};
 ghost use Rattle.table.specs.Reading.{ConfigurationAt, ReadAs};
-use crate::records::part_event;
-use crate::records::part_kind;
-use crate::records::part_size;
+ghost use Rattle.table.specs.Inside.Ranks.{unranked, absentRank, joinedRank, RanksAs, IsAbsentRank};
+use super::records::part_event;
+use super::records::part_kind;
+use super::records::part_size;
 use events::marked;
 use junior::Verdict;
 
@@ -15,85 +17,82 @@ pub fn read_configuration(table: &[u8], c: usize, words: &[u64], ended: bool) ->
     requires { ⌜ ConfigurationAt (now table) c ⌝ }
     ensures { λ r. ⌜ ReadAs (now (table .entry)) c (now (words .entry)) ended r ⌝ }
 {
+    let absent = absent_rank(ended);
     if part_kind(table, c) == 0 {
-        return event_verdict(marked(words, part_event(table, c)), ended);
+        return verdict_of(event_rank(words, part_event(table, c), absent));
     }
-    read_parts(table, c, words, ended)
+    verdict_of(read_parts(table, c, words, absent))
 }
 
-// The same by its parts; what the first part decides, the second isn't asked.
-fn read_parts(table: &[u8], c: usize, words: &[u64], ended: bool) -> Verdict
+// The rank of a configuration that isn't a lone event, by its parts. What the first part decides, the second isn't asked.
+fn read_parts(table: &[u8], c: usize, words: &[u64], absent: usize) -> usize
     requires { ⌜ ConfigurationAt (now table) c ⌝ }
-    ensures { λ r. ⌜ ReadAs (now (table .entry)) c (now (words .entry)) ended r ⌝ }
+    requires { ⌜ (partKind (now table) c ≡ 0 → ⊥) × IsAbsentRank absent ⌝ }
+    ensures { λ r. ⌜ RanksAs (now (table .entry)) c (now (words .entry)) absent r ⌝ }
 {
-    let k = part_kind(table, c);
-    if k == 0 {
-        return event_verdict(marked(words, part_event(table, c)), ended);
+    let one = c + 4;
+    let first = if part_kind(table, one) == 0 {
+        event_rank(words, part_event(table, one), absent)
+    } else {
+        read_parts(table, one, words, absent)
+    };
+    let kind = part_kind(table, c);
+    if kind == 1 {
+        return 2 - first;
     }
-    let first = read_parts(table, c + 4, words, ended);
-    if k == 1 {
-        return opposite(first);
+    // 0 decides an and, 2 an or
+    if first == 2 * (kind - 2) {
+        return first;
     }
-    let second = c + 4 + 4 * part_size(table, c + 4);
-    if k == 2 {
-        match first {
-            Verdict::Unsat => return Verdict::Unsat,
-            _ => return both(first, read_parts(table, second, words, ended)),
-        }
+    let two = one + 4 * part_size(table, one);
+    if part_kind(table, two) == 0 {
+        let second = event_rank(words, part_event(table, two), absent);
+        return joined_rank(kind, first, second);
     }
-    match first {
-        Verdict::Sat => Verdict::Sat,
-        _ => either(first, read_parts(table, second, words, ended)),
-    }
+    joined_rank(kind, first, read_parts(table, two, words, absent))
 }
 
-// A lone event: present, or absent once the end is declared, or not known.
-fn event_verdict(present: bool, ended: bool) -> Verdict
-    ensures { λ r. ⌜ r ≡ verdict (present || ended) present ⌝ }
+fn event_rank(words: &[u64], event: usize, absent: usize) -> usize
+    ensures { λ r. ⌜ r ≡ cond (marks (now (words .entry)) event) 2 absent ⌝ }
 {
-    if present {
-        return Verdict::Sat;
+    if marked(words, event) {
+        return 2;
     }
+    absent
+}
+
+fn absent_rank(ended: bool) -> usize
+    ensures { λ r. ⌜ r ≡ absentRank ended ⌝ }
+{
     if ended {
+        return 0;
+    }
+    1
+}
+
+fn joined_rank(kind: usize, first: usize, second: usize) -> usize
+    ensures { λ r. ⌜ r ≡ joinedRank kind first second ⌝ }
+{
+    if kind == 2 {
+        if first < second {
+            return first;
+        }
+        return second;
+    }
+    if first < second {
+        return second;
+    }
+    first
+}
+
+fn verdict_of(rank: usize) -> Verdict
+    ensures { λ r. ⌜ r ≡ unranked rank ⌝ }
+{
+    if rank == 0 {
         return Verdict::Unsat;
     }
-    Verdict::Unknown
-}
-
-fn opposite(v: Verdict) -> Verdict
-    ensures { λ r. ⌜ r ≡ not₃ v ⌝ }
-{
-    match v {
-        Verdict::Sat => Verdict::Unsat,
-        Verdict::Unsat => Verdict::Sat,
-        Verdict::Unknown => Verdict::Unknown,
+    if rank == 1 {
+        return Verdict::Unknown;
     }
-}
-
-fn both(v: Verdict, w: Verdict) -> Verdict
-    ensures { λ r. ⌜ r ≡ and₃ v w ⌝ }
-{
-    match v {
-        Verdict::Sat => w,
-        Verdict::Unsat => Verdict::Unsat,
-        Verdict::Unknown => match w {
-            Verdict::Unsat => Verdict::Unsat,
-            Verdict::Sat => Verdict::Unknown,
-            Verdict::Unknown => Verdict::Unknown,
-        },
-    }
-}
-
-fn either(v: Verdict, w: Verdict) -> Verdict
-    ensures { λ r. ⌜ r ≡ or₃ v w ⌝ }
-{
-    match v {
-        Verdict::Sat => Verdict::Sat,
-        Verdict::Unsat => w,
-        Verdict::Unknown => match w {
-            Verdict::Sat => Verdict::Sat,
-            Verdict::Unsat => Verdict::Unknown,
-            Verdict::Unknown => Verdict::Unknown,
-        },
-    }
+    Verdict::Sat
 }

@@ -1,36 +1,57 @@
 -- A lone event at once, else by the parts.
 use Rattle.table.proofs.reading.read_configuration.Statement.{statement}
 use Rattle.table.proofs.reading.read_configuration.Tie as tie
-use borrow.Author.Needs.{needs}
-use native.Mathlib.Omega.{arith}
 use mathlib.Core.Path.{sym, _∙_}
-use Rattle.table.proofs.ByParts.{own-inside, reads-event}
+use native.Mathlib.Omega.{arith}
+use borrow.Author.Needs.{needs}
+use Rattle.table.proofs.ByParts.{own-inside, ranks-read, ranks-event}
 
--- return event_verdict(marked(words, part_event(table, c)), ended);
+-- if part_kind(table, c) == 0 {
+part-kind-requires : tie.Need-part-kind-requires
+part-kind-requires c κs =
+    let start = c .before .before .before in
+    omega (arith, own-inside _ _ (start .pre))
+
+-- return verdict_of(event_rank(words, part_event(table, c), absent));
+part-event-requires : tie.Need-part-event-requires
+part-event-requires c κs =
+    let start = c .before .before .before .before .before in
+    omega (arith, own-inside _ _ (start .pre))
+
 returns : tie.Need-returns
 returns c =
-    let start = c .before .before .before .before .before .before .before in
+    let start = c .before .before .before .before .before .before .before .before in
+    let absent-rank = c .before .before .before .before .before .absent-rank in
     let part-kind = c .before .before .before .before .part-kind in
     let if1 = c .before .before .before .if1 in
     let part-event = c .before .before .part-event in
-    let marked = c .before .marked in
-    let event-verdict = c .event-verdict in
-    reads-event
-    (start .args .table .now)
-    (start .args .c)
-    (start .args .words .now)
-    (start .args .ended)
-    _
-    (sym (part-kind .ensures .0) ∙ if1 .taken)
-    (simp (marked .ensures, part-event .ensures .0) at (event-verdict .ensures))
+    let event-rank = c .before .event-rank in
+    let verdict-of = c .verdict-of in
+    let a = start .args in
+    let t = a .table .now in
+    let w = a .words .now in
+    let rank = ranks-event t (a .c) w _ _ _ (sym (part-kind .ensures .0) ∙ if1 .taken) (part-event .ensures .0) (event-rank .ensures) in
+    ranks-read t (a .c) w _ _ _ (a .ended) rank (absent-rank .ensures) (verdict-of .ensures)
+
+-- pub fn read_configuration
+returns-2 : tie.Need-returns-2
+returns-2 c =
+    let start = c .before .before .before .before .before .before .before in
+    let absent-rank = c .before .before .before .before .absent-rank in
+    let read-parts = c .before .read-parts in
+    let verdict-of2 = c .verdict-of2 in
+    let a = start .args in
+    ranks-read (a .table .now) (a .c) (a .words .now) _ _ _ (a .ended) (read-parts .ensures) (absent-rank .ensures) (verdict-of2 .ensures)
 
 pub read-configuration-spec : {M : Type 1} → statement M
 read-configuration-spec =
     tie.close (tie.spec
-    (λ c κs. omega (arith, own-inside _ _ (c .before .before .pre)))  -- part-kind-requires: if pa..
-    (λ c κs. omega (arith, own-inside _ _ (c .before .before .before .before .pre)))  -- part-event-requires: r..
-    (λ c κs. search needs)  -- marked-requires
-    (λ c κs. search needs)  -- event-verdict-requires
+    (λ c κs. search needs)  -- absent-rank-requires: let absent = absent_rank(ended);
+    part-kind-requires
+    part-event-requires
+    (λ c κs. search needs)  -- event-rank-requires
+    (λ c κs. search needs)  -- verdict-of-requires
     returns
-    (λ c κs. search needs)  -- read-parts-requires: read_parts(table, c, words, ended)
-    (λ c. search needs))  -- returns-2: pub fn read_configuration
+    (λ c κs. search needs)  -- read-parts-requires: verdict_of(read_parts(table, c, words, absent))
+    (λ c κs. search needs)  -- verdict-of-requires-2
+    returns-2)
