@@ -16,8 +16,7 @@ use Rattle.table.specs.Good.{children, goodNode}
 use Rattle.table.specs.Spells.{treeOf}
 use Rattle.table.specs.Verdict.{preorder, firstSuch, deep, endless, endlessLoop, light, programVerdict}
 use Rattle.table.specs.Verdict.{nodesVerdict}
-use Rattle.table.specs.Inside.{Framed, ConfigurationsGood}
-use Rattle.table.specs.Inside.Weighing.{treeAt, height, Weighs, AllGood, Row}
+use Rattle.table.specs.Inside.Weighing.{treeAt, height, Weighs, Whole, AllGood, Row}
 use Rattle.table.proofs.Here.{sized-here, tree-here, stands}
 use Rattle.table.proofs.Little.{below-or}
 use Rattle.events.proofs.Events.{before-lowest}
@@ -42,16 +41,16 @@ root-answer t n e l z =
     (lowest-bad (goodNode t) (nodes t) 0 (omega arith) (λ k h. absurd (omega arith)) (λ h. b))
     (omega arith)
 
-pub all-good : {t : List ℕ} {n m v : ℕ} → Framed t n m v → ConfigurationsGood t
-    → ((i : ℕ) → i < nodes t → goodNode t i ≡ true) → AllGood t
-all-good f c g =
-    let e = f .long in
-    let n = f .n-is in
-    let h = f .n-most in
-    record { long = omega arith; few = omega arith; configurations-good = c; good = g }
+pub all-good : {t : List ℕ} {n m v : ℕ} → Whole t n m v → ((i : ℕ) → i < nodes t → goodNode t i ≡ true) → AllGood t
+all-good P g =
+    let F = P .framed in
+    let e = F .long in
+    let n = F .n-is in
+    let h = F .n-most in
+    record { long = omega arith; few = omega arith; configurations-good = P .configurations-good; good = g }
 
-pub none-bad : (t : List ℕ) (r : ℕ) → r ≡ lowest (nodes t) (λ i. not (goodNode t i)) → nodes t ≤ r → (i : ℕ) → i < nodes t
-    → goodNode t i ≡ true
+pub none-bad : (t : List ℕ) (r : ℕ) → r ≡ lowest (nodes t) (λ i. not (goodNode t i)) → nodes t ≤ r
+    → (i : ℕ) → i < nodes t → goodNode t i ≡ true
 none-bad t r e l i h = not-false _ (before-lowest (nodes t) (λ i. not (goodNode t i)) i (omega arith))
 
 -- a figure and what stands for it are on the same side of a limit below the cap, and the same if within it
@@ -73,7 +72,10 @@ accepted true true false e f g = refl
 accepted true false c e f g = refl
 accepted false b c e f g = refl
 
-module _ (t : List ℕ) (g : AllGood t) (whole : sizeAt t 0 ≡ nodes t) (l : 0 < nodes t) where
+module _ {t : List ℕ} {n m v : ℕ} (P : Whole t n m v) (g : AllGood t) where
+  l : 0 < nodes t
+  l = let e = P .framed .n-is in let h = P .framed .n-least in omega arith
+
   good-answer : nodesVerdict t ≡ programVerdict (treeOf t)
   unfolding nodesVerdict
   good-answer =
@@ -87,7 +89,7 @@ module _ (t : List ℕ) (g : AllGood t) (whole : sizeAt t 0 ≡ nodes t) (l : 0 
   the-tree = tree-here t (g .configurations-good) 0 good-from 0 (omega arith) l
 
   the-size : size (treeAt t 0) ≡ nodes t
-  the-size = sym (sized-here t (g .configurations-good) 0 good-from 0 (omega arith) l) ∙ whole
+  the-size = sym (sized-here t (g .configurations-good) 0 good-from 0 (omega arith) l) ∙ (P .whole ∙ P .framed .n-is)
 
   -- 65 programs one behind another
   pub row-deep : (i : ℕ) → i < nodes t → Row t 65 i → 64 < height (treeAt t 0)
@@ -118,12 +120,17 @@ module _ (t : List ℕ) (g : AllGood t) (whole : sizeAt t 0 ≡ nodes t) (l : 0 
           there = λ m. rw (zero-add r) (low .there m);
         })
 
+    none-deep : ltb (firstSuch deep (preorder 1 (treeAt t 0))) (size (treeAt t 0)) ≡ false
+    none-deep =
+        let e = none-too-deep the-tree h in
+        le-ltb (firstSuch deep (preorder 1 (treeAt t 0))) (size (treeAt t 0)) (omega arith)
+
     pub endless-answer : r < nodes t → EndlessLoop r ≡ nodesVerdict t
     unfolding programVerdict
     endless-answer m =
         rw (
           good-answer,
-          le-ltb (firstSuch deep (preorder 1 (treeAt t 0))) (size (treeAt t 0)) (let e = none-too-deep the-tree h in omega arith),
+          none-deep,
           first-endless,
           the-size,
           lt-ltb r (nodes t) m,
@@ -142,7 +149,7 @@ module _ (t : List ℕ) (g : AllGood t) (whole : sizeAt t 0 ≡ nodes t) (l : 0 
         let n′ = w .nodes-are .exact in
         rw (
           good-answer,
-          le-ltb (firstSuch deep (preorder 1 (treeAt t 0))) (size (treeAt t 0)) (let e = none-too-deep the-tree h in omega arith),
+          none-deep,
           first-endless,
           the-size,
           le-ltb r (nodes t) m,

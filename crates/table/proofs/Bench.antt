@@ -31,7 +31,8 @@ bench-list =
     (EndlessLoop 0)
     -- Loop(Seq(Await 0, Stop))
     ∷ entry
-    (5 ∷ 0 ∷ 0 ∷ 0 ∷ 0 ∷ 4 ∷ 3 ∷ 0 ∷ 0 ∷ 0 ∷ 0 ∷ 3 ∷ 8 ∷ 0 ∷ 0 ∷ 0 ∷ 0 ∷ 1 ∷ 1 ∷ 0 ∷ 0 ∷ 0 ∷ 0 ∷ 1 ∷ 0 ∷ 0 ∷ 0 ∷ 1 ∷ 0 ∷ 4 ∷ 0 ∷ 1 ∷ 0 ∷ 1 ∷ 0 ∷ 28 ∷ 0 ∷ 4 ∷ [])
+    (5 ∷ 0 ∷ 0 ∷ 0 ∷ 0 ∷ 4 ∷ 3 ∷ 0 ∷ 0 ∷ 0 ∷ 0 ∷ 3 ∷ 8 ∷ 0 ∷ 0 ∷ 0 ∷ 0 ∷ 1 ∷ 1 ∷ 0 ∷ 0 ∷ 0 ∷ 0 ∷ 1
+    ∷ 0 ∷ 0 ∷ 0 ∷ 1 ∷ 0 ∷ 4 ∷ 0 ∷ 1 ∷ 0 ∷ 1 ∷ 0 ∷ 28 ∷ 0 ∷ 4 ∷ [])
     (Accepted 0 0 7)
     -- K12: Repeat(4094, Generate 0), and 4095
     ∷ entry
@@ -54,7 +55,7 @@ pub data All : List Entry → Type 0 where
   more : {e : Entry} {l : List Entry} → verdictOf (e .bytes) ≡ e .answer → All l → All (e ∷ l)
 
 pub bench : All bench-list
-unfolding verdictOf recordsVerdict nodesVerdict programVerdict light lengthGood countsGood distancesGood goodConfiguration
-    goodButHeight heightAtMost parts goodNode laidOut children argumentLimit lowest configurationOf form programOf preorder
-    firstSuch size kind stops figure
+unfolding verdictOf recordsVerdict nodesVerdict programVerdict light lengthGood countsGood distancesGood
+    goodConfiguration goodButHeight heightAtMost parts goodNode laidOut children argumentLimit lowest configurationOf form
+    programOf preorder firstSuch size kind stops figure
 bench = more refl (more refl (more refl (more refl (more refl (more refl (more refl none))))))

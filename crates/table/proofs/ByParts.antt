@@ -127,25 +127,32 @@ module _ (t : List ℕ) (c : ℕ) (words : List ℕ) (absent : ℕ) where
   pub ranks-most : (r : ℕ) → ConfigurationAt t c → IsAbsentRank absent → RanksAs t c words absent r → r ≤ 2
   ranks-most r (d, h, l) (ended, a) f = rw (f d ended false h a) (rank-most (test d (environment words ended false)))
 
-  pub ranks-read : (r : ℕ) (v : Verdict) (ended : Bool) → RanksAs t c words absent r → absent ≡ absentRank ended → v ≡ unranked r
-      → ReadAs t c words ended v
-  ranks-read r v ended f a e d moved h = e ∙ (ap unranked (f d ended moved h a) ∙ ranked (test d (environment words ended moved)))
+  pub ranks-read : (r : ℕ) (v : Verdict) (ended : Bool) → RanksAs t c words absent r → absent ≡ absentRank ended
+      → v ≡ unranked r → ReadAs t c words ended v
+  ranks-read r v ended f a e d moved h =
+      e ∙ (ap unranked (f d ended moved h a) ∙ ranked (test d (environment words ended moved)))
 
   pub ranks-event : (event r : ℕ) → partKind t c ≡ 0 → event ≡ partEvent t c → r ≡ cond (marks words event) 2 absent
       → RanksAs t c words absent r
   ranks-event n r k f e d ended moved h a = e ∙ go (stands d k h)
     where
-      go : {d : Config} → Stands t c 0 d → cond (marks words n) 2 absent ≡ rank (test d (environment words ended moved))
-      go (event {s} g) = rw (f, g, a, test-event s (environment words ended moved)) (rank-event (marks words s) ended)
+      E : Env
+      E = environment words ended moved
+
+      go : {d : Config} → Stands t c 0 d → cond (marks words n) 2 absent ≡ rank (test d E)
+      go (event {s} g) = rw (f, g, a, test-event s E) (rank-event (marks words s) ended)
 
   pub ranks-not : (f : ℕ) → partKind t c ≡ 1 → RanksAs t (c + 4) words absent f → RanksAs t c words absent (2 - f)
   ranks-not f k first d ended moved h a = go (stands d k h)
     where
-      go : {d : Config} → Stands t c 1 d → 2 - f ≡ rank (test d (environment words ended moved))
-      go (negation {d} e) =
-          rw (test-not d (environment words ended moved), first d ended moved e a) (rank-not (test d (environment words ended moved)))
+      E : Env
+      E = environment words ended moved
 
-  module _ (f : ℕ) (not-event : partKind t c ≡ 0 → ⊥) (not-not : partKind t c ≡ 1 → ⊥) (first : RanksAs t (c + 4) words absent f) where
+      go : {d : Config} → Stands t c 1 d → 2 - f ≡ rank (test d E)
+      go (negation {d} e) = rw (test-not d E, first d ended moved e a) (rank-not (test d E))
+
+  module _ (f : ℕ) (not-event : partKind t c ≡ 0 → ⊥) (not-not : partKind t c ≡ 1 → ⊥)
+      (first : RanksAs t (c + 4) words absent f) where
     pub ranks-both : (k g r : ℕ) → k ≡ partKind t c → RanksAs t (secondPart t c) words absent g → r ≡ joinedRank k f g
         → RanksAs t c words absent r
     ranks-both k g r same second e d ended moved h a = e ∙ rw same (go not-event not-not (stands d refl h))
@@ -174,4 +181,6 @@ module _ (t : List ℕ) (c : ℕ) (words : List ℕ) (absent : ℕ) where
         go n m z (conjunction {d} {e} x y) =
             rw (test-and d e E) (omega (arith, rank-and (test d E) (test e E), first d ended moved x a))
         go n m z (disjunction {d} {e} x y) =
-            rw (test-or d e E) (omega (arith, rank-or (test d E) (test e E), rank-most (test e E), first d ended moved x a))
+            rw
+            (test-or d e E)
+            (omega (arith, rank-or (test d E) (test e E), rank-most (test e E), first d ended moved x a))

@@ -103,7 +103,8 @@ over-both g h s =
     record { first = g .spells; second = h .spells; sized = omega arith; ends = omega arith }
 
 module _ (t : List ℕ)
-    (spelled : (j : ℕ) → j < configurations t → Configured t (configurationAt t j) (configurationOf t 16 (configurationAt t j)))
+    (spelled : (j : ℕ) → j < configurations t
+    → Configured t (configurationAt t j) (configurationOf t 16 (configurationAt t j)))
   where
     grown-at : (f i : ℕ) → ((j : ℕ) → i < j → j < nodes t → Grown t j (programOf t f j)) → i < nodes t → (k : ℕ)
         → kindAt t i ≡ k → Fine t i k → Grown t i (programOf t (suc f) i)

@@ -24,7 +24,8 @@ pub data Here (t : List ℕ) (i : ℕ) : ℕ → Type 0 where
   two-parts : i + 1 < nodes t → secondAt t i < nodes t → sizeAt t i ≡ 1 + sizeAt t (i + 1) + sizeAt t (secondAt t i)
       → Two (treeAt t i) (treeAt t (i + 1)) (treeAt t (secondAt t i)) → Here t i 2
 
-module _ (t : List ℕ) (c : ConfigurationsGood t) (b : ℕ) (good : (i : ℕ) → b ≤ i → i < nodes t → goodNode t i ≡ true) where
+module _ (t : List ℕ) (c : ConfigurationsGood t) (b : ℕ)
+    (good : (i : ℕ) → b ≤ i → i < nodes t → goodNode t i ≡ true) where
   pub stands : (i : ℕ) (p : Program) → b ≤ i → i < nodes t → Spells t i p → treeAt t i ≡ p
   stands i p g l h = one-tree t i (treeAt t i) p (spells-from t c b good i g l .spells) h
 

@@ -4,16 +4,16 @@ use mathlib.Core.Bool.{Bool, true, false, cond}
 use mathlib.Core.Path.{_≡_, refl, ap, sym, _∙_}
 use mathlib.Core.List.{List, [], _∷_, _++_}
 use native.Mathlib.Omega.{arith}
-use lib.Dec.{ltb}
 use lib.ListN.{length, getD, length-append, List·getD-append}
 use lib.Seq.{getD-append-add}
-use borrow.Author.Tests.{le-ltb, ltb-true, ltb-false}
+use borrow.Author.Tests.{le-ltb, ltb-false}
 use Rattle.junior.specs.Program.{Program, size}
 use Rattle.table.specs.Records.{nodes, secondAt}
 use Rattle.table.specs.Spells.{Spells}
 use Rattle.table.specs.Verdict.{Node, preorder, firstSuch, deep}
 use Rattle.table.specs.Inside.Weighing.{height}
 use Rattle.events.proofs.Events.{lowest-is}
+use Rattle.table.proofs.Little.{below-or}
 use Rattle.table.proofs.Parts.{of-none, of-one, of-two}
 use Rattle.table.proofs.Tree.{Tree, leaf, one, two, sized}
 
@@ -56,7 +56,8 @@ first-out so (x ∷ l) m h = go (so x) (first-out so l m) h
 pub first-lowest : (so : Node → Bool) (none : Node) (l : List Node)
     → Lowest (λ k. so (getD l k none)) (length l) (firstSuch so l)
 unfolding firstSuch
-first-lowest so none [] = record { within = omega arith; before = λ k h. absurd (omega arith); there = λ h. absurd (omega arith) }
+first-lowest so none [] =
+    record { within = omega arith; before = λ k h. absurd (omega arith); there = λ h. absurd (omega arith) }
 first-lowest so none (x ∷ l) = go (so x) refl (first-lowest so none l)
   where
     go : (b : Bool) → so x ≡ b → Lowest (λ k. so (getD l k none)) (length l) (firstSuch so l)
@@ -84,7 +85,8 @@ deepest-both (x ∷ l) m = rw (deepest-both l m) (omega arith)
 deepest-is : {t : List ℕ} {i c : ℕ} {p : Program} → Tree t i c p → (d : ℕ) → suc (deepest (preorder d p)) ≡ d + height p
 unfolding deepest
 deepest-is (leaf h z v) d = rw (of-none v .nodes-are d, of-none v .height-is) (omega arith)
-deepest-is (one h z v x) d = rw (of-one v .nodes-are d, of-one v .height-is) (let e = deepest-is x (suc d) in omega arith)
+deepest-is (one h z v x) d =
+    rw (of-one v .nodes-are d, of-one v .height-is) (let e = deepest-is x (suc d) in omega arith)
 deepest-is (two {q = q} {r = r} h z v x y) d =
     rw
     (of-two v .nodes-are d, of-two v .height-is, deepest-both (preorder (suc d) q) (preorder (suc d) r))
@@ -126,7 +128,8 @@ some-too-deep {p = p} x h =
     rw (length-preorder x 1) at (some-deep (preorder 1 p) (let e = deepest-is x 1 in omega arith))
 
 -- the k-th node of a tree is the program at the k-th node from its first
-module _ (t : List ℕ) (P : ℕ → Program) (stands : (j : ℕ) (q : Program) → j < nodes t → Spells t j q → P j ≡ q) (none : Node) where
+module _ (t : List ℕ) (P : ℕ → Program) (stands : (j : ℕ) (q : Program) → j < nodes t → Spells t j q → P j ≡ q)
+    (none : Node) where
   first-node : (i : ℕ) (p : Program) → i < nodes t → Spells t i p → p ≡ P (i + 0)
   first-node i p l h = let e : i + 0 ≡ i = omega arith in rw e (sym (stands i p l h))
 
@@ -141,32 +144,25 @@ module _ (t : List ℕ) (P : ℕ → Program) (stands : (j : ℕ) (q : Program) 
       rw (of-one v .nodes-are d, e) (node-at x (omega arith) (suc d) k (omega arith))
   node-at {i} {p = p} (two h z v x y) b d zero l = rw (of-two v .nodes-are d) (first-node i p (omega arith) h)
   node-at {i} (two {q = q} {r = r} h z v x y) b d (suc k) l =
-      rw (of-two v .nodes-are d) (go (ltb k (size q)) refl (node-at x) (node-at y))
-    where
-      go : (a : Bool) → ltb k (size q) ≡ a
-          → (i + 1 + size q ≤ nodes t → (d k : ℕ) → k < size q → getD (preorder d q) k none .part ≡ P (i + 1 + k))
-          → (secondAt t i + size r ≤ nodes t → (d k : ℕ) → k < size r → getD (preorder d r) k none .part ≡ P (secondAt t i + k))
-          → getD (preorder (suc d) q ++ preorder (suc d) r) k none .part ≡ P (i + suc k)
-      go true g f f′ =
-          let u = ltb-true k (size q) g in
-          let s = of-two v .size-is in
-          let w = length-preorder x (suc d) in
-          let e : i + suc k ≡ i + 1 + k = omega arith in
-          rw
-          (e, List·getD-append (preorder (suc d) q) (preorder (suc d) r) none k (omega arith))
-          (f (omega arith) (suc d) k u)
-      go false g f f′ =
-          let u = ltb-false k (size q) g in
-          let s = of-two v .size-is in
-          let w = length-preorder x (suc d) in
-          let z′ = sized x in
-          let m : k ≡ length (preorder (suc d) q) + (k - size q) = omega arith in
-          let e : secondAt t i + (k - size q) ≡ i + suc k = omega arith in
-          ap (λ (j : ℕ). getD (preorder (suc d) q ++ preorder (suc d) r) j none .part) m
-          ∙ (ap
-          (λ (x : Node). x .part)
-          (getD-append-add (preorder (suc d) q) (preorder (suc d) r) (k - size q) none)
-          ∙ (f′ (omega arith) (suc d) (k - size q) (omega arith) ∙ ap P e))
+      let s = of-two v .size-is in
+      let w = length-preorder x (suc d) in
+      let z′ = sized x in
+      let p = preorder (suc d) q in
+      let p′ = preorder (suc d) r in
+      rw
+      (of-two v .nodes-are d)
+      (below-or
+      k
+      (size q)
+      (λ u.
+      let e : i + suc k ≡ i + 1 + k = omega arith in
+      rw (e, List·getD-append p p′ none k (omega arith)) (node-at x (omega arith) (suc d) k u))
+      (λ u.
+      let m : k ≡ length p + (k - size q) = omega arith in
+      let e : secondAt t i + (k - size q) ≡ i + suc k = omega arith in
+      ap (λ (j : ℕ). getD (p ++ p′) j none .part) m
+      ∙ (ap (λ (x : Node). x .part) (getD-append-add p p′ (k - size q) none)
+      ∙ (node-at y (omega arith) (suc d) (k - size q) (omega arith) ∙ ap P e))))
 
   -- so the first node of a tree that is so is the lowest
   pub first-in-table : (so : Program → Bool) {i c : ℕ} {p : Program} → Tree t i c p → i + size p ≤ nodes t → (d : ℕ)

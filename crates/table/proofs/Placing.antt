@@ -131,8 +131,8 @@ module _ {t w : List ℕ} {n i k limit count top : ℕ} (R : Ready t w n i top) 
   )
 
   pub pair-placed : count ≡ 2 → (z : Weight)
-      → ((p q r : Program) → Two p q r → k ≡ kind p → Weighs (weightAt w (top - 2 + 1)) q → Weighs (weightAt w (top - 2)) r
-      → Weighs z p) → Placed t w (put w (top - 2) z) i (top - 2 + 1)
+      → ((p q r : Program) → Two p q r → k ≡ kind p → Weighs (weightAt w (top - 2 + 1)) q
+      → Weighs (weightAt w (top - 2)) r → Weighs z p) → Placed t w (put w (top - 2) z) i (top - 2 + 1)
   pair-placed c z f = go (rw c at at-node)
     where
       go : Here t i 2 → Placed t w (put w (top - 2) z) i (top - 2 + 1)
@@ -170,7 +170,13 @@ module _ {t w : List ℕ} {n i k limit count top : ℕ} (R : Ready t w n i top) 
           record {
             good = good;
             long-row = length-put w′ (top - 1) z ∙ y .long;
-            waits = rw e at (waits-more t w′ (top - 1) i z (y .long) (omega arith) here-below (f _ _ v kind-is (a .weighs)) (waiting-kept t w w′ (top - 1) (i + sizeAt t i) (λ j h. y .below j (omega arith)) (rw g at (a .rest))));
+            waits =
+                rw e at (waits-more t w′ (top - 1) i z (y .long) (omega arith) here-below
+                (f _ _ v kind-is (a .weighs))
+                (waiting-kept t w w′ (top - 1) (i + sizeAt t i) (λ j h. y .below j (omega arith)) (rw g at (a .rest))));
             room = o;
-            endless = put-last w′ (top - 1) z (omega arith) ∙ (y .last ∙ rw (kind-is, a .weighs .stops-is, bit-none (stops (treeAt t (i + 1))), of-one v .endless-is));
+            endless =
+                put-last w′ (top - 1) z (omega arith)
+                ∙ (y .last
+                ∙ rw (kind-is, a .weighs .stops-is, bit-none (stops (treeAt t (i + 1))), of-one v .endless-is));
           }

@@ -28,7 +28,11 @@ height-positive (two h z v x y) = let s = of-two v .height-is in omega arith
 
 pub height-most : {t : List ℕ} {i c : ℕ} {p : Program} → Tree t i c p → height p ≤ size p
 height-most (leaf h z v) = let s = of-none v .size-is in let k = of-none v .height-is in omega arith
-height-most (one h z v x) = let s = of-one v .size-is in let k = of-one v .height-is in let m = height-most x in omega arith
+height-most (one h z v x) =
+    let s = of-one v .size-is in
+    let k = of-one v .height-is in
+    let m = height-most x in
+    omega arith
 height-most (two h z v x y) =
     let s = of-two v .size-is in
     let k = of-two v .height-is in

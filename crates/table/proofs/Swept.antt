@@ -8,8 +8,9 @@ use lib.ListN.{length, getD}
 use Rattle.table.specs.Records.{nodes, sizeAt}
 use Rattle.table.specs.Good.{goodNode}
 use Rattle.table.specs.Verdict.{endlessLoop}
-use Rattle.table.specs.Inside.{Framed, ConfigurationsGood}
-use Rattle.table.specs.Inside.Weighing.{Weighs, weightAt, Waiting, treeAt, Ready, Placed}
+use Rattle.table.specs.Inside.Weighing.{Weighs, weightAt, Waiting, treeAt, Whole, AllGood}
+use Rattle.table.specs.Inside.Weighing.{Ready, Placed}
+use Rattle.table.proofs.Answers.{all-good}
 use Rattle.table.proofs.Judged.{within-of}
 use Rattle.table.proofs.Little.{below-or}
 use Rattle.table.proofs.Order.{Lowest}
@@ -68,12 +69,12 @@ module _ {t w : List ℕ} {n i top : ℕ} (s : Swept t w n i top) (h : 0 < i) wh
   one-on : i - 1 + 1 ≡ i
   one-on = omega arith
 
-  pub ready : {m v : ℕ} → Framed t n m v → ConfigurationsGood t → sizeAt t 0 ≡ n → Ready t w n (i - 1) top
-  ready f c w =
+  pub ready : {m v : ℕ} → Whole t n m v → Ready t w n (i - 1) top
+  ready P =
       let l = s .within in
       record {
-        within = within-of f w (i - 1) (omega arith);
-        configurations-good = c;
+        within = within-of P (i - 1) (omega arith);
+        configurations-good = P .configurations-good;
         good-behind = λ j k m. s .good j (omega arith) m;
         long-row = s .long-row;
         waits = rw one-on (s .waits);
@@ -99,13 +100,21 @@ none-behind t w zero i h x = refl
 none-behind t w (suc k) i h (l, y, r) = absurd (omega arith)
 
 -- at node 0 all have been seen
-module _ {t w : List ℕ} {n i top : ℕ} (s : Swept t w n i top) (h : i ≤ 0) (e : n ≡ nodes t) (z : sizeAt t 0 ≡ n)
-    (l : 0 < n) where
-  pub all-seen : (j : ℕ) → j < nodes t → goodNode t j ≡ true
-  all-seen j m = s .good j (omega arith) (omega arith)
+module _ {t w : List ℕ} {n m v i top : ℕ} (P : Whole t n m v) (s : Swept t w n i top) (h : i ≤ 0) where
+  n-is : n ≡ nodes t
+  n-is = P .framed .n-is
+
+  some : 1 ≤ n
+  some = P .framed .n-least
+
+  pub all-seen : AllGood t
+  all-seen = let e = n-is in all-good P (λ j k. s .good j (omega arith) (omega arith))
 
   pub whole-weighs : Weighs (weightAt w 0) (treeAt t 0)
   whole-weighs =
+      let e = n-is in
+      let l = some in
+      let z = P .whole in
       let i-is : i ≡ 0 = omega arith in
       let a = topmost t w top 0 (omega arith) (rw i-is at (s .waits)) in
       let k-is = none-behind t w (top - 1) (0 + sizeAt t 0) (omega arith) (a .rest) in
@@ -113,6 +122,7 @@ module _ {t w : List ℕ} {n i top : ℕ} (s : Swept t w n i top) (h : i ≤ 0) 
 
   pub lowest-endless : Lowest (λ k. endlessLoop (treeAt t k)) (nodes t) (getD w 320 0)
   lowest-endless =
+      let e = n-is in
       let m = s .endless .most in
       record {
         within = omega arith;

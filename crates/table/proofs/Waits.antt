@@ -1,6 +1,7 @@
 -- The row in which weights wait: what a store changes, and what stays.
 use Prim.Native.Nat.{ℕ, zero, suc, _+_, _-_, _<_}
 use mathlib.Core.Path.{_≡_, refl, _∙_}
+use mathlib.Core.Logic.{_≢_}
 use mathlib.Core.List.{List}
 use native.Mathlib.Numerals.{add-one}
 use native.Mathlib.Omega.{arith}
@@ -21,6 +22,10 @@ same-weight : (x y : Weight) → x .generations ≡ y .generations → x .atoms 
     → x .height ≡ y .height → x .stops ≡ y .stops → x ≡ y
 same-weight x y g a n h s = λ i. record { generations = g i; atoms = a i; nodes = n i; height = h i; stops = s i }
 
+-- place j is none of those that belong to weight k
+abbrev Elsewhere : ℕ → ℕ → Type 0
+Elsewhere j k = (j ≢ k) × (j ≢ 64 + k) × (j ≢ 128 + k) × (j ≢ 192 + k) × (j ≢ 256 + k)
+
 module _ (w : List ℕ) (k : ℕ) (x : Weight) where
   -- `put` store by store
   abbrev w₁ : List ℕ
@@ -39,10 +44,9 @@ module _ (w : List ℕ) (k : ℕ) (x : Weight) where
   unfolding put
   length-put = simp length-set
 
-  pub put-other : (j : ℕ) → (j ≡ k → ⊥) → (j ≡ 64 + k → ⊥) → (j ≡ 128 + k → ⊥) → (j ≡ 192 + k → ⊥) → (j ≡ 256 + k → ⊥)
-      → getD (put w k x) j 0 ≡ getD w j 0
+  pub put-other : (j : ℕ) → Elsewhere j k → getD (put w k x) j 0 ≡ getD w j 0
   unfolding put
-  put-other j a b c d e =
+  put-other j (a, b, c, d, e) =
       past w₄ _ _ j _ e (past w₃ _ _ j _ d (past w₂ _ _ j _ c (past w₁ _ _ j _ b (past w _ _ j _ a refl))))
 
   pub put-here : length w ≡ 321 → k < 64 → weightAt (put w k x) k ≡ x
@@ -65,14 +69,14 @@ module _ (w : List ℕ) (k : ℕ) (x : Weight) where
   pub put-below : k < 64 → (j : ℕ) → j < k → weightAt (put w k x) j ≡ weightAt w j
   put-below h j l =
       same-weight _ _
-      (put-other (j) (λ e. omega arith) (λ e. omega arith) (λ e. omega arith) (λ e. omega arith) (λ e. omega arith))
-      (put-other (64 + j) (λ e. omega arith) (λ e. omega arith) (λ e. omega arith) (λ e. omega arith) (λ e. omega arith))
-      (put-other (128 + j) (λ e. omega arith) (λ e. omega arith) (λ e. omega arith) (λ e. omega arith) (λ e. omega arith))
-      (put-other (192 + j) (λ e. omega arith) (λ e. omega arith) (λ e. omega arith) (λ e. omega arith) (λ e. omega arith))
-      (put-other (256 + j) (λ e. omega arith) (λ e. omega arith) (λ e. omega arith) (λ e. omega arith) (λ e. omega arith))
+      (put-other j (omega arith))
+      (put-other (64 + j) (omega arith))
+      (put-other (128 + j) (omega arith))
+      (put-other (192 + j) (omega arith))
+      (put-other (256 + j) (omega arith))
 
   pub put-last : k < 64 → getD (put w k x) 320 0 ≡ getD w 320 0
-  put-last h = put-other (320) (λ e. omega arith) (λ e. omega arith) (λ e. omega arith) (λ e. omega arith) (λ e. omega arith)
+  put-last h = put-other 320 (omega arith)
 
 -- the last place is no weight's
 pub last-apart : (w : List ℕ) (v j : ℕ) → j < 64 → weightAt (set w 320 v) j ≡ weightAt w j

@@ -202,7 +202,8 @@ module _ {x y : Weight} {p q r : Program} where
       let j = u .height-is in
       record {
         generations-are =
-            larger o n (x .generations) (y .generations) _ (omega arith) (omega arith) (w .generations-are) (u .generations-are);
+            larger o n (x .generations) (y .generations) _ (omega arith) (omega arith)
+            (w .generations-are) (u .generations-are);
         atoms-are = larger o n (x .atoms) (y .atoms) _ (omega arith) (omega arith) (w .atoms-are) (u .atoms-are);
         nodes-are = larger o n (x .nodes) (y .nodes) _ (omega arith) refl (w .nodes-are) (u .nodes-are);
         height-is = omega arith;
@@ -221,7 +222,8 @@ module _ {x y : Weight} {p q r : Program} where
       let j = u .height-is in
       record {
         generations-are =
-            added o n (x .generations) (y .generations) _ (omega arith) (omega arith) (w .generations-are) (u .generations-are);
+            added o n (x .generations) (y .generations) _ (omega arith) (omega arith)
+            (w .generations-are) (u .generations-are);
         atoms-are = added o n (x .atoms) (y .atoms) _ (omega arith) (omega arith) (w .atoms-are) (u .atoms-are);
         nodes-are = added o n (x .nodes) (y .nodes) _ (omega arith) refl (w .nodes-are) (u .nodes-are);
         height-is = omega arith;

@@ -9,10 +9,10 @@ ghost use lib.Dec.{eqb, leb};
 ghost use lib.ListN.{set};
 ghost use Rattle.events.specs.Events.{lowest};
 ghost use Rattle.table.specs.Records.{nodes, configurations, events, kindAt, sizeAt};
-ghost use Rattle.table.specs.Good.{children, argumentLimit, goodNode};
+ghost use Rattle.table.specs.Good.{children, argumentLimit, laidOut, goodNode};
 ghost use Rattle.table.specs.Verdict.{nodesVerdict, preorder, firstSuch, deep};
 ghost use Rattle.table.specs.Inside.{Framed, ConfigurationsGood};
-ghost use Rattle.table.specs.Inside.Weighing.{treeAt, height, Within, OfKind, AllGood, Ready, Places};
+ghost use Rattle.table.specs.Inside.Weighing.{treeAt, height, Whole, Within, OfKind, AllGood, Ready, Places};
 use super::Checked;
 use super::records::argument_at;
 use super::records::kind_at;
@@ -31,9 +31,17 @@ pub fn check_nodes(table: &[u8], n: usize, m: usize, v: usize) -> Checked
     requires { ⌜ ConfigurationsGood (now table) ⌝ }
     ensures { λ r. ⌜ r ≡ nodesVerdict (now (table .entry)) ⌝ }
 {
-    if size_at(table, 0) != n {
-        return Checked::BadNode(0);
+    if size_at(table, 0) == n {
+        return check_whole(table, n, m, v);
     }
+    Checked::BadNode(0)
+}
+
+// Record 0 has size N.
+fn check_whole(table: &[u8], n: usize, m: usize, v: usize) -> Checked
+    requires { ⌜ Whole (now table) n m v ⌝ }
+    ensures { λ r. ⌜ r ≡ nodesVerdict (now (table .entry)) ⌝ }
+{
     let mut waiting = [0u32; 321];
     waiting[320] = n as u32;
     let mut i = n;
@@ -207,6 +215,13 @@ fn good_as(table: &[u8], n: usize, i: usize, limit: usize, count: usize) -> bool
     if argument_at(table, i) >= limit {
         return false;
     }
+    laid_out(table, n, i, count)
+}
+
+fn laid_out(table: &[u8], n: usize, i: usize, count: usize) -> bool
+    requires { ⌜ Within (now table) n i ⌝ }
+    ensures { λ r. ⌜ r ≡ laidOut (sizeAt (now (table .entry))) n i count ⌝ }
+{
     if count == 0 {
         return size_at(table, i) == 1;
     }
@@ -226,9 +241,7 @@ fn good_as(table: &[u8], n: usize, i: usize, limit: usize, count: usize) -> bool
 
 // Why a table is refused that has a record that isn't good, or a node that is too deep.
 fn refused(table: &[u8], n: usize, m: usize, v: usize) -> Checked
-    requires { ⌜ Framed (now table) n m v ⌝ }
-    requires { ⌜ ConfigurationsGood (now table) ⌝ }
-    requires { ⌜ sizeAt (now table) 0 ≡ n ⌝ }
+    requires { ⌜ Whole (now table) n m v ⌝ }
     requires { ⌜ (AllGood (now table) → 64 < height (treeAt (now table) 0)) ⌝ }
     ensures { λ r. ⌜ r ≡ nodesVerdict (now (table .entry)) ⌝ }
 {
@@ -240,8 +253,7 @@ fn refused(table: &[u8], n: usize, m: usize, v: usize) -> Checked
 }
 
 fn first_bad(table: &[u8], n: usize, m: usize, v: usize) -> usize
-    requires { ⌜ Framed (now table) n m v ⌝ }
-    requires { ⌜ sizeAt (now table) 0 ≡ n ⌝ }
+    requires { ⌜ Whole (now table) n m v ⌝ }
     ensures { λ r. ⌜ r ≡ lowest (nodes (now (table .entry))) (λ i. not (goodNode (now (table .entry)) i)) ⌝ }
 {
     let mut i: usize = 0;

@@ -3,6 +3,7 @@ use Prim.Native.Nat.{ℕ, zero, suc, _+_, _*_, _≤_, _<_, min, max}
 use mathlib.Core.Bool.{Bool, true, cond}
 use mathlib.Core.Path.{_≡_}
 use mathlib.Core.List.{List}
+use lib.Dec.{leb}
 use lib.ListN.{length, getD, set}
 use Rattle.junior.specs.Configuration.{Config}
 use Rattle.junior.specs.Program.{Program, Nothing, Stop, Atom, Seq, Par, Loop, Repeat, Generate, Await, When, Until}
@@ -13,7 +14,7 @@ use Rattle.table.specs.Records.{nodes, kindAt, sizeAt}
 use Rattle.table.specs.Good.{children, argumentLimit, goodNode}
 use Rattle.table.specs.Spells.{programOf}
 use Rattle.table.specs.Verdict.{endlessLoop}
-use Rattle.table.specs.Inside.{ConfigurationsGood}
+use Rattle.table.specs.Inside.{Framed, ConfigurationsGood}
 
 -- a program without parts, with one, with two; a is the count if it is a Repeat
 pub data Leaf : Program → Type 0 where
@@ -134,6 +135,12 @@ unfoldable pub Waiting : List ℕ → List ℕ → ℕ → ℕ → Type 0
 Waiting t w zero i = i ≡ nodes t
 Waiting t w (suc k) i = (i < nodes t) × Weighs (weightAt w k) (treeAt t i) × Waiting t w k (i + sizeAt t i)
 
+-- past 4, and record 0 has size N
+pub record Whole (t : List ℕ) (n m v : ℕ) : Type 0 where
+  pub framed : Framed t n m v
+  pub configurations-good : ConfigurationsGood t
+  pub whole : sizeAt t 0 ≡ n
+
 -- node i of N, in a table whose record 0 has size N
 pub record Within (t : List ℕ) (n i : ℕ) : Type 0 where
   pub long : 6 * n + 10 ≤ length t
@@ -145,7 +152,7 @@ pub record Within (t : List ℕ) (n i : ℕ) : Type 0 where
 -- its kind, what its argument must be below, and how many children it has
 pub record OfKind (t : List ℕ) (i k limit count : ℕ) : Type 0 where
   pub kind-is : kindAt t i ≡ k
-  pub known : k ≤ 12
+  pub known : leb k 12 ≡ true
   pub limit-is : argumentLimit t k ≡ limit
   pub count-is : children k ≡ count
 

@@ -29,7 +29,9 @@ wrapped-requires c κs =
     let if1 = c .before .before .before .before .before .before .if1 in
     let weight-at = c .before .before .before .before .weight-at in
     let argument-at = c .argument-at in
-    (argument-at .ensures .1, rw (weight-at .ensures) (first-small (start .pre .0) (start .pre .1) (sym (good-as .ensures) ∙ if1 .taken) (λ e. omega arith)))
+    let good = sym (good-as .ensures) ∙ if1 .taken in
+    let small = first-small (start .pre .0) (start .pre .1) good (λ e. omega arith) in
+    (argument-at .ensures .1, rw (weight-at .ensures) small)
 
 -- return top;
 returns : tie.Need-returns
@@ -42,7 +44,12 @@ returns c =
     let argument-at = c .before .before .argument-at in
     let wrapped = c .before .wrapped in
     let put-weight = c .put-weight in
-    (λ z. rw (put-weight .ensures) (body-placed (start .pre .0) (start .pre .1) (sym (good-as .ensures) ∙ if1 .taken) refl _ (rw (weight-at .ensures) at (keep-endless .ensures)) _ (rw (argument-at .ensures .0, weight-at .ensures) at (wrapped .ensures))), λ z g. let u = first-taken (start .pre .0) (start .pre .1) (sym (good-as .ensures) ∙ if1 .taken) (λ e. omega arith) .some in absurd (omega arith))
+    let good = sym (good-as .ensures) ∙ if1 .taken in
+    let kept = rw (weight-at .ensures) at (keep-endless .ensures) in
+    let weighs = rw (argument-at .ensures .0, weight-at .ensures) at (wrapped .ensures) in
+    let some = first-taken (start .pre .0) (start .pre .1) good (λ e. omega arith) .some in
+    let placed = body-placed (start .pre .0) (start .pre .1) good refl _ kept _ weighs in
+    (λ z. rw (put-weight .ensures) placed, λ z g. absurd (omega arith))
 
 -- fn body
 returns-2 : tie.Need-returns-2

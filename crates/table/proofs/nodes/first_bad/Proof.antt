@@ -21,7 +21,8 @@ good-node-requires : tie.Need-good-node-requires Inv-loop μ-loop
 good-node-requires c κs =
     let start = c .before .before .before in
     let loop-test = c .loop-test in
-    (start .pre .0, within-of (start .pre .0) (start .pre .1) _ (loop-test .taken))
+    let l = loop-test .taken in
+    (start .pre .framed, within-of (start .pre) _ (omega arith))
 
 -- while i < n {
 loop-again : tie.Need-loop-again Inv-loop μ-loop
@@ -38,8 +39,10 @@ returns c =
     let loop = c .before .before .before .loop in
     let good-node = c .before .good-node in
     let if1 = c .if1 in
-    let F = start .pre .0 in
-    rw (← F .n-is) (lowest-bad (goodNode (start .args .table .now)) (start .args .n) _ (loop .inv .0) (loop .inv .1) (λ h. sym (good-node .ensures) ∙ if1 .left))
+    let good = goodNode (start .args .table .now) in
+    rw
+    (← start .pre .framed .n-is)
+    (lowest-bad good _ _ (loop .inv .0) (loop .inv .1) (λ h. sym (good-node .ensures) ∙ if1 .left))
 
 -- fn first_bad
 returns-2 : tie.Need-returns-2 Inv-loop μ-loop
@@ -47,9 +50,11 @@ returns-2 c =
     let start = c .before .before .before in
     let loop = c .before .loop in
     let loop-test = c .loop-test in
-    let F = start .pre .0 in
     let l = loop-test .left in
-    rw (← F .n-is) (lowest-bad (goodNode (start .args .table .now)) (start .args .n) (start .args .n) (omega arith) (λ k h. loop .inv .1 k (omega arith)) (λ h. absurd (omega arith)))
+    let good = goodNode (start .args .table .now) in
+    rw
+    (← start .pre .framed .n-is)
+    (lowest-bad good _ _ (omega arith) (λ k h. loop .inv .1 k (omega arith)) (λ h. absurd (omega arith)))
 
 pub first-bad-spec : {M : Type 1} → statement M
 first-bad-spec =

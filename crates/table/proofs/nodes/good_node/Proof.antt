@@ -1,3 +1,4 @@
+use borrow.Author.Tests.{le-leb}
 use Rattle.table.proofs.nodes.good_node.Statement.{statement}
 use Rattle.table.proofs.nodes.good_node.Tie as tie
 use borrow.Author.Needs.{needs}
@@ -16,7 +17,7 @@ good-as-requires c κs =
       start .pre .1,
       record {
         kind-is = refl;
-        known = rw (kind-at .ensures .0) at (if1 .left);
+        known = le-leb _ _ (rw (kind-at .ensures .0) at (if1 .left));
         limit-is = rw (kind-at .ensures .0) at (limit-of .ensures (start .args .table .now) (F .m-is) (F .v-is));
         count-is = rw (kind-at .ensures .0) at (children-of .ensures);
       },

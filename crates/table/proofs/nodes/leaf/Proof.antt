@@ -30,7 +30,11 @@ returns-2 c =
     let single = c .before .single in
     let put-weight = c .put-weight in
     let R = start .pre .0 in
-    (λ z. rw (put-weight .ensures) (leaf-placed R (start .pre .1) (sym (good-as .ensures) ∙ if1 .taken) refl (let h = R .room in let e = if2 .left in omega arith) _ (single .ensures)), λ z g. absurd (omega arith))
+    let h = R .room in
+    let e = if2 .left in
+    let good = sym (good-as .ensures) ∙ if1 .taken in
+    let placed = leaf-placed R (start .pre .1) good refl (omega arith) _ (single .ensures) in
+    (λ z. rw (put-weight .ensures) placed, λ z g. absurd (omega arith))
 
 -- fn leaf
 returns-3 : tie.Need-returns-3

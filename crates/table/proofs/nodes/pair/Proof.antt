@@ -29,7 +29,8 @@ joined-requires c κs =
     let if1 = c .before .before .before .before .before .if1 in
     let weight-at = c .before .before .before .weight-at in
     let weight-at2 = c .before .weight-at2 in
-    rw (weight-at .ensures, weight-at2 .ensures) (both-small (start .pre .0) (start .pre .1) (sym (good-as .ensures) ∙ if1 .taken) refl)
+    let good = sym (good-as .ensures) ∙ if1 .taken in
+    rw (weight-at .ensures, weight-at2 .ensures) (both-small (start .pre .0) (start .pre .1) good refl)
 
 -- return at + 1;
 returns : tie.Need-returns
@@ -41,7 +42,10 @@ returns c =
     let weight-at2 = c .before .before .before .weight-at2 in
     let joined = c .before .joined in
     let put-weight = c .put-weight in
-    (λ z. rw (put-weight .ensures) (pair-placed (start .pre .0) (start .pre .1) (sym (good-as .ensures) ∙ if1 .taken) refl _ (rw (weight-at .ensures, weight-at2 .ensures) at (joined .ensures))), λ z g. absurd (omega arith))
+    let good = sym (good-as .ensures) ∙ if1 .taken in
+    let weighs = rw (weight-at .ensures, weight-at2 .ensures) at (joined .ensures) in
+    let placed = pair-placed (start .pre .0) (start .pre .1) good refl _ weighs in
+    (λ z. rw (put-weight .ensures) placed, λ z g. absurd (omega arith))
 
 -- fn pair
 returns-2 : tie.Need-returns-2

@@ -10,10 +10,10 @@ use Rattle.table.proofs.nodes.place.Tie as tie
 
 -- _ => 0,
 returns-14 : tie.Need-returns-14
-returns-14 c = (
-  λ z. absurd (omega arith),
-  λ z g. absurd (false≢true (bad-kind _ _ (rw (c .before .kind-at .ensures .0) at (none-of 13 _ (c .match .rest))) ∙ g)),
-)
+returns-14 c =
+    let kind-at = c .before .kind-at in
+    let unknown = rw (kind-at .ensures .0) at (none-of 13 _ (c .match .rest)) in
+    (λ z. absurd (omega arith), λ z g. absurd (false≢true (bad-kind _ _ unknown ∙ g)))
 
 pub place-spec : {M : Type 1} → statement M
 unfolding children argumentLimit
@@ -21,19 +21,71 @@ place-spec =
     tie.close
     (tie.spec
     (λ c κs. search needs)  -- kind-at-requires: let k = kind_at(table, i);
-    (λ c κs. (c .before .before .before .before .pre .1, as-kind (c .before .before .kind-at .ensures .0) 0 (c .before .match .keys1) (omega arith) refl refl))  -- leaf-requires: 0 => leaf(table, n, i, 0, 1, waiting, top),
-    (λ c κs. (c .before .before .before .before .pre .1, as-kind (c .before .before .kind-at .ensures .0) 1 (c .before .match .keys2) (omega arith) refl refl))  -- leaf-requires-2: 1 => leaf(table, n, i, 1, 1, waiting, top),
-    (λ c κs. (c .before .before .before .before .pre .1, as-kind (c .before .before .kind-at .ensures .0) 2 (c .before .match .keys3) (omega arith) refl refl))  -- leaf-requires-3: 2 => leaf(table, n, i, 2, 65536, waiting, top),
-    (λ c κs. (c .before .before .before .before .pre .1, as-kind (c .before .before .kind-at .ensures .0) 3 (c .before .match .keys4) (omega arith) refl refl))  -- pair-requires: 3 => pair(table, n, i, 3, 1, waiting, top),
-    (λ c κs. (c .before .before .before .before .pre .1, as-kind (c .before .before .kind-at .ensures .0) 4 (c .before .match .keys5) (omega arith) refl refl))  -- pair-requires-2: 4 => pair(table, n, i, 4, 1, waiting, top),
-    (λ c κs. (c .before .before .before .before .pre .1, as-kind (c .before .before .kind-at .ensures .0) 5 (c .before .match .keys6) (omega arith) refl refl))  -- body-requires: 5 => body(table, n, i, 5, 1, waiting, top),
-    (λ c κs. (c .before .before .before .before .pre .1, as-kind (c .before .before .kind-at .ensures .0) 6 (c .before .match .keys7) (omega arith) refl refl))  -- body-requires-2: 6 => body(table, n, i, 6, 65536, waiting, top),
-    (λ c κs. (c .before .before .before .before .pre .1, as-kind (c .before .before .kind-at .ensures .0) 7 (c .before .match .keys8) (omega arith) (sym (c .before .before .before .before .pre .0 .v-is)) refl))  -- leaf-requires-4: 7 => leaf(table, n, i, 7, v, waiting, top),
-    (λ c κs. (c .before .before .before .before .pre .1, as-kind (c .before .before .kind-at .ensures .0) 8 (c .before .match .keys9) (omega arith) (sym (c .before .before .before .before .pre .0 .m-is)) refl))  -- leaf-requires-5: 8 => leaf(table, n, i, 8, m, waiting, top),
-    (λ c κs. (c .before .before .before .before .pre .1, as-kind (c .before .before .kind-at .ensures .0) 9 (c .before .match .keys10) (omega arith) (sym (c .before .before .before .before .pre .0 .m-is)) refl))  -- pair-requires-3: 9 => pair(table, n, i, 9, m, waiting, top),
-    (λ c κs. (c .before .before .before .before .pre .1, as-kind (c .before .before .kind-at .ensures .0) 10 (c .before .match .keys11) (omega arith) (sym (c .before .before .before .before .pre .0 .m-is)) refl))  -- pair-requires-4: 10 => pair(table, n, i, 10, m, waiting, top),
-    (λ c κs. (c .before .before .before .before .pre .1, as-kind (c .before .before .kind-at .ensures .0) 11 (c .before .match .keys12) (omega arith) (sym (c .before .before .before .before .pre .0 .v-is)) refl))  -- body-requires-3: 11 => body(table, n, i, 11, v, waiting, top),
-    (λ c κs. (c .before .before .before .before .pre .1, as-kind (c .before .before .kind-at .ensures .0) 12 (c .before .match .keys13) (omega arith) (sym (c .before .before .before .before .pre .0 .v-is)) refl))  -- body-requires-4: 12 => body(table, n, i, 12, v, waiting, top),
+    -- leaf-requires: 0 => leaf(table, n, i, 0, 1, waiting, top),
+    (λ c κs.
+    let start = c .before .before .before .before in
+    let kind-at = c .before .before .kind-at in
+    (start .pre .1, as-kind (kind-at .ensures .0) 0 (c .before .match .keys1) refl refl refl))
+    -- leaf-requires-2: 1 => leaf(table, n, i, 1, 1, waiting, top),
+    (λ c κs.
+    let start = c .before .before .before .before in
+    let kind-at = c .before .before .kind-at in
+    (start .pre .1, as-kind (kind-at .ensures .0) 1 (c .before .match .keys2) refl refl refl))
+    -- leaf-requires-3: 2 => leaf(table, n, i, 2, 65536, waiting, top),
+    (λ c κs.
+    let start = c .before .before .before .before in
+    let kind-at = c .before .before .kind-at in
+    (start .pre .1, as-kind (kind-at .ensures .0) 2 (c .before .match .keys3) refl refl refl))
+    -- pair-requires: 3 => pair(table, n, i, 3, 1, waiting, top),
+    (λ c κs.
+    let start = c .before .before .before .before in
+    let kind-at = c .before .before .kind-at in
+    (start .pre .1, as-kind (kind-at .ensures .0) 3 (c .before .match .keys4) refl refl refl))
+    -- pair-requires-2: 4 => pair(table, n, i, 4, 1, waiting, top),
+    (λ c κs.
+    let start = c .before .before .before .before in
+    let kind-at = c .before .before .kind-at in
+    (start .pre .1, as-kind (kind-at .ensures .0) 4 (c .before .match .keys5) refl refl refl))
+    -- body-requires: 5 => body(table, n, i, 5, 1, waiting, top),
+    (λ c κs.
+    let start = c .before .before .before .before in
+    let kind-at = c .before .before .kind-at in
+    (start .pre .1, as-kind (kind-at .ensures .0) 5 (c .before .match .keys6) refl refl refl))
+    -- body-requires-2: 6 => body(table, n, i, 6, 65536, waiting, top),
+    (λ c κs.
+    let start = c .before .before .before .before in
+    let kind-at = c .before .before .kind-at in
+    (start .pre .1, as-kind (kind-at .ensures .0) 6 (c .before .match .keys7) refl refl refl))
+    -- leaf-requires-4: 7 => leaf(table, n, i, 7, v, waiting, top),
+    (λ c κs.
+    let start = c .before .before .before .before in
+    let kind-at = c .before .before .kind-at in
+    (start .pre .1, as-kind (kind-at .ensures .0) 7 (c .before .match .keys8) refl (sym (start .pre .0 .v-is)) refl))
+    -- leaf-requires-5: 8 => leaf(table, n, i, 8, m, waiting, top),
+    (λ c κs.
+    let start = c .before .before .before .before in
+    let kind-at = c .before .before .kind-at in
+    (start .pre .1, as-kind (kind-at .ensures .0) 8 (c .before .match .keys9) refl (sym (start .pre .0 .m-is)) refl))
+    -- pair-requires-3: 9 => pair(table, n, i, 9, m, waiting, top),
+    (λ c κs.
+    let start = c .before .before .before .before in
+    let kind-at = c .before .before .kind-at in
+    (start .pre .1, as-kind (kind-at .ensures .0) 9 (c .before .match .keys10) refl (sym (start .pre .0 .m-is)) refl))
+    -- pair-requires-4: 10 => pair(table, n, i, 10, m, waiting, top),
+    (λ c κs.
+    let start = c .before .before .before .before in
+    let kind-at = c .before .before .kind-at in
+    (start .pre .1, as-kind (kind-at .ensures .0) 10 (c .before .match .keys11) refl (sym (start .pre .0 .m-is)) refl))
+    -- body-requires-3: 11 => body(table, n, i, 11, v, waiting, top),
+    (λ c κs.
+    let start = c .before .before .before .before in
+    let kind-at = c .before .before .kind-at in
+    (start .pre .1, as-kind (kind-at .ensures .0) 11 (c .before .match .keys12) refl (sym (start .pre .0 .v-is)) refl))
+    -- body-requires-4: 12 => body(table, n, i, 12, v, waiting, top),
+    (λ c κs.
+    let start = c .before .before .before .before in
+    let kind-at = c .before .before .kind-at in
+    (start .pre .1, as-kind (kind-at .ensures .0) 12 (c .before .match .keys13) refl (sym (start .pre .0 .v-is)) refl))
     (λ c. c .leaf .ensures)  -- returns
     (λ c. c .leaf2 .ensures)  -- returns-2
     (λ c. c .leaf3 .ensures)  -- returns-3

@@ -1,7 +1,6 @@
 use Rattle.table.proofs.nodes.refused.Statement.{statement}
 use Rattle.table.proofs.nodes.refused.Tie as tie
 use borrow.Author.Needs.{needs}
-use mathlib.Core.Path.{_∙_}
 use native.Mathlib.Omega.{arith}
 use Rattle.table.proofs.Answers.{all-good, none-bad, bad-answer, deep-answer}
 
@@ -11,7 +10,9 @@ returns c =
     let start = c .before .before .before in
     let first-bad = c .before .first-bad in
     let if1 = c .if1 in
-    bad-answer _ _ (first-bad .ensures) (let e = start .pre .0 .n-is in let l = if1 .taken in omega arith)
+    let n = start .pre .0 .framed .n-is in
+    let l = if1 .taken in
+    bad-answer _ _ (first-bad .ensures) (omega arith)
 
 -- Checked::TooDeep(first_deep(table, 0, 1))
 first-deep-requires : tie.Need-first-deep-requires
@@ -19,7 +20,10 @@ first-deep-requires c κs =
     let start = c .before .before .before in
     let first-bad = c .before .first-bad in
     let if1 = c .if1 in
-    let F = start .pre .0 in let e = F .n-is in let h = F .n-least in ((all-good (start .pre .0) (start .pre .1 .0) (none-bad _ _ (first-bad .ensures) (let e = start .pre .0 .n-is in let l = if1 .left in omega arith))), (omega arith, omega arith))
+    let n = start .pre .0 .framed .n-is in
+    let m = start .pre .0 .framed .n-least in
+    let l = if1 .left in
+    (all-good (start .pre .0) (none-bad _ _ (first-bad .ensures) (omega arith)), (omega arith, omega arith))
 
 -- fn refused
 returns-2 : tie.Need-returns-2
@@ -28,7 +32,10 @@ returns-2 c =
     let first-bad = c .before .before .first-bad in
     let if1 = c .before .if1 in
     let first-deep = c .first-deep in
-    let F = start .pre .0 in let e = F .n-is in let h = F .n-least in let g = (all-good (start .pre .0) (start .pre .1 .0) (none-bad _ _ (first-bad .ensures) (let e = start .pre .0 .n-is in let l = if1 .left in omega arith))) in deep-answer _ g (start .pre .1 .1 .0 ∙ e) (omega arith) (start .pre .1 .1 .1 g) _ (first-deep .ensures)
+    let n = start .pre .0 .framed .n-is in
+    let l = if1 .left in
+    let g = all-good (start .pre .0) (none-bad _ _ (first-bad .ensures) (omega arith)) in
+    deep-answer (start .pre .0) g (start .pre .1 g) _ (first-deep .ensures)
 
 pub refused-spec : {M : Type 1} → statement M
 refused-spec =

@@ -3,6 +3,14 @@ use borrow.Author.Tests.{le-leb, lt-leb}
 use Rattle.table.proofs.nodes.weighed.Statement.{statement}
 use Rattle.table.proofs.nodes.weighed.Tie as tie
 
+-- if x.nodes > 65535 {
+returns-3 : tie.Need-returns-3
+returns-3 c =
+    let if1 = c .before .before .before .before .if1 in
+    let if2 = c .before .before .if2 in
+    let if3 = c .if3 in
+    rw (le-leb _ _ (if1 .left), le-leb _ _ (if2 .left), lt-leb _ _ (if3 .taken))
+
 -- fn weighed
 returns-4 : tie.Need-returns-4
 returns-4 c =
@@ -15,9 +23,9 @@ pub weighed-spec : {M : Type 1} → statement M
 weighed-spec =
     tie.close
     (tie.spec
-    (λ c. rw (lt-leb _ _ (c .if1 .taken)))  -- returns: generations
-    (λ c. rw (le-leb _ _ (c .before .before .if1 .left), lt-leb _ _ (c .if2 .taken)))  -- returns-2: atoms
-    (λ c. rw (le-leb _ _ (c .before .before .before .before .if1 .left), le-leb _ _ (c .before .before .if2 .left), lt-leb _ _ (c .if3 .taken)))  -- returns-3: nodes
+    (λ c. rw (lt-leb _ _ (c .if1 .taken)))  -- returns
+    (λ c. rw (le-leb _ _ (c .before .before .if1 .left), lt-leb _ _ (c .if2 .taken)))  -- returns-2
+    returns-3
     (λ c. search needs)  -- cast-t3: generations: x.generations as usize,
     (λ c. search needs)  -- cast-t4: atoms: x.atoms as usize,
     (λ c. search needs)  -- cast-t5: nodes: x.nodes as usize,

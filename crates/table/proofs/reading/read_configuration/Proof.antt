@@ -30,7 +30,8 @@ returns c =
     let a = start .args in
     let t = a .table .now in
     let w = a .words .now in
-    let rank = ranks-event t (a .c) w _ _ _ (sym (part-kind .ensures .0) ∙ if1 .taken) (part-event .ensures .0) (event-rank .ensures) in
+    let kind = sym (part-kind .ensures .0) ∙ if1 .taken in
+    let rank = ranks-event t (a .c) w _ _ _ kind (part-event .ensures .0) (event-rank .ensures) in
     ranks-read t (a .c) w _ _ _ (a .ended) rank (absent-rank .ensures) (verdict-of .ensures)
 
 -- pub fn read_configuration
@@ -41,7 +42,8 @@ returns-2 c =
     let read-parts = c .before .read-parts in
     let verdict-of2 = c .verdict-of2 in
     let a = start .args in
-    ranks-read (a .table .now) (a .c) (a .words .now) _ _ _ (a .ended) (read-parts .ensures) (absent-rank .ensures) (verdict-of2 .ensures)
+    ranks-read (a .table .now) (a .c) (a .words .now) _ _ _ (a .ended)
+    (read-parts .ensures) (absent-rank .ensures) (verdict-of2 .ensures)
 
 pub read-configuration-spec : {M : Type 1} → statement M
 read-configuration-spec =

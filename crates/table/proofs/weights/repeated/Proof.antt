@@ -4,7 +4,11 @@ use Rattle.table.proofs.weights.repeated.Tie as tie
 
 -- fn repeated(c: u32, x: Weight, stops: u32) -> Weight
 returns : tie.Need-returns
-returns c = simp (c .before .before .before .count-times .ensures, c .before .before .count-times2 .ensures, c .before .count-times3 .ensures)
+returns c =
+    let count-times = c .before .before .before .count-times in
+    let count-times2 = c .before .before .count-times2 in
+    let count-times3 = c .before .count-times3 in
+    simp (count-times .ensures, count-times2 .ensures, count-times3 .ensures)
 
 pub repeated-spec : {M : Type 1} → statement M
 repeated-spec =

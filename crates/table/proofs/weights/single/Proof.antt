@@ -5,7 +5,11 @@ use Rattle.table.proofs.weights.single.Tie as tie
 
 -- pub fn single(k: usize) -> Weight
 returns : tie.Need-returns
-returns c = simp (c .before .before .one-if .ensures, c .before .one-if2 .ensures, c .one-if3 .ensures) (λ p v e. single-weighs _ v e)
+returns c =
+    let one-if = c .before .before .one-if in
+    let one-if2 = c .before .one-if2 in
+    let one-if3 = c .one-if3 in
+    simp (one-if .ensures, one-if2 .ensures, one-if3 .ensures) (λ p v e. single-weighs _ v e)
 
 pub single-spec : {M : Type 1} → statement M
 single-spec =

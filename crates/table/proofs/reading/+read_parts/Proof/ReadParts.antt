@@ -40,7 +40,9 @@ module _ (t : ℕ) where
       let a = c .before .before .before .before .args in
       let kind = c .before .part-kind .ensures .0 in
       ⊎-elim
-      (λ w. ranks-event (a .table .now) (a .c + 4) (a .words .now) (a .absent) _ _ (sym kind ∙ w .0 .taken) (w .1 .ensures .0) (w .3 ∙ w .2 .ensures))
+      (λ w.
+      ranks-event (a .table .now) (a .c + 4) (a .words .now) (a .absent) _ _
+      (sym kind ∙ w .0 .taken) (w .1 .ensures .0) (w .3 ∙ w .2 .ensures))
       (λ w. rw (w .2) (w .1 .ensures))
       (c .if1 .came)
 
@@ -73,7 +75,8 @@ module _ (t : ℕ) where
   sub-result c =
       let start = c .before .before .before .before .before .before .before in
       let p = first-part _ _ (start .pre .1 .0) (start .pre .1 .1 .0) in
-      ranks-most _ _ (start .args .words .now) _ _ (p .there) (start .pre .1 .1 .1) (first-ranked (c .before .before .before))
+      let first = first-ranked (c .before .before .before) in
+      ranks-most _ _ (start .args .words .now) _ _ (p .there) (start .pre .1 .1 .1) first
 
   returns : Of lts.Need-returns
   returns c =
@@ -81,7 +84,8 @@ module _ (t : ℕ) where
       let part-kind2 = c .before .before .part-kind2 in
       let if2 = c .before .if2 in
       let a = start .args in
-      ranks-not (a .table .now) (a .c) (a .words .now) (a .absent) _ (sym (part-kind2 .ensures .0) ∙ if2 .taken) (first-ranked (c .before .before .before))
+      let first = first-ranked (c .before .before .before) in
+      ranks-not (a .table .now) (a .c) (a .words .now) (a .absent) _ (sym (part-kind2 .ensures .0) ∙ if2 .taken) first
 
   -- return first;
   returns-2 : Of lts.Need-returns-2
@@ -91,7 +95,10 @@ module _ (t : ℕ) where
       let if2 = c .before .if2 in
       let if3 = c .if3 in
       let a = start .args in
-      ranks-first (a .table .now) (a .c) (a .words .now) (a .absent) _ (start .pre .1 .1 .0) (λ e. if2 .left (part-kind2 .ensures .0 ∙ e)) (first-ranked (c .before .before .before))
+      let first = first-ranked (c .before .before .before) in
+      ranks-first (a .table .now) (a .c) (a .words .now) (a .absent) _ (start .pre .1 .1 .0)
+      (λ e. if2 .left (part-kind2 .ensures .0 ∙ e))
+      first
       (if3 .taken ∙ ap (λ (k : ℕ). 2 * (k - 2)) (part-kind2 .ensures .0))
 
   -- let two = one + 4 * part_size(table, one);
@@ -108,7 +115,8 @@ module _ (t : ℕ) where
       let part-kind2 = c .before .before .before .part-kind2 in
       let if2 = c .before .before .if2 in
       let part-size = c .part-size in
-      let p = second-part _ _ (start .pre .1 .0) (start .pre .1 .1 .0) (λ e. if2 .left (part-kind2 .ensures .0 ∙ e)) in
+      let kind = part-kind2 .ensures .0 in
+      let p = second-part _ _ (start .pre .1 .0) (start .pre .1 .1 .0) (λ e. if2 .left (kind ∙ e)) in
       rw (part-size .ensures .0) (omega (arith, own-inside _ _ (p .there)))
 
   -- let second = event_rank(words, part_event(table, two), absent);
@@ -118,7 +126,8 @@ module _ (t : ℕ) where
       let part-kind2 = c .before .before .before .before .before .part-kind2 in
       let if2 = c .before .before .before .before .if2 in
       let part-size = c .before .before .part-size in
-      let p = second-part _ _ (start .pre .1 .0) (start .pre .1 .1 .0) (λ e. if2 .left (part-kind2 .ensures .0 ∙ e)) in
+      let kind = part-kind2 .ensures .0 in
+      let p = second-part _ _ (start .pre .1 .0) (start .pre .1 .1 .0) (λ e. if2 .left (kind ∙ e)) in
       rw (part-size .ensures .0) (omega (arith, own-inside _ _ (p .there)))
 
   -- return joined_rank(kind, first, second);
@@ -135,8 +144,13 @@ module _ (t : ℕ) where
       let joined-rank = c .joined-rank in
       let a = start .args in
       let kind = sym (part-kind3 .ensures .0) ∙ if4 .taken in
-      let second = ranks-event (a .table .now) _ (a .words .now) (a .absent) _ _ kind (part-event2 .ensures .0) (event-rank2 .ensures) in
-      ranks-both (a .table .now) (a .c) (a .words .now) (a .absent) _ (start .pre .1 .1 .0) (λ e. if2 .left (part-kind2 .ensures .0 ∙ e)) (first-ranked (c .before .before .before .before .before .before .before .before .before))
+      let second =
+      ranks-event (a .table .now) _ (a .words .now) (a .absent) _ _
+      kind (part-event2 .ensures .0) (event-rank2 .ensures) in
+      let first = first-ranked (c .before .before .before .before .before .before .before .before .before) in
+      ranks-both (a .table .now) (a .c) (a .words .now) (a .absent) _ (start .pre .1 .1 .0)
+      (λ e. if2 .left (part-kind2 .ensures .0 ∙ e))
+      first
       _ _ _ (part-kind2 .ensures .0) (rw (part-size .ensures .0) at second) (joined-rank .ensures)
 
   -- joined_rank(kind, first, read_parts(table, two, words, absent))
@@ -148,10 +162,11 @@ module _ (t : ℕ) where
       let part-size = c .before .before .part-size in
       let part-kind3 = c .before .part-kind3 in
       let if4 = c .if4 in
-      let p = second-part _ _ (start .pre .1 .0) (start .pre .1 .1 .0) (λ e. if2 .left (part-kind2 .ensures .0 ∙ e)) in
+      let kind = part-kind2 .ensures .0 in
+      let p = second-part _ _ (start .pre .1 .0) (start .pre .1 .1 .0) (λ e. if2 .left (kind ∙ e)) in
       let less = p .less in
-      let kind = rw (part-size .ensures .0) at (part-kind3 .ensures .0) in
-      rw (part-size .ensures .0) (omega arith, (p .there, ((λ e. if4 .left (kind ∙ e)), start .pre .1 .1 .1)))
+      let kind-two = rw (part-size .ensures .0) at (part-kind3 .ensures .0) in
+      rw (part-size .ensures .0) (omega arith, (p .there, ((λ e. if4 .left (kind-two ∙ e)), start .pre .1 .1 .1)))
 
   -- fn read_parts
   returns-4 : Of lts.Need-returns-4
@@ -163,7 +178,10 @@ module _ (t : ℕ) where
       let read-parts2 = c .before .read-parts2 in
       let joined-rank2 = c .joined-rank2 in
       let a = start .args in
-      ranks-both (a .table .now) (a .c) (a .words .now) (a .absent) _ (start .pre .1 .1 .0) (λ e. if2 .left (part-kind2 .ensures .0 ∙ e)) (first-ranked (c .before .before .before .before .before .before .before .before))
+      let first = first-ranked (c .before .before .before .before .before .before .before .before) in
+      ranks-both (a .table .now) (a .c) (a .words .now) (a .absent) _ (start .pre .1 .1 .0)
+      (λ e. if2 .left (part-kind2 .ensures .0 ∙ e))
+      first
       _ _ _ (part-kind2 .ensures .0) (rw (part-size .ensures .0) at (read-parts2 .ensures)) (joined-rank2 .ensures)
 
   pub closed : {M : Type 1} → lts.Closed given (exactly lts.ps μ-read-parts Pre t) Post M
@@ -173,7 +191,7 @@ module _ (t : ℕ) where
       part-event-requires
       (λ c κs. search needs)  -- event-rank-requires
       read-parts-requires
-      (λ c κs. omega (arith, own-inside _ _ (c .before .before .before .before .pre .1 .0)))  -- part-kind-requires-2: let kind = part_kind(table, c);
+      (λ c κs. omega (arith, own-inside _ _ (c .before .before .before .before .pre .1 .0)))  -- part-kind-requires-2: let ..
       sub-result
       returns
       (λ c. search needs)  -- sub-if3: if first == 2 * (kind - 2) {
