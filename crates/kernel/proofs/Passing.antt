@@ -125,7 +125,7 @@ module _ {table : List ℕ} {t₀ : Term} {X : Events} {row₀ state words row t
 
   -- a pass that suspends leads to the next
   module _ {state′ words′ row′ tally′ : List ℕ} (ran : Ran root (u .term) words row tally state′ words′ row′ tally′ SUSP)
-      (words-kept : length words′ ≡ length words) (row-kept : length row′ ≡ length row) (tally-kept : length tally′ ≡ length tally) where
+      (row-kept : length row′ ≡ length row) where
     not-ended : envOf words tally .eoi ≡ false
     not-ended = go (envOf words tally .eoi) refl
       where
@@ -142,8 +142,8 @@ module _ {table : List ℕ} {t₀ : Term} {X : Events} {row₀ state words row t
     ready-again : Ready 0 table 0 state′ words′ row′ (next-tally tally′) (ran .to)
     ready-again = record {
       placed = rw (kept (ran .rewrites)) (u .ready .placed);
-      wide = rw words-kept (u .ready .wide);
-      tallied = simp length-set (tally-kept ∙ u .ready .tallied);
+      wide = rw (ran .lengths .of-words) (u .ready .wide);
+      tallied = simp length-set (ran .lengths .of-tally ∙ u .ready .tallied);
       long = ap length (ran .bytes) ∙ len-bytes (ran .to);
       bytes = ran .bytes;
       going = goes-on (ran .rewrites) (u .ready .going) refl;
@@ -156,7 +156,7 @@ module _ {table : List ℕ} {t₀ : Term} {X : Events} {row₀ state words row t
     -- by whether something moved
     module _ (m : Bool) (moved : envOf words′ tally′ .move ≡ m) where
       next : envOf words′ (next-tally tally′) ≡ next-env m (envOf words′ tally′)
-      next = next-is words′ tally′ (tally-kept ∙ u .ready .tallied) off m moved
+      next = next-is words′ tally′ (ran .lengths .of-tally ∙ u .ready .tallied) off m moved
 
     still-again : (m : Bool) → envOf words′ tally′ .move ≡ m → envOf words′ (next-tally tally′) .move ≡ false
     still-again true e = ap (λ E. E .move) (next true e)

@@ -9,7 +9,7 @@ use lib.ListN.{length, getD}
 use borrow.Rule.Slice.PartMut.{midOf, putMid}
 use Rattle.events.specs.Members.{marks}
 use Rattle.junior.specs.declared.Flag.{Flag}
-use Rattle.junior.specs.declared.Flag.the-variants.{SUSP, STOP, TERM}
+use Rattle.junior.specs.declared.Flag.the-variants.{SUSP, STOP}
 use Rattle.junior.specs.declared.Verdict.the-variants.{Sat}
 use Rattle.junior.specs.Configuration.{Event, test}
 use Rattle.junior.specs.Term.{Term, control, prog}
@@ -68,7 +68,7 @@ module _ {table : List ℕ} {i : ℕ} {state words row tally : List ℕ} {a : �
         let g = only-ran o h (omega arith) (h .wide) (body-goes s x h) run (first P) (first-at at) in
         let e : marks words s ≡ true = rw (event-is s x h) at on in
         let sat : test (Event s) (envOf words tally) ≡ Sat = test-event s (envOf words tally) ∙ rw e in
-        ran-kept o h (only-cut h o) g refl (phase-0-left α) (r26 sat (g .rewrites)) refl
+        ran-kept o h (only-cut h o) g (g .lengths) refl (phase-0-left α) (r26 sat (g .rewrites)) refl
 
   -- it is not
   module _ (off : marks words a ≡ false) where

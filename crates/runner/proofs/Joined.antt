@@ -58,6 +58,10 @@ module _ {state : List ℕ} {flags n : ℕ} {a b : List ℕ} (o : Two state flag
         first-long = o .first-long;
       }
 
+-- flags of zero are as they were
+pub unchanged : {state : List ℕ} {n : ℕ} {a b : List ℕ} → Two state 0 n a b → state ≡ set state 1 0
+unchanged o = o .state-is ∙ sym (ap (λ l. set l 1 0) (o .state-is))
+
 -- par_end writes the first byte of each branch
 pub end-asks : {state : List ℕ} {flags n : ℕ} {a b : List ℕ} → Two state flags n a b → 0 < n → 0 < length b
     → (4 < length state) × (4 + 4 * n < length state)

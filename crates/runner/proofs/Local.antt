@@ -22,7 +22,7 @@ use Rattle.junior.proofs.Going.{Going}
 use Rattle.table.specs.Records.{argumentAt}
 use Rattle.table.specs.Spells.{Spells}
 use Rattle.steps.specs.StateBytes.{in-phase}
-use Rattle.steps.specs.Running.{Ready, Ran, Live, Runs, Any, Kind, envOf, signAfter}
+use Rattle.steps.specs.Running.{Ready, SameLengths, Ran, Live, Runs, Any, Kind, envOf, signAfter}
 use Rattle.steps.proofs.Shape.{Shape, is-done, is-local, shape-by}
 use Rattle.steps.proofs.Frames.{local-body}
 use Rattle.steps.proofs.LoadedNode.{local-placed}
@@ -109,7 +109,6 @@ module _ {table : List ℕ} {i : ℕ} {state words row tally : List ℕ} {a : �
           back-in o h (only-cut h o) s (omega arith) (ran-long (body-ran b e x h (at-node (i + 1)) refl)) 0 (omega arith)
 
       pub local-ran : {t : Term} → Locals t → Ready 0 table i state words row tally t
-          → length words₂ ≡ length words₁
           → {outside present : Bool} → outside ≡ marks words a → present ≡ marks words₂ a
           → {words₃ : List ℕ} → Marked a outside words₂ words₃
           → {ph : ℕ} → ph ≡ signAfter α present
@@ -117,15 +116,17 @@ module _ {table : List ℕ} {i : ℕ} {state words row tally : List ℕ} {a : �
           → P .node ≡ i
           → Ran P t words row tally (set (putMid 4 (length state - 4) state s) 0 ph) words₃ row′ tally′ α
       unfolding prog
-      local-ran (locals b e x) h long₂ was found {words₃} m₃ after P at =
+      local-ran (locals b e x) h was found {words₃} m₃ after P at =
           let o = local-body b e in
           let g = body-ran b e x h (inside e P) (first-at at) in
           let same = event-is b e x h in
           let p = inside-marks b e x h in
-          let q = put-in m₃ (ap (λ n. 64 * n) long₂ ∙ still-wide m (h .wide)) same (local-placed (h .placed)) (was ∙ ap (marks words) same) in
+          let q = put-in m₃ (ap (λ n. 64 * n) (g .lengths .of-words) ∙ still-wide m (h .wide)) same (local-placed (h .placed)) (was ∙ ap (marks words) same) in
           let on : b ≡ true → marks words₂ e ≡ true = λ z. grows (g .rewrites) e (ap (λ X. X e) p ∙ (put-at e b (marks words) ∙ z)) in
           let ph = after ∙ ap (signAfter α) (found ∙ ap (marks words₂) same) in
-          ran-phase o h (only-cut h o) g (omega arith) refl (local-body (sign b α (marks words₂ e)) e)
+          let long : SameLengths words tally words₃ tally′ =
+          record { of-words = m₃ .long ∙ (g .lengths .of-words ∙ m .long); of-tally = g .lengths .of-tally } in
+          ran-phase o h (only-cut h o) g long (omega arith) refl (local-body (sign b α (marks words₂ e)) e)
           (sign-left b α (marks words₂ e) on ∙ ap in-phase (sym ph))
           (scoped words words₁ tally words₂ words₃ tally′ p q (g .rewrites))
           (collect-last atom-of (g .acts) (scope-answered (P .node) α (marks words₂ e)) refl)

@@ -25,7 +25,7 @@ use Rattle.steps.proofs.Shape.{Shape, is-done, is-loop0, is-loop1, shape-by}
 use Rattle.steps.proofs.Frames.{loop-body}
 use Rattle.steps.proofs.Children.{at-node, falling, only-cut, first-at, phase-is}
 use Rattle.runner.proofs.Only.{only-asks, only-ran}
-use Rattle.steps.proofs.Done.{ready-as, room-after, few, ran-flag, ran-zeros, ran-long, ran-then}
+use Rattle.steps.proofs.Done.{same-lengths, ready-as, room-after, few, ran-flag, ran-zeros, ran-long, ran-then}
 use Rattle.steps.proofs.Done.{back-kept, back-long, back-in, own-stays, ran-kept, ran-phase}
 
 -- a Loop that is to begin its body
@@ -49,7 +49,7 @@ module _ {table : List ℕ} {i : ℕ} {state words row tally : List ℕ} where
   in-body : (p : Program) → Ready 1 table i state words row tally (loop0 p) → Ready 1 table i state words row tally (loop1 (fresh p))
   unfolding prog below Going LoopsStop
   in-body p h =
-      ready-as h (ap Loop (prog-fresh p)) refl refl refl
+      ready-as h (ap Loop (prog-fresh p)) refl (same-lengths words tally)
       (h .bytes ∙ ap (λ l. 0 ∷ 0 ∷ 0 ∷ l) (sym (fresh-zeros p)))
       (rest-going _ (fresh p) (fresh-at-rest p))
       (omega (arith, h .room, pot-begun p (h .placed .loops .0)))
@@ -84,7 +84,7 @@ module _ {table : List ℕ} {i : ℕ} {state words row tally : List ℕ} where
         let b = in-body p h in
         let g = body-ran p h P at in
         let w = goes-on (begins p) h in
-        ran-phase loop-body b (only-cut b loop-body) g (omega arith) refl loop-body (own-stays α w) (r12 (g .rewrites) w) refl
+        ran-phase loop-body b (only-cut b loop-body) g (g .lengths) (omega arith) refl loop-body (own-stays α w) (r12 (g .rewrites) w) refl
 
 -- a Loop in the rest of its body
 pub data Loops : Term → Type 0 where
@@ -116,36 +116,35 @@ module _ {table : List ℕ} {i : ℕ} {state words row tally : List ℕ} where
         → Ran P t words row tally (putMid 4 (length state - 4) state s) words′ row′ tally′ α
     loop-waits (loops x) h w P at =
         let g = rest-ran x h P at in
-        ran-kept loop-body h (only-cut h loop-body) g refl (own-stays α w) (r5-loop (g .rewrites) w) refl
+        ran-kept loop-body h (only-cut h loop-body) g (g .lengths) refl (own-stays α w) (r5-loop (g .rewrites) w) refl
 
     -- it has ended: the Loop begins anew
-    module _ (words-long : length words′ ≡ length words) (tally-long : length tally′ ≡ length tally) where
-      anew : (x : Term) → Ready 0 table i state words row tally (loop1 x) → α ≡ TERM
-          → Ready 1 table i (putMid 4 (length state - 4) state s) words′ row′ tally′ (loop0 (prog x))
-      unfolding Going prog below pot LoopsStop
-      anew x h z =
-          let u = only-cut h loop-body in
-          let g = ran-flag z (rest-ran x h (at-node i) refl) in
-          let r = few g (h .placed .loops .1) in
-          ready-as h refl (back-long loop-body h u s (omega arith) (ran-long g)) words-long tally-long
-          (ap (drop 1) (back-kept loop-body h u s refl)
-          ∙ ap (λ l. 0 ∷ 0 ∷ 0 ∷ l) (append-nil s ∙ ran-zeros g))
-          tt
-          (room-after h g (loop0 (prog x)) (simp (ends-unheld (g .rewrites)) (omega arith)))
+    anew : (x : Term) → Ready 0 table i state words row tally (loop1 x) → α ≡ TERM
+        → Ready 1 table i (putMid 4 (length state - 4) state s) words′ row′ tally′ (loop0 (prog x))
+    unfolding Going prog below pot LoopsStop
+    anew x h z =
+        let u = only-cut h loop-body in
+        let g = ran-flag z (rest-ran x h (at-node i) refl) in
+        let r = few g (h .placed .loops .1) in
+        ready-as h refl (back-long loop-body h u s (omega arith) (ran-long g)) (g .lengths)
+        (ap (drop 1) (back-kept loop-body h u s refl)
+        ∙ ap (λ l. 0 ∷ 0 ∷ 0 ∷ l) (append-nil s ∙ ran-zeros g))
+        tt
+        (room-after h g (loop0 (prog x)) (simp (ends-unheld (g .rewrites)) (omega arith)))
 
-      pub anew-asks : {t : Term} → Loops t → Ready 0 table i state words row tally t → α ≡ TERM
-          → Live 1 (KindPhase 5 0) table i (putMid 4 (length state - 4) state s) words′ row′ tally′
-      unfolding prog kind
-      anew-asks (loops x) h z = (loop0 (prog x), (refl, refl), anew x h z)
+    pub anew-asks : {t : Term} → Loops t → Ready 0 table i state words row tally t → α ≡ TERM
+        → Live 1 (KindPhase 5 0) table i (putMid 4 (length state - 4) state s) words′ row′ tally′
+    unfolding prog kind
+    anew-asks (loops x) h z = (loop0 (prog x), (refl, refl), anew x h z)
 
-      pub loop-again : {t : Term} → Loops t → Ready 0 table i state words row tally t → α ≡ TERM
-          → {state″ words″ row″ tally″ : List ℕ} {β : Flag}
-          → Runs 1 (KindPhase 5 0) table i (putMid 4 (length state - 4) state s) words′ row′ tally′ state″ words″ row″ tally″ β
-          → (P : Place)
-          → P .node ≡ i
-          → Ran P t words row tally state″ words″ row″ tally″ β
-      unfolding prog kind
-      loop-again (loops x) h z then P at =
-          let g = ran-flag z (rest-ran x h P at) in
-          let k = then (loop0 (prog x)) (refl, refl) (anew x h z) P at in
-          ran-then h g k (r4-loop (g .rewrites) (k .rewrites))
+    pub loop-again : {t : Term} → Loops t → Ready 0 table i state words row tally t → α ≡ TERM
+        → {state″ words″ row″ tally″ : List ℕ} {β : Flag}
+        → Runs 1 (KindPhase 5 0) table i (putMid 4 (length state - 4) state s) words′ row′ tally′ state″ words″ row″ tally″ β
+        → (P : Place)
+        → P .node ≡ i
+        → Ran P t words row tally state″ words″ row″ tally″ β
+    unfolding prog kind
+    loop-again (loops x) h z then P at =
+        let g = ran-flag z (rest-ran x h P at) in
+        let k = then (loop0 (prog x)) (refl, refl) (anew x h z) P at in
+        ran-then h g k (r4-loop (g .rewrites) (k .rewrites))

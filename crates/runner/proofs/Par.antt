@@ -21,18 +21,17 @@ use Rattle.junior.proofs.Figures.{pot}
 use Rattle.table.specs.Records.{sizeAt}
 use Rattle.table.specs.Spells.{Spells}
 use Rattle.steps.specs.StateBytes.{code, head, below, stateBytes}
-use Rattle.steps.specs.Running.{envOf, Placed, Ready, Wrote, Ran, Live, Runs, Any, Kind, BothSuspended}
-use Rattle.steps.specs.Running.{LeftSuspended}
+use Rattle.steps.specs.Running.{envOf, Placed, Ready, Wrote, SameLengths, Ran, Live, Runs, Any, Kind, LeftSuspended}
 use Rattle.steps.specs.Running.{RightSuspended, parEnd, atoms-done}
 use Rattle.steps.proofs.Parts.{first-of, with-first, rest-of, with-rest, size-pos, len-bytes}
 use Rattle.steps.proofs.Shape.{Shape, is-done, is-par, shape-by}
-use Rattle.steps.proofs.Flags.{code-same, code-below}
+use Rattle.steps.proofs.Flags.{code-same, code-below, both-are}
 use Rattle.steps.proofs.Frames.{written, in-table}
 use Rattle.steps.proofs.Children.{asks-for, at-node, falling, first-at, second-at, byte-is}
 use Rattle.runner.proofs.Joined.{Two, first-part, put-first, ends, second-part, put-second}
-use Rattle.runner.proofs.Joined.{end-asks}
+use Rattle.runner.proofs.Joined.{end-asks, unchanged}
 use Rattle.runner.proofs.Joined.{Branch, branch-stood, branch-ran, par-ended}
-use Rattle.steps.proofs.Done.{few, ran-flag, ran-long, room-after, wrote-as, wrote-then}
+use Rattle.steps.proofs.Done.{same-lengths, lengths-then, few, ran-flag, ran-long, room-after, wrote-as, wrote-then}
 
 -- a Par, and which of its branches run
 pub data Branches : Flag → Flag → Type 0 where
@@ -95,9 +94,6 @@ right-of (a-par t u (only-second α n)) e = (α, n, second-runs t u)
 
 module _ {table : List ℕ} {i : ℕ} {state words row tally : List ℕ} {t : Term}
     (h : Ready 0 table i state words row tally t) where
-  pub both-by : BothSuspended t → First SUSP t
-  both-by (w, e) = both-of (par-by w h) e
-
   pub left-by : LeftSuspended t → Left t
   left-by (w, e, z) = left-of (par-by w h) e z
 
@@ -108,8 +104,8 @@ module _ {table : List ℕ} {i : ℕ} {state words row tally : List ℕ} {t : Te
   flags-are : getD state 1 0 ≡ head t .flags
   flags-are = byte-is h 1 (omega arith)
 
-  pub to-both : Kind 4 t → getD state 1 0 ≡ 0 → BothSuspended t
-  to-both w e = (w, sym flags-are ∙ e)
+  pub both-by : Kind 4 t → getD state 1 0 ≡ 0 → First SUSP t
+  both-by w e = both-of (par-by w h) (sym flags-are ∙ e)
 
   pub to-left : Kind 4 t → getD state 1 0 ≢ 0 → getD state 1 0 % 4 ≡ 0 → LeftSuspended t
   to-left w z e = (w, rw flags-are at e, λ y. z (flags-are ∙ y))
@@ -170,6 +166,7 @@ module _ {table : List ℕ} {i : ℕ} {state words row tally : List ℕ} where
 par-ran : {P : Place} {t : Term} {words row tally words′ row′ tally′ : List ℕ} {l : List Act} (α β : Flag) (t′ u′ : Term)
     → Rewrites ⊥ P t (envOf words tally) (joined α β t′ u′ (envOf words′ tally′) l)
     → Wrote (atoms l) row (atoms-done tally) row′ (atoms-done tally′)
+    → SameLengths words tally words′ tally′
     → {state : List ℕ} {flags n : ℕ} {a b : List ℕ}
     → Two state flags n a b
     → Branch α t′ a
@@ -177,7 +174,7 @@ par-ran : {P : Place} {t : Term} {words row tally words′ row′ tally′ : Lis
     → {r : Flag} {end : List ℕ}
     → (r ≡ γ α β) × (end ≡ parEnd α β (4 + 4 * n) state)
     → Ran P t words row tally end words′ row′ tally′ r
-par-ran {l = l} α β t′ u′ d w {a = a} {b = b} o x y (q, e) =
+par-ran {l = l} α β t′ u′ d w k {a = a} {b = b} o x y (q, e) =
     ran-flag (sym q)
     (record {
       to = leave (γ α β) (par (δ₁ α β) (δ₂ α β) t′ u′);
@@ -185,6 +182,7 @@ par-ran {l = l} α β t′ u′ d w {a = a} {b = b} o x y (q, e) =
       rewrites = d;
       bytes = e ∙ par-ended t′ u′ a b o α β x y;
       wrote = w;
+      lengths = k;
     })
 
 module _ {table : List ℕ} {i : ℕ} {state words row tally : List ℕ} {n : ℕ} (m : n ≡ sizeAt table (i + 1)) where
@@ -211,15 +209,15 @@ module _ {table : List ℕ} {i : ℕ} {state words row tally : List ℕ} {n : �
 
   module _ {α : Flag} {t u : Term} (h : Ready 0 table i state words row tally (par α SUSP t u)) {state₁ : List ℕ}
       {flags : ℕ} {a : List ℕ} (o : Two state₁ flags n a (stateBytes u)) {words₁ row₁ tally₁ : List ℕ} where
-    second-ready : length words₁ ≡ length words → length tally₁ ≡ length tally → Going (marks words₁) u
+    second-ready : SameLengths words tally words₁ tally₁ → Going (marks words₁) u
         → atoms-done tally₁ + pot (per 2) u ≤ length row₁
         → Ready 0 table (i + 1 + n) (rest-of state₁ n) words₁ row₁ tally₁ u
     unfolding prog
-    second-ready w l g r =
+    second-ready k g r =
         record {
           placed = second-placed (h .placed) m;
-          wide = rw w (h .wide);
-          tallied = l ∙ h .tallied;
+          wide = rw (k .of-words) (h .wide);
+          tallied = k .of-tally ∙ h .tallied;
           long = ap length (second-part o) ∙ len-bytes u;
           bytes = second-part o;
           going = g;
@@ -269,7 +267,7 @@ module _ {table : List ℕ} {i : ℕ} {state words row tally : List ℕ} {n : �
     left-ran (β, k, first-runs t u) h g e {r} {end} q P at =
         let d = first-ran h P at in
         let stood = branch-stood (marks words) β u k (h .going .2) in
-        par-ran α β (d .to) u (r10 k (d .rewrites)) (d .wrote) (first-back h) (branch-ran d (h .going .1)) stood
+        par-ran α β (d .to) u (r10 k (d .rewrites)) (d .wrote) (d .lengths) (first-back h) (branch-ran d (h .going .1)) stood
         (subst (λ f. (r ≡ γ α f) × (end ≡ parEnd α f (4 + 4 * n) (with-first state n s))) (second-is h g e) q)
 
     -- rule 8: the second branch then
@@ -277,63 +275,72 @@ module _ {table : List ℕ} {i : ℕ} {state words row tally : List ℕ} {n : �
         → 4 + 4 * n ≤ length (with-first state n s)
     both-fits (first-runs t u) h = omega (arith, ends (first-back h))
 
-    module _ (words-long : length words′ ≡ length words) (tally-long : length tally′ ≡ length tally) where
-      both-second : {t u : Term} → Ready 0 table i state words row tally (par SUSP SUSP t u)
-          → Ready 0 table (i + 1 + n) (rest-of (with-first state n s) n) words′ row′ tally′ u
-      unfolding Going prog pot kind LoopsStop
-      both-second {t} {u} h =
-          let d = first-ran h (at-node i) refl in
-          let l = few d (h .placed .loops .0) in
-          second-ready h (first-back h) words-long tally-long (going-more u (grows (d .rewrites)) (h .going .2))
-          (room-after h d u (omega arith))
+    both-second : {t u : Term} → Ready 0 table i state words row tally (par SUSP SUSP t u)
+        → Ready 0 table (i + 1 + n) (rest-of (with-first state n s) n) words′ row′ tally′ u
+    unfolding Going prog pot kind LoopsStop
+    both-second {t} {u} h =
+        let d = first-ran h (at-node i) refl in
+        let l = few d (h .placed .loops .0) in
+        second-ready h (first-back h) (d .lengths) (going-more u (grows (d .rewrites)) (h .going .2))
+        (room-after h d u (omega arith))
 
-      pub then-asks : {t : Term} → First SUSP t → Ready 0 table i state words row tally t → {k : ℕ} (rank : ℕ)
-          → falling table i rank ≡ k
-          → (falling table (i + 1 + n) 3 < k)
-          × Live 0 Any table (i + 1 + n) (rest-of (with-first state n s) n) words′ row′ tally′
-      unfolding prog size
-      then-asks (first-runs t u) h rank e = asks-for h rank e (both-second h) (omega arith)
+    pub then-asks : {t : Term} → First SUSP t → Ready 0 table i state words row tally t → {k : ℕ} (rank : ℕ)
+        → falling table i rank ≡ k
+        → (falling table (i + 1 + n) 3 < k)
+        × Live 0 Any table (i + 1 + n) (rest-of (with-first state n s) n) words′ row′ tally′
+    unfolding prog size
+    then-asks (first-runs t u) h rank e = asks-for h rank e (both-second h) (omega arith)
 
-      module _ {s₂ words″ row″ tally″ : List ℕ} {β : Flag}
-          (then : Runs 0 Any table (i + 1 + n) (rest-of (with-first state n s) n) words′ row′ tally′ s₂ words″ row″ tally″ β) where
-        then-ran : {t u : Term} → Ready 0 table i state words row tally (par SUSP SUSP t u) → (P : Place) → P .node ≡ i
-            → Ran (second P (prog t)) u words′ row′ tally′ s₂ words″ row″ tally″ β
-        unfolding prog
-        then-ran {t} {u} h P at =
-            then u tt (both-second h) (second P (prog t)) (second-at at (prog t) (first-size (h .placed) m))
+    module _ {s₂ words″ row″ tally″ : List ℕ} {β : Flag}
+        (then : Runs 0 Any table (i + 1 + n) (rest-of (with-first state n s) n) words′ row′ tally′ s₂ words″ row″ tally″ β) where
+      then-ran : {t u : Term} → Ready 0 table i state words row tally (par SUSP SUSP t u) → (P : Place) → P .node ≡ i
+          → Ran (second P (prog t)) u words′ row′ tally′ s₂ words″ row″ tally″ β
+      unfolding prog
+      then-ran {t} {u} h P at =
+          then u tt (both-second h) (second P (prog t)) (second-at at (prog t) (first-size (h .placed) m))
 
-        both-back : {t u : Term} → Ready 0 table i state words row tally (par SUSP SUSP t u)
-            → Two (with-rest (with-first state n s) n s₂) 0 n s s₂
-        both-back h = put-second (first-back h) s₂
+      both-back : {t u : Term} → Ready 0 table i state words row tally (par SUSP SUSP t u)
+          → Two (with-rest (with-first state n s) n s₂) 0 n s s₂
+      both-back h = put-second (first-back h) s₂
 
-        pub both-end-asks : {t : Term} → First SUSP t → Ready 0 table i state words row tally t
-            → (4 < length (with-rest (with-first state n s) n s₂))
-            × (4 + 4 * n < length (with-rest (with-first state n s) n s₂))
-        unfolding prog
-        both-end-asks (first-runs t u) h =
-            end-asks (both-back h) (omega (arith, size-pos (prog t), first-size (h .placed) m))
-            (omega (arith, size-pos (prog u), ran-long (then-ran h (at-node i) refl)))
+      pub both-end-asks : {t : Term} → First SUSP t → Ready 0 table i state words row tally t
+          → (4 < length (with-rest (with-first state n s) n s₂))
+          × (4 + 4 * n < length (with-rest (with-first state n s) n s₂))
+      unfolding prog
+      both-end-asks (first-runs t u) h =
+          end-asks (both-back h) (omega (arith, size-pos (prog t), first-size (h .placed) m))
+          (omega (arith, size-pos (prog u), ran-long (then-ran h (at-node i) refl)))
 
-        pub both-ran : {t : Term} → First SUSP t → Ready 0 table i state words row tally t
-            → {r : Flag} {end : List ℕ}
-            → (r ≡ γ α β) × (end ≡ parEnd α β (4 + 4 * n) (with-rest (with-first state n s) n s₂))
-            → (P : Place)
-            → P .node ≡ i
-            → Ran P t words row tally end words″ row″ tally″ r
-        unfolding Going
-        both-ran (first-runs t u) h q P at =
-            let d = first-ran h P at in
-            let e = then-ran h P at in
-            let v = wrote-then (d .wrote) (omega (arith, h .room)) (e .wrote) in
-            let w = wrote-as (collect-++ atom-of (d .acts) (e .acts)) v in
-            par-ran α β (d .to) (e .to) (r8 (d .rewrites) (e .rewrites)) w (both-back h) (branch-ran d (h .going .1))
-            (branch-ran e (both-second h .going)) q
+      pub both-ran : {t : Term} → First SUSP t → Ready 0 table i state words row tally t
+          → {r : Flag} {end : List ℕ}
+          → (r ≡ γ α β) × (end ≡ parEnd α β (4 + 4 * n) (with-rest (with-first state n s) n s₂))
+          → (P : Place)
+          → P .node ≡ i
+          → Ran P t words row tally end words″ row″ tally″ r
+      unfolding Going
+      both-ran (first-runs t u) h q P at =
+          let d = first-ran h P at in
+          let e = then-ran h P at in
+          let v = wrote-then (d .wrote) (omega (arith, h .room)) (e .wrote) in
+          let w = wrote-as (collect-++ atom-of (d .acts) (e .acts)) v in
+          par-ran α β (d .to) (e .to) (r8 (d .rewrites) (e .rewrites)) w
+          (lengths-then (d .lengths) (e .lengths)) (both-back h) (branch-ran d (h .going .1))
+          (branch-ran e (both-second h .going)) q
+
+      -- nothing is to be written where both are suspended
+      pub both-wait : {t : Term} → First SUSP t → Ready 0 table i state words row tally t → code α + code β ≡ 0
+          → (P : Place)
+          → P .node ≡ i
+          → Ran P t words row tally (with-rest (with-first state n s) n s₂) words″ row″ tally″ SUSP
+      both-wait (first-runs t u) h e =
+          let (a, b) = both-are α β e in
+          both-ran (first-runs t u) h (rw (a, b) (refl, unchanged (both-back h)))
 
   -- rule 11: the second branch alone
   module _ {α : Flag} {t u : Term} (h : Ready 0 table i state words row tally (par α SUSP t u)) where
     right-ready : Ready 0 table (i + 1 + n) (rest-of state n) words row tally u
     unfolding Going pot prog kind
-    right-ready = second-ready h (two h) refl refl (h .going .2) (omega (arith, h .room))
+    right-ready = second-ready h (two h) (same-lengths words tally) (h .going .2) (omega (arith, h .room))
 
   pub right-asks : {t : Term} → Right t → Ready 0 table i state words row tally t → {k : ℕ} (rank : ℕ)
       → falling table i rank ≡ k
@@ -368,5 +375,5 @@ module _ {table : List ℕ} {i : ℕ} {state words row tally : List ℕ} {n : �
     right-ran (α, k, second-runs t u) h f e {r} {end} q P at =
         let d = right-ran-at h P at in
         let stood = branch-stood (marks words) α t k (h .going .1) in
-        par-ran α β t (d .to) (r11 k (d .rewrites)) (d .wrote) (put-second (two h) s) stood (branch-ran d (h .going .2))
+        par-ran α β t (d .to) (r11 k (d .rewrites)) (d .wrote) (d .lengths) (put-second (two h) s) stood (branch-ran d (h .going .2))
         (subst (λ g. (r ≡ γ g β) × (end ≡ parEnd g β (4 + 4 * n) (with-rest state n s))) (first-is h f e) q)

@@ -29,7 +29,8 @@ use Rattle.steps.proofs.Frames.{repeat-body}
 use Rattle.steps.proofs.LoadedNode.{repeat-below}
 use Rattle.steps.proofs.Children.{at-node, falling, byte-is, only-cut, put-back, first-at, phase-is, unseen}
 use Rattle.runner.proofs.Only.{only-asks, only-ran}
-use Rattle.steps.proofs.Done.{ready-as, room-after, few, ran-flag, ran-zeros, ran-long, ran-alone, ran-by}
+use Rattle.steps.proofs.Done.{same-lengths, ready-as, room-after, few, ran-flag, ran-zeros, ran-long, ran-alone}
+use Rattle.steps.proofs.Done.{ran-by}
 use Rattle.steps.proofs.Done.{ran-then, ran-around}
 use Rattle.steps.proofs.Done.{back-long, back-in, own-stays}
 
@@ -57,7 +58,7 @@ module _ {table : List ℕ} {i : ℕ} {state words row tally : List ℕ} where
       → Ready 4 table i state words row tally (repeat1 (suc n) n (fresh p))
   unfolding prog below Going
   first-run n p h =
-      ready-as h (ap (Repeat (suc n)) (prog-fresh p)) refl refl refl (ap (drop 4) (h .bytes) ∙ sym (fresh-zeros p))
+      ready-as h (ap (Repeat (suc n)) (prog-fresh p)) refl (same-lengths words tally) (ap (drop 4) (h .bytes) ∙ sym (fresh-zeros p))
       (omega arith, rest-going _ (fresh p) (fresh-at-rest p))
       (omega (arith, h .room, pot-begun n p))
 
@@ -162,7 +163,7 @@ module _ {table : List ℕ} {i : ℕ} {state words row tally : List ℕ} where
         → Ran P t words row tally state′ words′ row′ tally′ α
     times-waits (in-run n k x) h z w e P at =
         let g = rest-ran n k x h P at in
-        ran-around (repeat-body n k) g (r5-repeat (g .rewrites) w) refl
+        ran-around (repeat-body n k) g (g .lengths) (r5-repeat (g .rewrites) w) refl
         (e ∙ rw (back n k x h, z, own-stays α {o = record { phase = 1; flags = 0; count = k }} w))
 
     -- it has ended, and was the last
@@ -179,41 +180,40 @@ module _ {table : List ℕ} {i : ℕ} {state words row tally : List ℕ} where
     times-ends (in-run n (suc k) x) h z a l e P at = absurd (omega arith)
 
     -- it has ended, and the next begins
-    module _ (words-long : length words′ ≡ length words) (tally-long : length tally′ ≡ length tally) where
-      next : (n k : ℕ) (x : Term) → Ready 4 table i state words row tally (repeat1 n (suc k) x) → α ≡ TERM
-          → Ready 4 table i (putMid 4 (length state - 4) state s) words′ row′ tally′ (repeat1 n k (fresh (prog x)))
-      unfolding Going prog below pot LoopsStop
-      next n k x h z =
-          let o = repeat-body n (suc k) in
-          let g = ran-flag z (rest-ran n (suc k) x h (at-node i) refl) in
-          let r = few g (h .placed .loops) in
-          let f = pot-again (per 2) n (suc k) (prog x) in
-          ready-as h (ap (Repeat n) (prog-fresh (prog x))) (back-long o h (only-cut h o) s (omega arith) (ran-long g)) words-long tally-long
-          (ap (drop 4) (back n (suc k) x h) ∙ (append-nil s ∙ (ran-zeros g ∙ sym (fresh-zeros (prog x)))))
-          (omega (arith, h .going .0), rest-going _ (fresh (prog x)) (fresh-at-rest (prog x)))
-          (room-after h g (repeat1 n k (fresh (prog x))) (simp (ends-unheld (g .rewrites)) (omega arith)))
+    next : (n k : ℕ) (x : Term) → Ready 4 table i state words row tally (repeat1 n (suc k) x) → α ≡ TERM
+        → Ready 4 table i (putMid 4 (length state - 4) state s) words′ row′ tally′ (repeat1 n k (fresh (prog x)))
+    unfolding Going prog below pot LoopsStop
+    next n k x h z =
+        let o = repeat-body n (suc k) in
+        let g = ran-flag z (rest-ran n (suc k) x h (at-node i) refl) in
+        let r = few g (h .placed .loops) in
+        let f = pot-again (per 2) n (suc k) (prog x) in
+        ready-as h (ap (Repeat n) (prog-fresh (prog x))) (back-long o h (only-cut h o) s (omega arith) (ran-long g)) (g .lengths)
+        (ap (drop 4) (back n (suc k) x h) ∙ (append-nil s ∙ (ran-zeros g ∙ sym (fresh-zeros (prog x)))))
+        (omega (arith, h .going .0), rest-going _ (fresh (prog x)) (fresh-at-rest (prog x)))
+        (room-after h g (repeat1 n k (fresh (prog x))) (simp (ends-unheld (g .rewrites)) (omega arith)))
 
-      next-live : {t : Term} {k : ℕ} → InRun k t → Ready 4 table i state words row tally t → α ≡ TERM → k ≢ 0
-          → Live 4 (Times (k - 1)) table i (putMid 4 (length state - 4) state s) words′ row′ tally′
-      unfolding prog kind
-      next-live (in-run n zero x) h a l = absurd (l refl)
-      next-live (in-run n (suc k) x) h a l = (repeat1 n k (fresh (prog x)), (refl, refl, omega arith), next n k x h a)
+    next-live : {t : Term} {k : ℕ} → InRun k t → Ready 4 table i state words row tally t → α ≡ TERM → k ≢ 0
+        → Live 4 (Times (k - 1)) table i (putMid 4 (length state - 4) state s) words′ row′ tally′
+    unfolding prog kind
+    next-live (in-run n zero x) h a l = absurd (l refl)
+    next-live (in-run n (suc k) x) h a l = (repeat1 n k (fresh (prog x)), (refl, refl, omega arith), next n k x h a)
 
-      next-flags : {t : Term} {k : ℕ} → InRun k t → Ready 4 table i state words row tally t → getD state 1 0 ≡ 0
-          → getD (putMid 4 (length state - 4) state s) 1 0 ≡ 0
-      next-flags (in-run n k x) h z = ap (λ y. getD y 1 0) (back n k x h) ∙ z
+    next-flags : {t : Term} {k : ℕ} → InRun k t → Ready 4 table i state words row tally t → getD state 1 0 ≡ 0
+        → getD (putMid 4 (length state - 4) state s) 1 0 ≡ 0
+    next-flags (in-run n k x) h z = ap (λ y. getD y 1 0) (back n k x h) ∙ z
 
-      times-again : {t : Term} {k : ℕ} → InRun k t → Ready 4 table i state words row tally t → α ≡ TERM → k ≢ 0
-          → {state″ words″ row″ tally″ : List ℕ} {β : Flag}
-          → Runs 4 (Times (k - 1)) table i (putMid 4 (length state - 4) state s) words′ row′ tally′ state″ words″ row″ tally″ β
-          → (P : Place)
-          → P .node ≡ i
-          → Ran P t words row tally state″ words″ row″ tally″ β
-      unfolding prog kind
-      times-again (in-run n zero x) h a l then P at = absurd (l refl)
-      times-again (in-run n (suc k) x) h a l then P at =
-          let g = ran-flag a (rest-ran n (suc k) x h P at) in
-          run-then h g (then (repeat1 n k (fresh (prog x))) (refl, refl, omega arith) (next n k x h a) P at)
+    times-again : {t : Term} {k : ℕ} → InRun k t → Ready 4 table i state words row tally t → α ≡ TERM → k ≢ 0
+        → {state″ words″ row″ tally″ : List ℕ} {β : Flag}
+        → Runs 4 (Times (k - 1)) table i (putMid 4 (length state - 4) state s) words′ row′ tally′ state″ words″ row″ tally″ β
+        → (P : Place)
+        → P .node ≡ i
+        → Ran P t words row tally state″ words″ row″ tally″ β
+    unfolding prog kind
+    times-again (in-run n zero x) h a l then P at = absurd (l refl)
+    times-again (in-run n (suc k) x) h a l then P at =
+        let g = ran-flag a (rest-ran n (suc k) x h P at) in
+        run-then h g (then (repeat1 n k (fresh (prog x))) (refl, refl, omega arith) (next n k x h a) P at)
 
 -- before a turn of the loop: the Repeat with `left` runs still to begin can be run, and what that does now is what it does from the entry on
 pub record Turn (table : List ℕ) (i : ℕ) (state₀ words₀ row₀ tally₀ : List ℕ) (k : ℕ) (state words row tally : List ℕ) (left : ℕ) : Type 0 where
@@ -231,15 +231,13 @@ module _ {table : List ℕ} {i : ℕ} {state₀ words₀ row₀ tally₀ : List 
   pub next-turn : {state words row tally : List ℕ} {left : ℕ} → Turn table i state₀ words₀ row₀ tally₀ k state words row tally left
       → {s words′ row′ tally′ : List ℕ} {α : Flag}
       → Runs 0 Any table (i + 1) (midOf 4 (length state - 4) state) words row tally s words′ row′ tally′ α
-      → length words′ ≡ length words
-      → length tally′ ≡ length tally
       → α ≡ TERM
       → left ≢ 0
       → Turn table i state₀ words₀ row₀ tally₀ k (putMid 4 (length state - 4) state s) words′ row′ tally′ (left - 1)
-  next-turn u run wl tl a l =
+  next-turn u run a l =
       let v = in-run-by (u .live .0) (u .live .1) in
       record {
-        live = next-live run wl tl v (u .live .2) a l;
-        no-flags-yet = next-flags run wl tl v (u .live .2) (u .no-flags-yet);
-        goes-on = λ then. u .goes-on (λ x w h. times-again run wl tl (in-run-by x w) h a l then);
+        live = next-live run v (u .live .2) a l;
+        no-flags-yet = next-flags run v (u .live .2) (u .no-flags-yet);
+        goes-on = λ then. u .goes-on (λ x w h. times-again run (in-run-by x w) h a l then);
       }

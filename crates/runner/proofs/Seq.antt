@@ -93,7 +93,7 @@ module _ {table : List ℕ} {i : ℕ} {state words row tally : List ℕ} {n : �
         let r =
         child-ran o h u (omega arith) (ap (λ k. i + 1 + k) e) (h .wide) (g _ (h .going)) run (second P p) (second-at at p e)
         in
-        ran-phase o h u r (omega arith) refl o (phase-left α 2 ∙ ap in-phase (sym after)) (d _ _ _ (r .rewrites)) refl
+        ran-phase o h u r (r .lengths) (omega arith) refl o (phase-left α 2 ∙ ap in-phase (sym after)) (d _ _ _ (r .rewrites)) refl
 
 -- a Seq in its first child
 pub data Seq0 : Term → Type 0 where
@@ -135,8 +135,7 @@ module _ {table : List ℕ} {i : ℕ} {state words row tally : List ℕ} {n : �
       asks (seq-first q) h (first-cut h (seq-first q) m) (omega arith) rank falls (next-index i) (h .wide) (h .going)
 
   module _ {s words′ row′ tally′ : List ℕ} {α : Flag}
-      (run : Runs 0 Any table (i + 1) (first-of state n) words row tally s words′ row′ tally′ α)
-      (words-long : length words′ ≡ length words) (tally-long : length tally′ ≡ length tally) where
+      (run : Runs 0 Any table (i + 1) (first-of state n) words row tally s words′ row′ tally′ α) where
     -- the first child at a place
     first-ran : (x : Term) (q : Program) → Ready 0 table i state words row tally (seq0 x q) → (P : Place) → P .node ≡ i
         → Ran (first P) x words row tally s words′ row′ tally′ α
@@ -150,7 +149,7 @@ module _ {table : List ℕ} {i : ℕ} {state words row tally : List ℕ} {n : �
         → Ran P t words row tally (with-first state n s) words′ row′ tally′ α
     seq-waits (in-first x q) h w P at =
         let g = first-ran x q h P at in
-        ran-kept (seq-first q) h (first-cut h (seq-first q) m) g refl (own-stays α w) (r5 (g .rewrites) w) refl
+        ran-kept (seq-first q) h (first-cut h (seq-first q) m) g (g .lengths) refl (own-stays α w) (r5 (g .rewrites) w) refl
 
     -- it has ended: the Seq goes over
     over : (x : Term) (q : Program) → Ready 0 table i state words row tally (seq0 x q) → α ≡ TERM
@@ -161,8 +160,7 @@ module _ {table : List ℕ} {i : ℕ} {state words row tally : List ℕ} {n : �
         let g = ran-flag z (first-ran x q h (at-node i) refl) in
         let r = few g (h .placed .loops .0) in
         let f = pot-fresh (per 2) q in
-        ready-as h (ap (Seq (prog x)) (prog-fresh q)) (back-long (seq-first q) h u s (omega arith) (ran-long g)) words-long
-        tally-long
+        ready-as h (ap (Seq (prog x)) (prog-fresh q)) (back-long (seq-first q) h u s (omega arith) (ran-long g)) (g .lengths)
         (ap (drop 1) (back-kept (seq-first q) h u s refl)
         ∙ (ap (λ l. 0 ∷ 0 ∷ 0 ∷ (l ++ zeros q)) (ran-zeros g)
         ∙ ap (λ l. 0 ∷ 0 ∷ 0 ∷ (zeros (prog x) ++ l)) (sym (fresh-zeros q))))

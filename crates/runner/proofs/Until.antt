@@ -1,7 +1,7 @@
 -- An Until in its body, rules 29 and 30, and Until*, rules 31 to 34.
 use Prim.Native.Nat.{ℕ, _+_, _-_, _*_, _≤_, _<_}
-use mathlib.Core.Bool.{Bool, true, false}
-use mathlib.Core.Path.{_≡_, refl, ap, sym, subst, _∙_}
+use mathlib.Core.Bool.{true, false}
+use mathlib.Core.Path.{_≡_, refl, ap, sym, _∙_}
 use mathlib.Core.Logic.{_≢_}
 use mathlib.Core.List.{List, [], _∷_, _++_}
 use native.Mathlib.Omega.{arith}
@@ -9,23 +9,22 @@ use lib.Dec.{ltb}
 use lib.ListN.{length, getD, drop, set, replicate, length-append, length-replicate}
 use borrow.Rule.Slice.PartMut.{midOf, putMid}
 use Rattle.junior.specs.declared.Flag.{Flag}
-use Rattle.junior.specs.declared.Flag.the-variants.{SUSP, STOP, TERM}
+use Rattle.junior.specs.declared.Flag.the-variants.{SUSP, STOP}
 use Rattle.junior.specs.declared.Verdict.{Verdict}
 use Rattle.junior.specs.declared.Verdict.the-variants.{Sat, Unsat, Unknown}
 use Rattle.junior.specs.Configuration.{Config, Env, sat, test}
 use Rattle.junior.specs.Program.{Program, Until, size, kind}
 use Rattle.junior.specs.Term.{Term, until0, until*, until2, prog, fresh}
-use Rattle.junior.specs.Trace.{Place, Act, decided, first, collect}
-use Rattle.junior.specs.Rules.{Result, answers, after, Rewrites, r29, r30, r31, r31-on, r32, r33, r34}
-use Rattle.junior.specs.AtRest.{AtRest}
-use Rattle.junior.specs.Figures.{LoopsStop, figure, per}
+use Rattle.junior.specs.Trace.{Place, decided, first, collect}
+use Rattle.junior.specs.Rules.{Result, after, Rewrites, r29, r30, r31, r31-on, r32, r33, r34}
+use Rattle.junior.specs.Figures.{LoopsStop, per}
 use Rattle.junior.proofs.Kept.{prog-fresh, kept}
-use Rattle.junior.proofs.Going.{Going, Stand, rest-going, fresh-at-rest, stands}
+use Rattle.junior.proofs.Going.{Going, rest-going, fresh-at-rest, stands}
 use Rattle.junior.proofs.Figures.{pot, pot-fresh}
 use Rattle.table.specs.Records.{sizeAt}
 use Rattle.table.specs.Spells.{Spells}
-use Rattle.steps.specs.StateBytes.{head, in-phase, zeros, below, stateBytes}
-use Rattle.steps.specs.Running.{Placed, Ready, Ran, Live, Runs, Any, Kind, Phase, KindPhase, envOf}
+use Rattle.steps.specs.StateBytes.{zeros, below, stateBytes}
+use Rattle.steps.specs.Running.{Ready, Ran, Live, Runs, Any, Kind, Phase, KindPhase, envOf}
 use Rattle.steps.specs.Running.{HasTest, TestRead}
 use Rattle.steps.proofs.Parts.{size-pos, len-bytes, fresh-zeros, own-of, part-is, put-is}
 use Rattle.steps.proofs.Shape.{Shape, is-done, is-until0, is-until*, is-until2, shape-by}
@@ -33,7 +32,8 @@ use Rattle.steps.proofs.Frames.{until-first, written, in-table}
 use Rattle.steps.proofs.Children.{at-node, falling, first-cut, asks, child-ran, next-index, first-at}
 use Rattle.steps.proofs.Children.{phase-is}
 use Rattle.steps.proofs.Children.{next-in-table, till-in, byte-is, own-and-below}
-use Rattle.steps.proofs.Done.{ready-as, room-after, few, ran-flag, ran-alone, ran-by, ran-then, ran-long}
+use Rattle.steps.proofs.Done.{same-lengths, ready-as, room-after, few, ran-flag, ran-alone, ran-by, ran-then}
+use Rattle.steps.proofs.Done.{ran-long}
 use Rattle.steps.proofs.Done.{back-long}
 use Rattle.steps.proofs.Done.{phase-0-left, back-kept, ran-kept}
 use Rattle.steps.proofs.LoadedNode.{until-test}
@@ -72,8 +72,7 @@ module _ {table : List ℕ} {i : ℕ} {state words row tally : List ℕ} {n : �
       asks (until-first c q) h (first-cut h (until-first c q) m) (omega arith) rank falls (next-index i) (h .wide) (h .going)
 
   module _ {s words′ row′ tally′ : List ℕ} {α : Flag}
-      (run : Runs 0 Any table (i + 1) (midOf 4 (4 + 4 * n - 4) state) words row tally s words′ row′ tally′ α)
-      (words-long : length words′ ≡ length words) (tally-long : length tally′ ≡ length tally) where
+      (run : Runs 0 Any table (i + 1) (midOf 4 (4 + 4 * n - 4) state) words row tally s words′ row′ tally′ α) where
     body-ran : (c : Config) (x : Term) (q : Program) → Ready 0 table i state words row tally (until0 c x q) → (P : Place) → P .node ≡ i
         → Ran (first P) x words row tally s words′ row′ tally′ α
     unfolding Going
@@ -85,7 +84,7 @@ module _ {table : List ℕ} {i : ℕ} {state words row tally : List ℕ} {n : �
         → Ran P t words row tally (putMid 4 (4 + 4 * n - 4) state s) words′ row′ tally′ α
     until-waits (in-body c x q) h w P at =
         let g = body-ran c x q h P at in
-        ran-kept (until-first c q) h (first-cut h (until-first c q) m) g refl (phase-0-left α) (r29 (g .rewrites) w) refl
+        ran-kept (until-first c q) h (first-cut h (until-first c q) m) g (g .lengths) refl (phase-0-left α) (r29 (g .rewrites) w) refl
 
     -- it has stopped: the Until goes on as Until*
     star : (c : Config) (x : Term) (q : Program) (h : Ready 0 table i state words row tally (until0 c x q))
@@ -97,7 +96,7 @@ module _ {table : List ℕ} {i : ℕ} {state words row tally : List ℕ} {n : �
         let u = first-cut h (until-first c q) m in
         let r = few g (h .placed .loops .0) in
         ready-as h (ap (λ y. Until c y q) (kept (g .rewrites)))
-        (back-long (until-first c q) h u s (omega arith) (ran-long g)) words-long tally-long
+        (back-long (until-first c q) h u s (omega arith) (ran-long g)) (g .lengths)
         (ap (drop 1) (back-kept (until-first c q) h u s refl) ∙ ap (λ l. 0 ∷ 0 ∷ 0 ∷ (l ++ zeros q)) (g .bytes))
         (stands (g .rewrites) (h .going))
         (room-after h g (until* c (g .to) q) (omega arith))
@@ -194,7 +193,7 @@ module _ {table : List ℕ} {i : ℕ} {state words row tally : List ℕ} where
           let b = byte-is h in
           ready-as h (ap (Until c (prog x)) (prog-fresh q))
           (ap length e ∙ simp (length-append, length-replicate {A = ℕ}) (omega (arith, h .long, len-bytes (fresh q), ap size (prog-fresh q))))
-          refl refl
+          (same-lengths words tally)
           (ap (drop 1) e ∙ rw (b 1 (omega arith), b 2 (omega arith), b 3 (omega arith)))
           (rest-going _ (fresh q) (fresh-at-rest q))
           (omega (arith, h .room, pot-fresh (per 2) q))

@@ -1,6 +1,6 @@
 -- A When: testing, rules 17 to 21, and in its then branch.
 use Prim.Native.Nat.{ℕ, _+_, _-_, _*_, _≤_, _<_}
-use mathlib.Core.Bool.{Bool, true, false}
+use mathlib.Core.Bool.{true, false}
 use mathlib.Core.Path.{_≡_, refl, ap, sym, _∙_}
 use mathlib.Core.Logic.{_≢_}
 use mathlib.Core.List.{List, [], _∷_, _++_}
@@ -9,30 +9,30 @@ use lib.Dec.{ltb}
 use lib.ListN.{length, getD, drop, set}
 use borrow.Rule.Slice.PartMut.{midOf, putMid}
 use Rattle.junior.specs.declared.Flag.{Flag}
-use Rattle.junior.specs.declared.Flag.the-variants.{SUSP, STOP, TERM}
+use Rattle.junior.specs.declared.Flag.the-variants.{SUSP, STOP}
 use Rattle.junior.specs.declared.Verdict.{Verdict}
 use Rattle.junior.specs.declared.Verdict.the-variants.{Sat, Unsat, Unknown}
 use Rattle.junior.specs.Configuration.{Config, Env, sat, unsat, test}
-use Rattle.junior.specs.Program.{Program, When, size, kind}
+use Rattle.junior.specs.Program.{Program, When, kind}
 use Rattle.junior.specs.Term.{Term, when0, when1, when2, prog, fresh}
-use Rattle.junior.specs.Trace.{Place, Act, decided, first, collect}
-use Rattle.junior.specs.Rules.{Result, answers, after, Rewrites, r17, r17-on, r18, r19, r19-on, r20, r21}
-use Rattle.junior.specs.Figures.{figure, per}
+use Rattle.junior.specs.Trace.{Place, decided, first, collect}
+use Rattle.junior.specs.Rules.{Result, after, Rewrites, r17, r17-on, r18, r19, r19-on, r20, r21}
+use Rattle.junior.specs.Figures.{per}
 use Rattle.junior.proofs.Kept.{prog-fresh}
 use Rattle.junior.proofs.Going.{Going, rest-going, fresh-at-rest}
 use Rattle.junior.proofs.Figures.{pot, pot-fresh}
 use Rattle.table.specs.Records.{sizeAt}
 use Rattle.table.specs.Spells.{Spells}
-use Rattle.steps.specs.StateBytes.{head, in-phase, zeros, below, stateBytes}
-use Rattle.steps.specs.Running.{Placed, Ready, Ran, Live, Runs, Any, Kind, Phase, KindPhase, phaseAfter, envOf}
+use Rattle.steps.specs.StateBytes.{in-phase, zeros, below, stateBytes}
+use Rattle.steps.specs.Running.{Ready, Ran, Live, Runs, Any, Kind, Phase, KindPhase, phaseAfter, envOf}
 use Rattle.steps.specs.Running.{HasTest, TestRead}
 use Rattle.steps.proofs.Parts.{fresh-zeros}
 use Rattle.steps.proofs.Shape.{Shape, is-done, is-when0, is-when1, is-when2, shape-by}
 use Rattle.steps.proofs.Frames.{when-first}
 use Rattle.steps.proofs.Children.{at-node, falling, first-cut, asks, child-ran, next-index, first-at}
 use Rattle.steps.proofs.Children.{phase-is}
-use Rattle.steps.proofs.Children.{next-in-table, till-in, byte-is, own-and-below}
-use Rattle.steps.proofs.Done.{ready-as, ran-alone, ran-by, ran-long, back-in, phase-left, ran-phase}
+use Rattle.steps.proofs.Children.{next-in-table, till-in}
+use Rattle.steps.proofs.Done.{same-lengths, ready-as, ran-alone, ran-by, ran-long, back-in, phase-left, ran-phase}
 use Rattle.steps.proofs.LoadedNode.{when-test}
 
 -- a node in its then branch
@@ -84,7 +84,7 @@ module _ {table : List ℕ} {i : ℕ} {state words row tally : List ℕ} {n : �
         let o = when-first c q in
         let u = first-cut h o m in
         let g = branch-ran c x q h P at in
-        ran-phase o h u g (omega arith) refl o (phase-left α 1 ∙ ap in-phase (sym after)) (r17-on (g .rewrites)) refl
+        ran-phase o h u g (g .lengths) (omega arith) refl o (phase-left α 1 ∙ ap in-phase (sym after)) (r17-on (g .rewrites)) refl
 
 -- a When that tests
 pub data When0 : Term → Type 0 where
@@ -140,7 +140,7 @@ module _ {table : List ℕ} {i : ℕ} {state words row tally : List ℕ} where
       → Ready 1 table i state words row tally (when1 c (fresh p) q)
   unfolding Going prog below pot kind
   then-ready c p q h =
-      ready-as h (ap (λ x. When c x q) (prog-fresh p)) refl refl refl
+      ready-as h (ap (λ x. When c x q) (prog-fresh p)) refl (same-lengths words tally)
       (ap (drop 1) (h .bytes) ∙ ap (λ l. 0 ∷ 0 ∷ 0 ∷ (l ++ zeros q)) (sym (fresh-zeros p)))
       (rest-going _ (fresh p) (fresh-at-rest p))
       (omega (arith, h .room, pot-fresh (per 2) p))
@@ -149,7 +149,7 @@ module _ {table : List ℕ} {i : ℕ} {state words row tally : List ℕ} where
       → Ready 1 table i state words row tally (when2 c p (fresh q))
   unfolding Going prog below pot kind
   else-ready c p q h =
-      ready-as h (ap (When c p) (prog-fresh q)) refl refl refl
+      ready-as h (ap (When c p) (prog-fresh q)) refl (same-lengths words tally)
       (ap (drop 1) (h .bytes) ∙ ap (λ l. 0 ∷ 0 ∷ 0 ∷ (zeros p ++ l)) (sym (fresh-zeros q)))
       (rest-going _ (fresh q) (fresh-at-rest q))
       (omega (arith, h .room, pot-fresh (per 2) q))

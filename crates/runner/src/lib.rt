@@ -2,12 +2,14 @@
 // keeps it in sight marks it as phase 3.
 ghost use mathlib.Core.Path.{_≡_};
 ghost use lib.ListN.{getD};
-ghost use Rattle.steps.specs.Running.{Live, Runs, Any, Kind, Phase, KindPhase, Times, BothSuspended, LeftSuspended, RightSuspended};
+ghost use Rattle.steps.specs.Running.{Live, Runs, Any, Kind, Phase, KindPhase, Times, LeftSuspended, RightSuspended};
+use events::WORDS;
 use events::mark;
 use events::marked;
 use junior::Flag;
 use junior::Verdict;
 use steps::begun;
+use steps::both_suspended;
 use steps::clear;
 use steps::flag_of;
 use steps::par_end;
@@ -30,9 +32,9 @@ pub fn run_node(
     table: &[u8],
     i: usize,
     state: &mut [u8],
-    words: &mut [u64],
+    words: &mut [u64; WORDS],
     atoms: &mut [u16],
-    tally: &mut [usize],
+    tally: &mut [usize; 3],
 ) -> Flag
     requires { ⌜ Live 0 Any (now table) i (now state) (now words) (now atoms) (now tally) ⌝ }
     ensures { λ r. ⌜ Runs 0 Any (now (table .entry)) i (now (state .entry)) (now (words .entry)) (now (atoms .entry)) (now (tally .entry)) (now (state .exit)) (now (words .exit)) (now (atoms .exit)) (now (tally .exit)) r ⌝ }
@@ -63,9 +65,9 @@ fn run_seq(
     table: &[u8],
     i: usize,
     state: &mut [u8],
-    words: &mut [u64],
+    words: &mut [u64; WORDS],
     atoms: &mut [u16],
-    tally: &mut [usize],
+    tally: &mut [usize; 3],
 ) -> Flag
     requires { ⌜ Live 0 (Kind 3) (now table) i (now state) (now words) (now atoms) (now tally) ⌝ }
     ensures { λ r. ⌜ Runs 0 (Kind 3) (now (table .entry)) i (now (state .entry)) (now (words .entry)) (now (atoms .entry)) (now (tally .entry)) (now (state .exit)) (now (words .exit)) (now (atoms .exit)) (now (tally .exit)) r ⌝ }
@@ -86,9 +88,9 @@ fn run_second(
     table: &[u8],
     i: usize,
     state: &mut [u8],
-    words: &mut [u64],
+    words: &mut [u64; WORDS],
     atoms: &mut [u16],
-    tally: &mut [usize],
+    tally: &mut [usize; 3],
 ) -> Flag
     requires { ⌜ Live 1 (Phase 2) (now table) i (now state) (now words) (now atoms) (now tally) ⌝ }
     ensures { λ r. ⌜ Runs 1 (Phase 2) (now (table .entry)) i (now (state .entry)) (now (words .entry)) (now (atoms .entry)) (now (tally .entry)) (now (state .exit)) (now (words .exit)) (now (atoms .exit)) (now (tally .exit)) r ⌝ }
@@ -106,40 +108,25 @@ fn run_second(
     f
 }
 
-// Rules 8, 10 and 11: a branch flagged STOP or TERM is not run.
+// Rules 8, 10 and 11: a branch flagged STOP or TERM is not run. Where both stay suspended, the flags are as they were.
 fn run_par(
     table: &[u8],
     i: usize,
     state: &mut [u8],
-    words: &mut [u64],
+    words: &mut [u64; WORDS],
     atoms: &mut [u16],
-    tally: &mut [usize],
+    tally: &mut [usize; 3],
 ) -> Flag
     requires { ⌜ Live 0 (Kind 4) (now table) i (now state) (now words) (now atoms) (now tally) ⌝ }
     ensures { λ r. ⌜ Runs 0 (Kind 4) (now (table .entry)) i (now (state .entry)) (now (words .entry)) (now (atoms .entry)) (now (tally .entry)) (now (state .exit)) (now (words .exit)) (now (atoms .exit)) (now (tally .exit)) r ⌝ }
 {
     let flags = state[1];
-    if flags == 0 {
-        return run_both(table, i, state, words, atoms, tally);
+    if flags != 0 {
+        if flags % 4 == 0 {
+            return run_left(table, i, state, words, atoms, tally);
+        }
+        return run_right(table, i, state, words, atoms, tally);
     }
-    if flags % 4 == 0 {
-        return run_left(table, i, state, words, atoms, tally);
-    }
-    run_right(table, i, state, words, atoms, tally)
-}
-
-// Rule 8.
-fn run_both(
-    table: &[u8],
-    i: usize,
-    state: &mut [u8],
-    words: &mut [u64],
-    atoms: &mut [u16],
-    tally: &mut [usize],
-) -> Flag
-    requires { ⌜ Live 0 BothSuspended (now table) i (now state) (now words) (now atoms) (now tally) ⌝ }
-    ensures { λ r. ⌜ Runs 0 BothSuspended (now (table .entry)) i (now (state .entry)) (now (words .entry)) (now (atoms .entry)) (now (tally .entry)) (now (state .exit)) (now (words .exit)) (now (atoms .exit)) (now (tally .exit)) r ⌝ }
-{
     let n = size_at(table, i + 1);
     let f = run_node(table, i + 1, &mut state[4..4 + 4 * n], words, atoms, tally);
     let g = run_node(
@@ -150,6 +137,9 @@ fn run_both(
         atoms,
         tally,
     );
+    if both_suspended(f, g) {
+        return Flag::SUSP;
+    }
     par_end(state, 4 + 4 * n, f, g)
 }
 
@@ -158,9 +148,9 @@ fn run_left(
     table: &[u8],
     i: usize,
     state: &mut [u8],
-    words: &mut [u64],
+    words: &mut [u64; WORDS],
     atoms: &mut [u16],
-    tally: &mut [usize],
+    tally: &mut [usize; 3],
 ) -> Flag
     requires { ⌜ Live 0 LeftSuspended (now table) i (now state) (now words) (now atoms) (now tally) ⌝ }
     ensures { λ r. ⌜ Runs 0 LeftSuspended (now (table .entry)) i (now (state .entry)) (now (words .entry)) (now (atoms .entry)) (now (tally .entry)) (now (state .exit)) (now (words .exit)) (now (atoms .exit)) (now (tally .exit)) r ⌝ }
@@ -176,9 +166,9 @@ fn run_right(
     table: &[u8],
     i: usize,
     state: &mut [u8],
-    words: &mut [u64],
+    words: &mut [u64; WORDS],
     atoms: &mut [u16],
-    tally: &mut [usize],
+    tally: &mut [usize; 3],
 ) -> Flag
     requires { ⌜ Live 0 RightSuspended (now table) i (now state) (now words) (now atoms) (now tally) ⌝ }
     ensures { λ r. ⌜ Runs 0 RightSuspended (now (table .entry)) i (now (state .entry)) (now (words .entry)) (now (atoms .entry)) (now (tally .entry)) (now (state .exit)) (now (words .exit)) (now (atoms .exit)) (now (tally .exit)) r ⌝ }
@@ -201,9 +191,9 @@ fn run_loop(
     table: &[u8],
     i: usize,
     state: &mut [u8],
-    words: &mut [u64],
+    words: &mut [u64; WORDS],
     atoms: &mut [u16],
-    tally: &mut [usize],
+    tally: &mut [usize; 3],
 ) -> Flag
     requires { ⌜ Live 0 (Kind 5) (now table) i (now state) (now words) (now atoms) (now tally) ⌝ }
     ensures { λ r. ⌜ Runs 0 (Kind 5) (now (table .entry)) i (now (state .entry)) (now (words .entry)) (now (atoms .entry)) (now (tally .entry)) (now (state .exit)) (now (words .exit)) (now (atoms .exit)) (now (tally .exit)) r ⌝ }
@@ -223,9 +213,9 @@ fn begin_loop(
     table: &[u8],
     i: usize,
     state: &mut [u8],
-    words: &mut [u64],
+    words: &mut [u64; WORDS],
     atoms: &mut [u16],
-    tally: &mut [usize],
+    tally: &mut [usize; 3],
 ) -> Flag
     requires { ⌜ Live 1 (KindPhase 5 0) (now table) i (now state) (now words) (now atoms) (now tally) ⌝ }
     ensures { λ r. ⌜ Runs 1 (KindPhase 5 0) (now (table .entry)) i (now (state .entry)) (now (words .entry)) (now (atoms .entry)) (now (tally .entry)) (now (state .exit)) (now (words .exit)) (now (atoms .exit)) (now (tally .exit)) r ⌝ }
@@ -245,9 +235,9 @@ fn run_repeat(
     table: &[u8],
     i: usize,
     state: &mut [u8],
-    words: &mut [u64],
+    words: &mut [u64; WORDS],
     atoms: &mut [u16],
-    tally: &mut [usize],
+    tally: &mut [usize; 3],
 ) -> Flag
     requires { ⌜ Live 0 (Kind 6) (now table) i (now state) (now words) (now atoms) (now tally) ⌝ }
     ensures { λ r. ⌜ Runs 0 (Kind 6) (now (table .entry)) i (now (state .entry)) (now (words .entry)) (now (atoms .entry)) (now (tally .entry)) (now (state .exit)) (now (words .exit)) (now (atoms .exit)) (now (tally .exit)) r ⌝ }
@@ -268,9 +258,9 @@ fn run_times(
     table: &[u8],
     i: usize,
     state: &mut [u8],
-    words: &mut [u64],
+    words: &mut [u64; WORDS],
     atoms: &mut [u16],
-    tally: &mut [usize],
+    tally: &mut [usize; 3],
     k: usize,
 ) -> Flag
     requires { ⌜ Live 4 (Times k) (now table) i (now state) (now words) (now atoms) (now tally) ⌝ }
@@ -301,9 +291,9 @@ fn run_when(
     table: &[u8],
     i: usize,
     state: &mut [u8],
-    words: &mut [u64],
+    words: &mut [u64; WORDS],
     atoms: &mut [u16],
-    tally: &mut [usize],
+    tally: &mut [usize; 3],
 ) -> Flag
     requires { ⌜ Live 0 (Kind 9) (now table) i (now state) (now words) (now atoms) (now tally) ⌝ }
     ensures { λ r. ⌜ Runs 0 (Kind 9) (now (table .entry)) i (now (state .entry)) (now (words .entry)) (now (atoms .entry)) (now (tally .entry)) (now (state .exit)) (now (words .exit)) (now (atoms .exit)) (now (tally .exit)) r ⌝ }
@@ -340,9 +330,9 @@ fn run_then(
     table: &[u8],
     i: usize,
     state: &mut [u8],
-    words: &mut [u64],
+    words: &mut [u64; WORDS],
     atoms: &mut [u16],
-    tally: &mut [usize],
+    tally: &mut [usize; 3],
 ) -> Flag
     requires { ⌜ Live 1 (KindPhase 9 1) (now table) i (now state) (now words) (now atoms) (now tally) ⌝ }
     ensures { λ r. ⌜ Runs 1 (KindPhase 9 1) (now (table .entry)) i (now (state .entry)) (now (words .entry)) (now (atoms .entry)) (now (tally .entry)) (now (state .exit)) (now (words .exit)) (now (atoms .exit)) (now (tally .exit)) r ⌝ }
@@ -358,9 +348,9 @@ fn run_until(
     table: &[u8],
     i: usize,
     state: &mut [u8],
-    words: &mut [u64],
+    words: &mut [u64; WORDS],
     atoms: &mut [u16],
-    tally: &mut [usize],
+    tally: &mut [usize; 3],
 ) -> Flag
     requires { ⌜ Live 0 (Kind 10) (now table) i (now state) (now words) (now atoms) (now tally) ⌝ }
     ensures { λ r. ⌜ Runs 0 (Kind 10) (now (table .entry)) i (now (state .entry)) (now (words .entry)) (now (atoms .entry)) (now (tally .entry)) (now (state .exit)) (now (words .exit)) (now (atoms .exit)) (now (tally .exit)) r ⌝ }
@@ -385,9 +375,9 @@ fn run_star(
     table: &[u8],
     i: usize,
     state: &mut [u8],
-    words: &mut [u64],
+    words: &mut [u64; WORDS],
     atoms: &mut [u16],
-    tally: &mut [usize],
+    tally: &mut [usize; 3],
 ) -> Flag
     requires { ⌜ Live 1 (KindPhase 10 1) (now table) i (now state) (now words) (now atoms) (now tally) ⌝ }
     ensures { λ r. ⌜ Runs 1 (KindPhase 10 1) (now (table .entry)) i (now (state .entry)) (now (words .entry)) (now (atoms .entry)) (now (tally .entry)) (now (state .exit)) (now (words .exit)) (now (atoms .exit)) (now (tally .exit)) r ⌝ }
@@ -419,9 +409,9 @@ fn run_control(
     table: &[u8],
     i: usize,
     state: &mut [u8],
-    words: &mut [u64],
+    words: &mut [u64; WORDS],
     atoms: &mut [u16],
-    tally: &mut [usize],
+    tally: &mut [usize; 3],
 ) -> Flag
     requires { ⌜ Live 0 (Kind 11) (now table) i (now state) (now words) (now atoms) (now tally) ⌝ }
     ensures { λ r. ⌜ Runs 0 (Kind 11) (now (table .entry)) i (now (state .entry)) (now (words .entry)) (now (atoms .entry)) (now (tally .entry)) (now (state .exit)) (now (words .exit)) (now (atoms .exit)) (now (tally .exit)) r ⌝ }
@@ -441,9 +431,9 @@ fn run_local(
     table: &[u8],
     i: usize,
     state: &mut [u8],
-    words: &mut [u64],
+    words: &mut [u64; WORDS],
     atoms: &mut [u16],
-    tally: &mut [usize],
+    tally: &mut [usize; 3],
 ) -> Flag
     requires { ⌜ Live 0 (Kind 12) (now table) i (now state) (now words) (now atoms) (now tally) ⌝ }
     ensures { λ r. ⌜ Runs 0 (Kind 12) (now (table .entry)) i (now (state .entry)) (now (words .entry)) (now (atoms .entry)) (now (tally .entry)) (now (state .exit)) (now (words .exit)) (now (atoms .exit)) (now (tally .exit)) r ⌝ }

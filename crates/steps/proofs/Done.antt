@@ -20,7 +20,7 @@ use Rattle.junior.proofs.Kept.{kept}
 use Rattle.junior.proofs.Going.{Going}
 use Rattle.junior.proofs.Figures.{pot, rest, spends, cost-A}
 use Rattle.steps.specs.StateBytes.{Own, before, in-phase, zeros}
-use Rattle.steps.specs.Running.{Bytes, Ready, Wrote, Ran, left, envOf, atoms-done, phaseAfter}
+use Rattle.steps.specs.Running.{Bytes, Ready, Wrote, SameLengths, Ran, left, envOf, atoms-done, phaseAfter}
 use Rattle.steps.proofs.Parts.{blank, blank-below, blank-both, len-bytes}
 use Rattle.steps.proofs.Frames.{Frame}
 use Rattle.steps.proofs.Children.{Cut, byte-is, own-in, put-back}
@@ -84,23 +84,32 @@ room-after h g t′ e =
     let l = wrote-long (g .wrote) (omega arith) in
     omega arith
 
+-- lengths that stay
+pub same-lengths : (words tally : List ℕ) → SameLengths words tally words tally
+same-lengths words tally = record { of-words = refl; of-tally = refl }
+
+pub lengths-then : {words tally words′ tally′ words″ tally″ : List ℕ}
+    → SameLengths words tally words′ tally′
+    → SameLengths words′ tally′ words″ tally″
+    → SameLengths words tally words″ tally″
+lengths-then k l = record { of-words = l .of-words ∙ k .of-words; of-tally = l .of-tally ∙ k .of-tally }
+
 -- the node, as t′ then
 pub ready-as : {skip skip′ : ℕ} {table : List ℕ} {i : ℕ} {state words row tally state′ words′ row′ tally′ : List ℕ}
     {t t′ : Term}
     → Ready skip table i state words row tally t
     → prog t′ ≡ prog t
     → length state′ ≡ length state
-    → length words′ ≡ length words
-    → length tally′ ≡ length tally
+    → SameLengths words tally words′ tally′
     → Bytes skip′ state′ t′
     → Going (marks words′) t′
     → atoms-done tally′ + pot (per 2) t′ ≤ length row′
     → Ready skip′ table i state′ words′ row′ tally′ t′
-ready-as h e l w k b g r =
+ready-as h e l k b g r =
     record {
       placed = rw e (h .placed);
-      wide = rw w (h .wide);
-      tallied = k ∙ h .tallied;
+      wide = rw (k .of-words) (h .wide);
+      tallied = k .of-tally ∙ h .tallied;
       long = rw e (l ∙ h .long);
       bytes = b;
       going = g;
@@ -136,22 +145,36 @@ module _ {words row tally : List ℕ} {P : Place} {t : Term} where
       → state′ ≡ left α to
       → Ran P t words row tally state′ words row tally α
   ran-alone {to = to} {l = l} d e b =
-      record { to = to; acts = l; rewrites = d; bytes = b; wrote = wrote-as e (wrote-none row (atoms-done tally)) }
+      record {
+        to = to;
+        acts = l;
+        rewrites = d;
+        bytes = b;
+        wrote = wrote-as e (wrote-none row (atoms-done tally));
+        lengths = same-lengths words tally;
+      }
 
   -- a node that leaves what another left, and did the same atoms
-  pub ran-by : {Q : Place} {u : Term} {words₁ state′ words′ row′ tally′ : List ℕ} {α : Flag} {l : List Act}
-      → (k : Ran Q u words₁ row tally state′ words′ row′ tally′ α)
+  pub ran-by : {Q : Place} {u : Term} {state′ words′ row′ tally′ : List ℕ} {α : Flag} {l : List Act}
+      → (k : Ran Q u words row tally state′ words′ row′ tally′ α)
       → Rewrites ⊥ P t (envOf words tally) (answers α (k .to) (envOf words′ tally′) l)
       → atoms l ≡ atoms (k .acts)
       → Ran P t words row tally state′ words′ row′ tally′ α
   ran-by {l = l} k d e =
-      record { to = k .to; acts = l; rewrites = d; bytes = k .bytes; wrote = wrote-as e (k .wrote) }
+      record {
+        to = k .to;
+        acts = l;
+        rewrites = d;
+        bytes = k .bytes;
+        wrote = wrote-as e (k .wrote);
+        lengths = k .lengths;
+      }
 
   -- a node of which first a part ran, then the node as u
   pub ran-then : {skip : ℕ} {table : List ℕ} {i : ℕ} {state : List ℕ} → Ready skip table i state words row tally t
-      → {Q R : Place} {x u : Term} {words₁ s words₂ row₂ tally₂ words₃ state′ words′ row′ tally′ : List ℕ} {β α : Flag}
-      → (g : Ran Q x words₁ row tally s words₂ row₂ tally₂ β)
-      → (k : Ran R u words₃ row₂ tally₂ state′ words′ row′ tally′ α)
+      → {Q R : Place} {x u : Term} {s words₁ row₁ tally₁ state′ words′ row′ tally′ : List ℕ} {β α : Flag}
+      → (g : Ran Q x words row tally s words₁ row₁ tally₁ β)
+      → (k : Ran R u words₁ row₁ tally₁ state′ words′ row′ tally′ α)
       → Rewrites ⊥ P t (envOf words tally) (answers α (k .to) (envOf words′ tally′) (g .acts ++ k .acts))
       → Ran P t words row tally state′ words′ row′ tally′ α
   ran-then h g k d =
@@ -162,17 +185,19 @@ module _ {words row tally : List ℕ} {P : Place} {t : Term} where
         bytes = k .bytes;
         wrote =
             wrote-as (collect-++ atom-of (g .acts) (k .acts)) (wrote-then (g .wrote) (omega (arith, h .room)) (k .wrote));
+        lengths = lengths-then (g .lengths) (k .lengths);
       }
 
   -- a node f whose part ran
   pub ran-around : {own : Own} {ahead behind : ℕ} {f : Term → Term} (o : Frame own ahead behind f)
       {Q : Place} {x : Term} {words₁ s words₂ words′ row′ tally′ : List ℕ} {α : Flag} {l : List Act} {state′ : List ℕ}
       → (g : Ran Q x words₁ row tally s words₂ row′ tally′ α)
+      → SameLengths words tally words′ tally′
       → Rewrites ⊥ P t (envOf words tally) (answers α (leave α (f (g .to))) (envOf words′ tally′) l)
       → atoms l ≡ atoms (g .acts)
       → state′ ≡ before (own-left α own) (blank ahead ++ (s ++ blank behind))
       → Ran P t words row tally state′ words′ row′ tally′ α
-  ran-around {own} {ahead} {behind} {f} o {α = α} {l = l} g d e b =
+  ran-around {own} {ahead} {behind} {f} o {α = α} {l = l} g k d e b =
       record {
         to = leave α (f (g .to));
         acts = l;
@@ -182,6 +207,7 @@ module _ {words row tally : List ℕ} {P : Place} {t : Term} where
             ∙ (ap (λ s. before (own-left α own) (blank ahead ++ (s ++ blank behind))) (g .bytes)
             ∙ (sym (left-around o α (g .to)) ∙ sym (left-leave α (f (g .to)))));
         wrote = wrote-as e (g .wrote);
+        lengths = k;
       }
 
 len-left : (α : Flag) (t : Term) → length (left α t) ≡ 4 * size (prog t)
@@ -244,13 +270,14 @@ phase-0-left TERM = refl
 module _ {own : Own} {ahead behind : ℕ} {f : Term → Term} (o : Frame own ahead behind f) {skip : ℕ} {table : List ℕ}
     {i : ℕ} {state words row tally : List ℕ} {x : Term} (h : Ready skip table i state words row tally (f x)) {a e : ℕ}
     (u : Cut ahead x a e) {Q : Place} {words₁ s words₂ row′ tally′ : List ℕ} {α : Flag}
-    (g : Ran Q x words₁ row tally s words₂ row′ tally′ α) {P : Place} {t : Term} {words′ : List ℕ} {l : List Act} where
+    (g : Ran Q x words₁ row tally s words₂ row′ tally′ α) {P : Place} {t : Term} {words′ : List ℕ} {l : List Act}
+    (k : SameLengths words tally words′ tally′) where
   pub ran-kept : skip ≡ 0 → own-left α own ≡ own
       → Rewrites ⊥ P t (envOf words tally) (answers α (leave α (f (g .to))) (envOf words′ tally′) l)
       → atoms l ≡ atoms (g .acts)
       → Ran P t words row tally (putMid a (e - a) state s) words′ row′ tally′ α
   ran-kept z w d q =
-      ran-around o g d q (back-kept o h u s z ∙ ap (λ y. before y (blank ahead ++ (s ++ blank behind))) (sym w))
+      ran-around o g k d q (back-kept o h u s z ∙ ap (λ y. before y (blank ahead ++ (s ++ blank behind))) (sym w))
 
   pub ran-phase : skip ≤ 1 → {ph : ℕ} → own ≡ in-phase ph
       → {own′ : Own} {f′ : Term → Term} → Frame own′ ahead behind f′ → {ph′ : ℕ} → own-left α own′ ≡ in-phase ph′
@@ -258,4 +285,4 @@ module _ {own : Own} {ahead behind : ℕ} {f : Term → Term} (o : Frame own ahe
       → atoms l ≡ atoms (g .acts)
       → Ran P t words row tally (set (putMid a (e - a) state s) 0 ph′) words′ row′ tally′ α
   ran-phase z v o′ {ph′} w d q =
-      ran-around o′ g d q (back-phase o h u s z v ph′ ∙ ap (λ y. before y (blank ahead ++ (s ++ blank behind))) (sym w))
+      ran-around o′ g k d q (back-phase o h u s z v ph′ ∙ ap (λ y. before y (blank ahead ++ (s ++ blank behind))) (sym w))

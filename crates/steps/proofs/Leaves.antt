@@ -7,7 +7,7 @@ use mathlib.Core.List.{List, [], _∷_}
 use native.Mathlib.Omega.{arith}
 use native.Mathlib.Numerals.{add-one}
 use lib.Dec.{ltb}
-use lib.ListN.{length, set, replicate}
+use lib.ListN.{length, set, replicate, length-set}
 use lib.Seq.{set-split, getD-set-same, getD-set-other}
 use borrow.Author.Tests.{lt-ltb}
 use Rattle.events.specs.Events.{put}
@@ -88,15 +88,16 @@ module _ {table : List ℕ} {i : ℕ} {state words row tally : List ℕ} where
           done-is = getD-set-same tally 0 (at + 1) 0 (omega (arith, h .tallied));
           row-is = rw (same, add-one) (set-split row at b (atom-room (is-atom b) n h));
         };
+        lengths = record { of-words = refl; of-tally = length-set tally 0 (at + 1) };
       }
 
   pub generate-ran : {P : Place} {t : Term} {ph : ℕ} → Shape t 7 ph → ph ≢ 3 → Ready 0 table i state words row tally t
       → (s : ℕ) → s ≡ argumentAt table i
-      → (words′ : List ℕ) → marks words′ ≡ put s (ltb s (64 * length words)) (marks words)
+      → (words′ : List ℕ) → length words′ ≡ length words → marks words′ ≡ put s (ltb s (64 * length words)) (marks words)
       → Ran P t words row tally state words′ row (set tally 1 1) TERM
   unfolding collect below prog size Spells
-  generate-ran (is-done p k) n h s e words′ m = absurd (n refl)
-  generate-ran (is-generate b) n h s e words′ m =
+  generate-ran (is-done p k) n h s e words′ l m = absurd (n refl)
+  generate-ran (is-generate b) n h s e words′ l m =
       let same : s ≡ b = e ∙ h .placed .spelled .1 in
       let there = lt-ltb b (64 * length words) (omega (arith, generate-placed (h .placed), h .wide)) in
       record {
@@ -105,6 +106,7 @@ module _ {table : List ℕ} {i : ℕ} {state words row tally : List ℕ} where
         rewrites = rw (moved words words′ tally b (h .tallied) (rw (same, there) at m)) r16;
         bytes = h .bytes;
         wrote = rw (getD-set-other tally 1 0 1 0 (λ z. omega arith)) (wrote-none row (atoms-done tally));
+        lengths = record { of-words = l; of-tally = length-set tally 1 1 };
       }
 
   -- an Await's configuration can be read, and the Await goes by what it is read as

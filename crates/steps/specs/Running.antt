@@ -1,4 +1,4 @@
--- What the functions of a pass promise one another. Private contracts alone cite this file; the public one is specs/Pass.antt.
+-- What the functions of a pass promise one another. No contract of a customer's call cites this file.
 use Prim.Native.Nat.{ℕ, _+_, _*_, _%_, _≤_, _<_}
 use mathlib.Core.Bool.{Bool, true, false, cond}
 use mathlib.Core.Path.{_≡_}
@@ -71,6 +71,11 @@ pub record Wrote (xs row : List ℕ) (at : ℕ) (row′ : List ℕ) (at′ : ℕ
   pub done-is : at′ ≡ at + length xs
   pub row-is : row′ ≡ take at row ++ (xs ++ drop (at + length xs) row)
 
+-- words and tally are as long as they were
+pub record SameLengths (words tally words′ tally′ : List ℕ) : Type 0 where
+  pub of-words : length words′ ≡ length words
+  pub of-tally : length tally′ ≡ length tally
+
 -- t at place P was run once, by the rules
 pub record Ran (P : Place) (t : Term) (words row tally state′ words′ row′ tally′ : List ℕ) (α : Flag) : Type 0 where
   pub to : Term
@@ -78,6 +83,7 @@ pub record Ran (P : Place) (t : Term) (words row tally state′ words′ row′ 
   pub rewrites : Rewrites ⊥ P t (envOf words tally) (answers α to (envOf words′ tally′) acts)
   pub bytes : state′ ≡ left α to
   pub wrote : Wrote (atoms acts) row (atoms-done tally) row′ (atoms-done tally′)
+  pub lengths : SameLengths words tally words′ tally′
 
 -- which terms a function runs
 abbrev pub Any : Term → Type 0
@@ -99,10 +105,7 @@ KindPhase k ph t = (kind (prog t) ≡ k) × (head t .phase ≡ ph)
 abbrev pub Times : ℕ → Term → Type 0
 Times k t = (kind (prog t) ≡ 6) × (head t .phase ≡ 1) × (head t .count ≡ k)
 
--- Pars by which branches are suspended: both, only the first, only the second
-abbrev pub BothSuspended : Term → Type 0
-BothSuspended t = Kind 4 t × (head t .flags ≡ 0)
-
+-- Pars of which only the first branch is suspended, or only the second
 abbrev pub LeftSuspended : Term → Type 0
 LeftSuspended t = Kind 4 t × (head t .flags % 4 ≡ 0) × (head t .flags ≢ 0)
 

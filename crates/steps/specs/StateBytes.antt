@@ -1,6 +1,6 @@
 -- A term's bytes (01, "State"): four a node, phase, flags, count (16, big-endian), in the order of the table; all zero is fresh.
 use Prim.Native.Nat.{ℕ, _+_, _-_, _*_, _/_, _%_}
-use mathlib.Core.Bool.{Bool, true, false, cond}
+use mathlib.Core.Bool.{cond}
 use mathlib.Core.List.{List, [], _∷_, _++_}
 use lib.ListN.{replicate}
 use Rattle.junior.specs.declared.Flag.{Flag}

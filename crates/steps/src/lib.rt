@@ -1,11 +1,13 @@
 // What a pass does at nodes without children, and what the forms with children do before and after running them: leaves, outside the
-// runner's cycle of calls.
+// cycle of calls of run.rt.
 ghost use mathlib.Core.Path.{_≡_};
 ghost use Prim.Native.Nat.{_+_, _*_, _<_, _≤_, _/_, _%_};
-ghost use lib.ListN.{length, getD, set, replicate};
+ghost use lib.Dec.{eqb};
+ghost use lib.ListN.{length, set, replicate};
 ghost use Rattle.steps.specs.Running.{Live, Runs, Kind, Phase, HasTest, TestRead, phaseAfter, signAfter, gone, ended, parEnd};
 ghost use Rattle.steps.specs.StateBytes.{code};
 ghost use Rattle.junior.specs.Flags.{γ};
+use events::WORDS;
 use events::mark;
 use junior::Flag;
 use junior::Verdict;
@@ -18,9 +20,9 @@ pub fn run_done(
     table: &[u8],
     i: usize,
     state: &mut [u8],
-    words: &mut [u64],
+    words: &mut [u64; WORDS],
     atoms: &mut [u16],
-    tally: &mut [usize],
+    tally: &mut [usize; 3],
 ) -> Flag
     requires { ⌜ Live 0 (Phase 3) (now table) i (now state) (now words) (now atoms) (now tally) ⌝ }
     ensures { λ r. ⌜ Runs 0 (Phase 3) (now (table .entry)) i (now (state .entry)) (now (words .entry)) (now (atoms .entry)) (now (tally .entry)) (now (state .exit)) (now (words .exit)) (now (atoms .exit)) (now (tally .exit)) r ⌝ }
@@ -34,9 +36,9 @@ pub fn run_stop(
     table: &[u8],
     i: usize,
     state: &mut [u8],
-    words: &mut [u64],
+    words: &mut [u64; WORDS],
     atoms: &mut [u16],
-    tally: &mut [usize],
+    tally: &mut [usize; 3],
 ) -> Flag
     requires { ⌜ Live 0 (Kind 1) (now table) i (now state) (now words) (now atoms) (now tally) ⌝ }
     ensures { λ r. ⌜ Runs 0 (Kind 1) (now (table .entry)) i (now (state .entry)) (now (words .entry)) (now (atoms .entry)) (now (tally .entry)) (now (state .exit)) (now (words .exit)) (now (atoms .exit)) (now (tally .exit)) r ⌝ }
@@ -50,9 +52,9 @@ pub fn run_atom(
     table: &[u8],
     i: usize,
     state: &mut [u8],
-    words: &mut [u64],
+    words: &mut [u64; WORDS],
     atoms: &mut [u16],
-    tally: &mut [usize],
+    tally: &mut [usize; 3],
 ) -> Flag
     requires { ⌜ Live 0 (Kind 2) (now table) i (now state) (now words) (now atoms) (now tally) ⌝ }
     ensures { λ r. ⌜ Runs 0 (Kind 2) (now (table .entry)) i (now (state .entry)) (now (words .entry)) (now (atoms .entry)) (now (tally .entry)) (now (state .exit)) (now (words .exit)) (now (atoms .exit)) (now (tally .exit)) r ⌝ }
@@ -68,9 +70,9 @@ pub fn run_generate(
     table: &[u8],
     i: usize,
     state: &mut [u8],
-    words: &mut [u64],
+    words: &mut [u64; WORDS],
     atoms: &mut [u16],
-    tally: &mut [usize],
+    tally: &mut [usize; 3],
 ) -> Flag
     requires { ⌜ Live 0 (Kind 7) (now table) i (now state) (now words) (now atoms) (now tally) ⌝ }
     ensures { λ r. ⌜ Runs 0 (Kind 7) (now (table .entry)) i (now (state .entry)) (now (words .entry)) (now (atoms .entry)) (now (tally .entry)) (now (state .exit)) (now (words .exit)) (now (atoms .exit)) (now (tally .exit)) r ⌝ }
@@ -85,9 +87,9 @@ pub fn run_await(
     table: &[u8],
     i: usize,
     state: &mut [u8],
-    words: &mut [u64],
+    words: &mut [u64; WORDS],
     atoms: &mut [u16],
-    tally: &mut [usize],
+    tally: &mut [usize; 3],
 ) -> Flag
     requires { ⌜ Live 0 (Kind 8) (now table) i (now state) (now words) (now atoms) (now tally) ⌝ }
     ensures { λ r. ⌜ Runs 0 (Kind 8) (now (table .entry)) i (now (state .entry)) (now (words .entry)) (now (atoms .entry)) (now (tally .entry)) (now (state .exit)) (now (words .exit)) (now (atoms .exit)) (now (tally .exit)) r ⌝ }
@@ -107,7 +109,7 @@ pub fn run_await(
 }
 
 // What the configuration of node i is read as now.
-pub fn read_test(table: &[u8], i: usize, words: &[u64], tally: &[usize]) -> Verdict
+pub fn read_test(table: &[u8], i: usize, words: &[u64; WORDS], tally: &[usize; 3]) -> Verdict
     requires { ⌜ HasTest (now table) i (now tally) ⌝ }
     ensures { λ r. ⌜ TestRead (now (table .entry)) i (now (words .entry)) (now (tally .entry)) r ⌝ }
 {
@@ -173,6 +175,13 @@ pub fn code_of(f: Flag) -> usize
         Flag::STOP => 1,
         Flag::TERM => 2,
     }
+}
+
+// Whether both are SUSP, the flag whose code is 0.
+pub fn both_suspended(f: Flag, g: Flag) -> bool
+    ensures { λ r. ⌜ r ≡ eqb (code f + code g) 0 ⌝ }
+{
+    code_of(f) + code_of(g) == 0
 }
 
 // γ: the joined flag, by the first branch's and the second's (000, 2.4).

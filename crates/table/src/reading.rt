@@ -9,11 +9,12 @@ ghost use Rattle.table.specs.Inside.Ranks.{unranked, absentRank, joinedR
 use super::records::part_event;
 use super::records::part_kind;
 use super::records::part_size;
+use events::WORDS;
 use events::marked;
 use junior::Verdict;
 
 // What the configuration at byte c is read as, the events being those of the words. A lone event costs no call.
-pub fn read_configuration(table: &[u8], c: usize, words: &[u64], ended: bool) -> Verdict
+pub fn read_configuration(table: &[u8], c: usize, words: &[u64; WORDS], ended: bool) -> Verdict
     requires { ⌜ ConfigurationAt (now table) c ⌝ }
     ensures { λ r. ⌜ ReadAs (now (table .entry)) c (now (words .entry)) ended r ⌝ }
 {
@@ -25,7 +26,7 @@ pub fn read_configuration(table: &[u8], c: usize, words: &[u64], ended: bool) ->
 }
 
 // The rank of a configuration that isn't a lone event, by its parts. What the first part decides, the second isn't asked.
-fn read_parts(table: &[u8], c: usize, words: &[u64], absent: usize) -> usize
+fn read_parts(table: &[u8], c: usize, words: &[u64; WORDS], absent: usize) -> usize
     requires { ⌜ ConfigurationAt (now table) c ⌝ }
     requires { ⌜ (partKind (now table) c ≡ 0 → ⊥) × IsAbsentRank absent ⌝ }
     ensures { λ r. ⌜ RanksAs (now (table .entry)) c (now (words .entry)) absent r ⌝ }
@@ -52,7 +53,7 @@ fn read_parts(table: &[u8], c: usize, words: &[u64], absent: usize) -> usize
     joined_rank(kind, first, read_parts(table, two, words, absent))
 }
 
-fn event_rank(words: &[u64], event: usize, absent: usize) -> usize
+fn event_rank(words: &[u64; WORDS], event: usize, absent: usize) -> usize
     ensures { λ r. ⌜ r ≡ cond (marks (now (words .entry)) event) 2 absent ⌝ }
 {
     if marked(words, event) {

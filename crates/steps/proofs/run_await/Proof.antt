@@ -14,14 +14,14 @@ use Rattle.steps.proofs.Leaves.{await-has, await-waits, await-fails, aw
 -- let v = read_test(table, i, words, tally);
 read-test-requires : tie.Need-read-test-requires
 read-test-requires c κs =
-    let start = c .before .before .before .before .before .before .before in
+    let start = c .before .before .before .before .before in
     let (t, k, h) = start .pre in
     await-has (shape-by t (k .0) refl) (k .1) h
 
 -- return Flag::TERM;
 returns : tie.Need-returns
 returns c t k h P e =
-    let start = c .before .before .before .before .before .before .before .before .before .before .before .before in
+    let start = c .before .before .before .before .before .before .before .before .before .before in
     let read-test = c .before .before .before .before .read-test in
     let enum-told3 = c .before .before .enum-told3 in
     let ended = le-ltb 0 (getD (start .args .tally .now) 2 0) (omega arith) in
@@ -30,7 +30,7 @@ returns c t k h P e =
 -- state[0] = 3;
 slice-write-state : tie.Need-slice-write-state
 slice-write-state c =
-    let start = c .before .before .before .before .before .before .before .before .before .before .before .before in
+    let start = c .before .before .before .before .before .before .before .before .before .before in
     omega (arith, size-pos (prog (start .pre .0)))
 
 -- pub fn run_await
@@ -48,7 +48,7 @@ returns-3 c t k h P e =
 
 returns-4 : tie.Need-returns-4
 returns-4 c t k h P e =
-    let start = c .before .before .before .before .before .before .before .before .before .before .before .before in
+    let start = c .before .before .before .before .before .before .before .before .before .before in
     let read-test = c .before .before .before .before .read-test in
     let enum-told3 = c .before .before .enum-told3 in
     let ended = lt-ltb 0 (getD (start .args .tally .now) 2 0) (omega arith) in
@@ -61,18 +61,10 @@ run-await-spec =
     (λ c. search needs)  -- enum-told: Verdict::Unknown => Flag::SUSP,
     (λ c. search needs)  -- enum-told-2: Verdict::Unsat => Flag::STOP,
     (λ c. search needs)  -- enum-told-3: if tally[2] == 0 {
-    (λ c. search needs)  -- slice-read-if1
-    (λ c. search needs)  -- same-length: return Flag::TERM;
-    (λ c. search needs)  -- same-length-2
+    (λ c. search needs)  -- element-copy-out-if1
     returns
     slice-write-state
-    (λ c. search needs)  -- same-length-3: pub fn run_await
-    (λ c. search needs)  -- same-length-4
     returns-2
-    (λ c. search needs)  -- same-length-5
-    (λ c. search needs)  -- same-length-6
     returns-3
-    (λ c. search needs)  -- same-length-7
-    (λ c. search needs)  -- same-length-8
-    (λ c. search needs)  -- same-length-9
+    (λ c. search needs)  -- same-length
     returns-4)

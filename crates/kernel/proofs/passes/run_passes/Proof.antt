@@ -1,8 +1,10 @@
 -- `run_passes` meets its contract: an instant is under way before each pass, and there are at most G + 2.
+use Rattle.kernel.proofs.passes.run_passes.Statement.{statement}
+use Rattle.kernel.proofs.passes.run_passes.Tie as tie
+use borrow.Author.Needs.{needs}
 use Prim.Native.Nat.{_+_, _-_, _/_}
 use mathlib.Core.Path.{_≡_, refl, sym, _∙_}
 use native.Mathlib.Omega.{arith}
-use borrow.Author.Needs.{needs}
 use lib.ListN.{length, length-set}
 use Rattle.events.specs.Members.{places, marks}
 use Rattle.junior.specs.Term.{prog}
@@ -13,8 +15,6 @@ use Rattle.table.specs.Spells.{treeOf}
 use Rattle.steps.proofs.Parts.{size-pos}
 use Rattle.kernel.specs.Passes.{Startable}
 use Rattle.kernel.proofs.Passing.{Underway, begins, few-passes, goes, marked-ended, run-of}
-use Rattle.kernel.proofs.passes.run_passes.Statement.{statement}
-use Rattle.kernel.proofs.passes.run_passes.Tie as tie
 
 abbrev Inv-loop : tie.InvT-loop
 Inv-loop table state₀ atoms₀ words₀ tally₀ passes₀ state atoms words tally passes =
@@ -24,7 +24,8 @@ Inv-loop table state₀ atoms₀ words₀ tally₀ passes₀ state atoms words t
     × (length atoms ≡ length atoms₀)
 
 abbrev μ-loop : tie.MeasureT-loop
-μ-loop table state₀ atoms₀ words₀ tally₀ passes₀ state atoms words tally passes = G (treeOf table) + 2 - passes
+μ-loop table state₀ atoms₀ words₀ tally₀ passes₀ state atoms words tally passes =
+    G (treeOf table) + 2 - passes
 
 -- loop {
 loop-holds : tie.Need-loop-holds Inv-loop μ-loop
@@ -40,17 +41,6 @@ add-passes c =
     omega (arith, few-passes (loop .inv .1), loop .inv .0 .few)
 
 -- let flag = run_node(table, 0, state, &mut words, atoms, &mut tally);
-slice-aggregate-run-node : tie.Need-slice-aggregate-run-node Inv-loop μ-loop
-slice-aggregate-run-node c =
-    let loop = c .before .before .loop in
-    let wide = loop .inv .1 .ready .wide in
-    omega arith
-
-slice-aggregate-run-node-2 : tie.Need-slice-aggregate-run-node-2 Inv-loop μ-loop
-slice-aggregate-run-node-2 c =
-    let loop = c .before .before .before .before .loop in
-    sym (loop .inv .1 .ready .tallied)
-
 run-node-requires : tie.Need-run-node-requires Inv-loop μ-loop
 run-node-requires c κs =
     let loop = c .before .before .before .before .loop in
@@ -60,37 +50,37 @@ run-node-requires c κs =
 -- loop {
 loop-less : tie.Need-loop-less Inv-loop μ-loop
 loop-less c =
-    let loop = c .before .before .before .before .before .before .before .before .before .before .before .before .before .loop in
+    let loop = c .before .before .before .before .before .before .before .before .before .before .before .loop in
     let few = rw (loop .inv .0 .program) at (few-passes (loop .inv .1)) in
     omega arith
 
 loop-again : tie.Need-loop-again Inv-loop μ-loop
 loop-again c =
-    let loop = c .before .before .before .before .before .before .before .before .before .before .before .before .before .loop in
-    let run-node = c .before .before .before .before .before .before .before .before .run-node in
+    let loop = c .before .before .before .before .before .before .before .before .before .before .before .loop in
+    let run-node = c .before .before .before .before .before .before .run-node in
     let enum-told = c .enum-told in
     let u = loop .inv .1 in
     let ran = rw (enum-told .given .1) at (run-node .ensures (u .term) tt (u .ready) root refl) in
     let lengths = run-node .kept .1 .1 in
-    (loop .inv .0, goes u ran (lengths .1 .0) (lengths .1 .1 .0) (lengths .1 .1 .1 .0), lengths .0 ∙ loop .inv .2, lengths .1 .1 .0 ∙ loop .inv .3)
+    (loop .inv .0, goes u ran (lengths .1 .1 .0), lengths .0 ∙ loop .inv .2, lengths .1 .1 .0 ∙ loop .inv .3)
 
 -- Flag::STOP => return report(EventSet { words }, tally[0], false, passes),
 same-length : tie.Need-same-length Inv-loop μ-loop
 same-length c =
-    let loop = c .before .before .before .before .before .before .before .before .before .before .before .before .before .before .loop in
-    let run-node = c .before .before .before .before .before .before .before .before .before .run-node in
+    let loop = c .before .before .before .before .before .before .before .before .before .before .before .before .loop in
+    let run-node = c .before .before .before .before .before .before .before .run-node in
     run-node .kept .1 .1 .0 ∙ loop .inv .2
 
 same-length-2 : tie.Need-same-length-2 Inv-loop μ-loop
 same-length-2 c =
-    let loop = c .before .before .before .before .before .before .before .before .before .before .before .before .before .before .loop in
-    let run-node = c .before .before .before .before .before .before .before .before .before .run-node in
+    let loop = c .before .before .before .before .before .before .before .before .before .before .before .before .loop in
+    let run-node = c .before .before .before .before .before .before .before .run-node in
     run-node .kept .1 .1 .1 .1 .0 ∙ loop .inv .3
 
 returns : tie.Need-returns Inv-loop μ-loop
 returns c =
-    let loop = c .before .before .before .before .before .before .before .before .before .before .before .before .before .before .loop in
-    let run-node = c .before .before .before .before .before .before .before .before .before .run-node in
+    let loop = c .before .before .before .before .before .before .before .before .before .before .before .before .loop in
+    let run-node = c .before .before .before .before .before .before .before .run-node in
     let enum-told2 = c .before .enum-told2 in
     let report = c .report in
     let u = loop .inv .1 in
@@ -100,28 +90,28 @@ returns c =
 -- state[0] = 3;
 slice-write-state : tie.Need-slice-write-state Inv-loop μ-loop
 slice-write-state c =
-    let loop = c .before .before .before .before .before .before .before .before .before .before .before .before .before .loop in
-    let run-node = c .before .before .before .before .before .before .before .before .run-node in
+    let loop = c .before .before .before .before .before .before .before .before .before .before .before .loop in
+    let run-node = c .before .before .before .before .before .before .run-node in
     let u = loop .inv .1 in
     omega (arith, run-node .kept .1 .1 .0, u .ready .long, size-pos (prog (u .term)))
 
 -- return report(EventSet { words }, tally[0], true, passes);
 same-length-3 : tie.Need-same-length-3 Inv-loop μ-loop
 same-length-3 c =
-    let loop = c .before .before .before .before .before .before .before .before .before .before .before .before .before .before .loop in
-    let run-node = c .before .before .before .before .before .before .before .before .before .run-node in
+    let loop = c .before .before .before .before .before .before .before .before .before .before .before .before .loop in
+    let run-node = c .before .before .before .before .before .before .before .run-node in
     simp length-set (run-node .kept .1 .1 .0 ∙ loop .inv .2)
 
 same-length-4 : tie.Need-same-length-4 Inv-loop μ-loop
 same-length-4 c =
-    let loop = c .before .before .before .before .before .before .before .before .before .before .before .before .before .before .loop in
-    let run-node = c .before .before .before .before .before .before .before .before .before .run-node in
+    let loop = c .before .before .before .before .before .before .before .before .before .before .before .before .loop in
+    let run-node = c .before .before .before .before .before .before .before .run-node in
     run-node .kept .1 .1 .1 .1 .0 ∙ loop .inv .3
 
 returns-2 : tie.Need-returns-2 Inv-loop μ-loop
 returns-2 c =
-    let loop = c .before .before .before .before .before .before .before .before .before .before .before .before .before .before .loop in
-    let run-node = c .before .before .before .before .before .before .before .before .before .run-node in
+    let loop = c .before .before .before .before .before .before .before .before .before .before .before .before .loop in
+    let run-node = c .before .before .before .before .before .before .before .run-node in
     let enum-told3 = c .before .enum-told3 in
     let report2 = c .report2 in
     let u = loop .inv .1 in
@@ -135,8 +125,6 @@ run-passes-spec =
     μ-loop
     loop-holds
     add-passes
-    slice-aggregate-run-node
-    slice-aggregate-run-node-2
     run-node-requires
     (λ c. search needs)  -- enum-told: tally[2] = (tally[1] == 0) as usize;
     (λ c. search needs)  -- array-read-tally

@@ -1,26 +1,15 @@
 -- A lone event at once, else by the parts.
 use Rattle.table.proofs.reading.read_configuration.Statement.{statement}
 use Rattle.table.proofs.reading.read_configuration.Tie as tie
+use borrow.Author.Needs.{needs}
 use mathlib.Core.Path.{sym, _∙_}
 use native.Mathlib.Omega.{arith}
-use borrow.Author.Needs.{needs}
 use Rattle.table.proofs.ByParts.{own-inside, ranks-read, ranks-event}
 
--- if part_kind(table, c) == 0 {
-part-kind-requires : tie.Need-part-kind-requires
-part-kind-requires c κs =
-    let start = c .before .before .before in
-    omega (arith, own-inside _ _ (start .pre))
-
 -- return verdict_of(event_rank(words, part_event(table, c), absent));
-part-event-requires : tie.Need-part-event-requires
-part-event-requires c κs =
-    let start = c .before .before .before .before .before in
-    omega (arith, own-inside _ _ (start .pre))
-
 returns : tie.Need-returns
 returns c =
-    let start = c .before .before .before .before .before .before .before .before in
+    let start = c .before .before .before .before .before .before .before in
     let absent-rank = c .before .before .before .before .before .absent-rank in
     let part-kind = c .before .before .before .before .part-kind in
     let if1 = c .before .before .before .if1 in
@@ -37,7 +26,7 @@ returns c =
 -- pub fn read_configuration
 returns-2 : tie.Need-returns-2
 returns-2 c =
-    let start = c .before .before .before .before .before .before .before in
+    let start = c .before .before .before .before .before .before in
     let absent-rank = c .before .before .before .before .absent-rank in
     let read-parts = c .before .read-parts in
     let verdict-of2 = c .verdict-of2 in
@@ -49,8 +38,8 @@ pub read-configuration-spec : {M : Type 1} → statement M
 read-configuration-spec =
     tie.close (tie.spec
     (λ c κs. search needs)  -- absent-rank-requires: let absent = absent_rank(ended);
-    part-kind-requires
-    part-event-requires
+    (λ c κs. omega (arith, own-inside _ _ (c .before .before .pre)))  -- part-kind-requires: if pa..
+    (λ c κs. omega (arith, own-inside _ _ (c .before .before .before .before .pre)))  -- part-event-requires: r..
     (λ c κs. search needs)  -- event-rank-requires
     (λ c κs. search needs)  -- verdict-of-requires
     returns

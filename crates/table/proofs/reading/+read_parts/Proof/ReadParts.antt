@@ -34,10 +34,10 @@ module _ (t : ℕ) where
 
   -- the first part's rank, by either way
   first-ranked : (c : lts.Joined1 given (exactly lts.ps μ-read-parts Pre t) Post)
-      → let a = c .before .before .before .before .args in
+      → let a = c .before .before .before .args in
       RanksAs (a .table .now) (a .c + 4) (a .words .now) (a .absent) (c .if1 .first)
   first-ranked c =
-      let a = c .before .before .before .before .args in
+      let a = c .before .before .before .args in
       let kind = c .before .part-kind .ensures .0 in
       ⊎-elim
       (λ w.
@@ -49,21 +49,21 @@ module _ (t : ℕ) where
   -- let first = if part_kind(table, one) == 0 {
   part-kind-requires : Of lts.Need-part-kind-requires
   part-kind-requires c κs =
-      let start = c .before .before in
+      let start = c .before in
       let p = first-part _ _ (start .pre .1 .0) (start .pre .1 .1 .0) in
       omega (arith, own-inside _ _ (p .there))
 
   -- event_rank(words, part_event(table, one), absent)
   part-event-requires : Of lts.Need-part-event-requires
   part-event-requires c κs =
-      let start = c .before .before .before .before in
+      let start = c .before .before .before in
       let p = first-part _ _ (start .pre .1 .0) (start .pre .1 .1 .0) in
       omega (arith, own-inside _ _ (p .there))
 
   -- read_parts(table, one, words, absent)
   read-parts-requires : Of lts.Need-read-parts-requires
   read-parts-requires c κs =
-      let start = c .before .before .before .before in
+      let start = c .before .before .before in
       let part-kind = c .before .part-kind in
       let if1 = c .if1 in
       let p = first-part _ _ (start .pre .1 .0) (start .pre .1 .1 .0) in
@@ -73,14 +73,14 @@ module _ (t : ℕ) where
   -- return 2 - first;
   sub-result : Of lts.Need-sub-result
   sub-result c =
-      let start = c .before .before .before .before .before .before .before in
+      let start = c .before .before .before .before .before .before in
       let p = first-part _ _ (start .pre .1 .0) (start .pre .1 .1 .0) in
       let first = first-ranked (c .before .before .before) in
       ranks-most _ _ (start .args .words .now) _ _ (p .there) (start .pre .1 .1 .1) first
 
   returns : Of lts.Need-returns
   returns c =
-      let start = c .before .before .before .before .before .before .before in
+      let start = c .before .before .before .before .before .before in
       let part-kind2 = c .before .before .part-kind2 in
       let if2 = c .before .if2 in
       let a = start .args in
@@ -90,7 +90,7 @@ module _ (t : ℕ) where
   -- return first;
   returns-2 : Of lts.Need-returns-2
   returns-2 c =
-      let start = c .before .before .before .before .before .before .before in
+      let start = c .before .before .before .before .before .before in
       let part-kind2 = c .before .before .part-kind2 in
       let if2 = c .before .if2 in
       let if3 = c .if3 in
@@ -104,14 +104,14 @@ module _ (t : ℕ) where
   -- let two = one + 4 * part_size(table, one);
   part-size-requires : Of lts.Need-part-size-requires
   part-size-requires c κs =
-      let start = c .before .before .before .before .before .before .before in
+      let start = c .before .before .before .before .before .before in
       let p = first-part _ _ (start .pre .1 .0) (start .pre .1 .1 .0) in
       omega (arith, own-inside _ _ (p .there))
 
   -- if part_kind(table, two) == 0 {
   part-kind-requires-3 : Of lts.Need-part-kind-requires-3
   part-kind-requires-3 c κs =
-      let start = c .before .before .before .before .before .before .before .before in
+      let start = c .before .before .before .before .before .before .before in
       let part-kind2 = c .before .before .before .part-kind2 in
       let if2 = c .before .before .if2 in
       let part-size = c .part-size in
@@ -122,7 +122,7 @@ module _ (t : ℕ) where
   -- let second = event_rank(words, part_event(table, two), absent);
   part-event-requires-2 : Of lts.Need-part-event-requires-2
   part-event-requires-2 c κs =
-      let start = c .before .before .before .before .before .before .before .before .before .before in
+      let start = c .before .before .before .before .before .before .before .before .before in
       let part-kind2 = c .before .before .before .before .before .part-kind2 in
       let if2 = c .before .before .before .before .if2 in
       let part-size = c .before .before .part-size in
@@ -133,7 +133,7 @@ module _ (t : ℕ) where
   -- return joined_rank(kind, first, second);
   returns-3 : Of lts.Need-returns-3
   returns-3 c =
-      let start = c .before .before .before .before .before .before .before .before .before .before .before .before .before in
+      let start = c .before .before .before .before .before .before .before .before .before .before .before .before in
       let part-kind2 = c .before .before .before .before .before .before .before .before .part-kind2 in
       let if2 = c .before .before .before .before .before .before .before .if2 in
       let part-size = c .before .before .before .before .before .part-size in
@@ -156,7 +156,7 @@ module _ (t : ℕ) where
   -- joined_rank(kind, first, read_parts(table, two, words, absent))
   read-parts-requires-2 : Of lts.Need-read-parts-requires-2
   read-parts-requires-2 c κs =
-      let start = c .before .before .before .before .before .before .before .before .before .before in
+      let start = c .before .before .before .before .before .before .before .before .before in
       let part-kind2 = c .before .before .before .before .before .part-kind2 in
       let if2 = c .before .before .before .before .if2 in
       let part-size = c .before .before .part-size in
@@ -171,7 +171,7 @@ module _ (t : ℕ) where
   -- fn read_parts
   returns-4 : Of lts.Need-returns-4
   returns-4 c =
-      let start = c .before .before .before .before .before .before .before .before .before .before .before .before in
+      let start = c .before .before .before .before .before .before .before .before .before .before .before in
       let part-kind2 = c .before .before .before .before .before .before .before .part-kind2 in
       let if2 = c .before .before .before .before .before .before .if2 in
       let part-size = c .before .before .before .before .part-size in
@@ -191,7 +191,7 @@ module _ (t : ℕ) where
       part-event-requires
       (λ c κs. search needs)  -- event-rank-requires
       read-parts-requires
-      (λ c κs. omega (arith, own-inside _ _ (c .before .before .before .before .pre .1 .0)))  -- part-kind-requires-2: let ..
+      (λ c κs. omega (arith, own-inside _ _ (c .before .before .before .pre .1 .0)))  -- part-kind-requires-2: let ..
       sub-result
       returns
       (λ c. search needs)  -- sub-if3: if first == 2 * (kind - 2) {

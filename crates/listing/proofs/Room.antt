@@ -1,0 +1,70 @@
+-- How long an output line is: a room of `enough` bytes has a place for every line of an instant that ran, and one of 32,768 bytes for 4,096 atoms.
+use mathlib.Core.Path.{_≡_, refl, ap}
+use mathlib.Core.Bool.{Bool, true, false, cond}
+use mathlib.Core.List.{List, [], _∷_}
+use Prim.Native.Nat.{ℕ, zero, suc, _+_, _*_, _^_, _≤_, _<_}
+use native.Mathlib.Omega.{arith}
+use lib.Dec.{lit≤}
+use lib.ListN.{length, getD, length-append}
+use Rattle.events.specs.Events.{Events}
+use Rattle.events.specs.Members.{places}
+use Rattle.listing.specs.Decimal.{decimal}
+use Rattle.listing.specs.Text.{bytes, comma, led, joined}
+use Rattle.listing.specs.Output.{rising, listed, line, ranLine, enough}
+use Rattle.listing.specs.Inside.{items}
+use Rattle.listing.proofs.Decimal.{decimal-length}
+use Rattle.listing.proofs.Lists.{items-append, items-listed}
+
+-- with a comma behind each, events take 4 bytes each and atoms 6
+events-length : (n : ℕ) (X : Events) → n ≤ 1000 → length (items (rising n X)) ≤ 4 * n
+unfolding rising items
+events-length zero X h = omega arith
+events-length (suc n) X h =
+    rw (items-append (rising n X) (cond (X n) (n ∷ []) []), length-append (items (rising n X)) (items (cond (X n) (n ∷ []) []))) (go (X n) (events-length n X (omega arith)))
+  where
+    go : (b : Bool) → length (items (rising n X)) ≤ 4 * n → length (items (rising n X)) + length (items (cond b (n ∷ []) [])) ≤ 4 * suc n
+    go true k = omega (arith, length-append (decimal n) (comma ∷ []), decimal-length 2 n (omega arith))
+    go false k = omega arith
+
+atoms-length : (l : List ℕ) → ((i : ℕ) → getD l i 0 < 65536) → length (items l) ≤ 6 * length l
+unfolding items
+atoms-length [] h = omega arith
+atoms-length (n ∷ l) h =
+    let small : n < 65536 = h 0 in
+    omega (arith, length-append (decimal n) (comma ∷ items l), decimal-length 4 n (omega arith), atoms-length l (λ i. h (suc i)))
+
+listed-length : (l : List ℕ) → length (listed l) ≤ length (items l) + 1
+unfolding listed
+listed-length [] = omega arith
+listed-length (n ∷ l) = omega (arith, ap length (items-listed n l), length-append (listed (n ∷ l)) (comma ∷ []))
+
+field-length : (w v : List ℕ) (l : List (List ℕ)) → length (line (w ∷ v ∷ l)) ≡ length w + 1 + length (line (v ∷ l))
+unfolding line joined led
+field-length w v l = simp length-append (omega arith)
+
+last-length : (w : List ℕ) → length (line (w ∷ [])) ≡ length w + 1
+unfolding line joined led
+last-length w = simp length-append (omega arith)
+
+flag-four : (b : Bool) → length (cond b (bytes "TERM") (bytes "STOP")) ≡ 4
+flag-four true = refl
+flag-four false = refl
+
+pub ran-fits : (number passes : ℕ) (finished : Bool) (X : Events) (atoms : List ℕ) → number < 2 ^ 64 → passes < 2 ^ 64 → ((i : ℕ) → getD atoms i 0 < 65536)
+    → length (ranLine number passes finished X atoms) ≤ enough (length atoms)
+unfolding ranLine
+ran-fits number passes finished X atoms h k a =
+    simp (field-length, last-length)
+    (omega (
+      arith,
+      decimal-length 19 number (omega arith),
+      decimal-length 19 passes (omega arith),
+      flag-four finished,
+      events-length places X (omega arith),
+      listed-length (rising places X),
+      atoms-length atoms a,
+      listed-length atoms,
+    ))
+
+pub enough-4096 : enough 4096 ≤ 32768
+enough-4096 = lit≤ tt

@@ -1,0 +1,176 @@
+// zap-run, the listing program (01, "The listing program"): starts the table of `table.bin` fresh and lists one instant for each line of standard input.
+// Here are the system calls; what a line does is answer.rt's, and is proved to be what 01 says.
+ghost use mathlib.Core.Path.{_≡_};
+ghost use Prim.Native.Nat.{_+_, _<_, _≤_};
+ghost use lib.ListN.{length};
+use answer::answer_line;
+use blocks::TURNS;
+use blocks::keep_rest;
+use blocks::read_some;
+use blocks::write_out;
+
+mod answer;
+
+// One byte more than the longest table, so that a longer file is seen to be longer.
+const TABLE: usize = 32779;
+
+// Enough for every table: 4 bytes a node, and the atoms that an instant can do.
+const STATE: usize = 16384;
+
+const ROW: usize = 4096;
+
+const BLOCK: usize = 65536;
+
+// The bytes of the longest line that can be good.
+const LONGEST: usize = 1024;
+
+// The room that an output line can take at most.
+const LINE: usize = 25656;
+
+fn main() {
+    let mut table = [0u8; TABLE];
+    let mut state = [0u8; STATE];
+    let mut row = [0u16; ROW];
+    let mut input = [0u8; BLOCK];
+    let mut output = [0u8; BLOCK];
+    let length = read_table(&mut table);
+    let outcome = kernel::start(&table[..length], &mut state);
+    let refusal = kernel::numbers::refusal_of(outcome);
+    if refusal.number != 0 {
+        let n = listing::write_table_refused(&mut output, refusal.number, refusal.index);
+        write_out(&output[..n]);
+        return;
+    }
+    list_lines(
+        &table[..length],
+        &mut state,
+        &mut row,
+        &mut input,
+        &mut output,
+    );
+}
+
+// Lists the lines of standard input. All of a block's whole lines are answered before the program waits for more.
+fn list_lines(table: &[u8], state: &mut [u8], row: &mut [u16], input: &mut [u8], output: &mut [u8])
+    requires { ⌜ (length (now row) ≤ 4096) × (length (now input) ≡ 65536) × (length (now output) ≡ 65536) ⌝ }
+{
+    let mut number = 1;
+    let mut held = 0;
+    for _ in 0..TURNS {
+        let got = read_some(0, &mut input[held..]).count;
+        if got == 0 {
+            list_last(table, state, row, &input[..held], number, output);
+            return;
+        }
+        let place = list_block(table, state, row, input, held, held + got, number, output);
+        number = place.number;
+        held = place.held;
+    }
+}
+
+// Lists a last line without a newline, if it has a byte.
+fn list_last(
+    table: &[u8],
+    state: &mut [u8],
+    row: &mut [u16],
+    line: &[u8],
+    number: u64,
+    output: &mut [u8],
+)
+    requires { ⌜ (length (now row) ≤ 4096) × (length (now output) ≡ 65536) ⌝ }
+{
+    if line.len() == 0 {
+        return;
+    }
+    let n = answer_line(table, state, row, line, number, output);
+    write_out(&output[..n]);
+}
+
+// Where a block ended: the next line's number, and how many bytes of that line stand at the start of the block.
+struct Place {
+    number: u64,
+    held: usize,
+}
+
+// Lists the whole lines among the first `to` bytes of the block; the first `held` have no newline.
+fn list_block(
+    table: &[u8],
+    state: &mut [u8],
+    row: &mut [u16],
+    input: &mut [u8],
+    held: usize,
+    to: usize,
+    number: u64,
+    output: &mut [u8],
+) -> Place
+    requires { ⌜ (length (now row) ≤ 4096) × (length (now input) ≡ 65536) × (length (now output) ≡ 65536) ⌝ }
+    requires { ⌜ (held ≤ to) × (to ≤ length (now input)) × (number + length (now input) < 18446744073709551616) ⌝ }
+    ensures { λ r. ⌜ (r .held ≤ 1025) × (r .number ≤ number + length (now (input .entry))) ⌝ }
+{
+    let mut next = number;
+    let mut from = 0;
+    let mut filled = 0;
+    let mut end = bytes::scan::find(input, held, to, 10);
+    while end < to {
+        filled = room_for_line(output, filled);
+        filled += answer_line(
+            table,
+            state,
+            row,
+            &input[from..end],
+            next,
+            &mut output[filled..],
+        );
+        next += 1;
+        from = end + 1;
+        end = bytes::scan::find(input, from, to, 10);
+    }
+    write_out(&output[..filled]);
+    Place {
+        number: next,
+        held: keep_rest(input, from, to, LONGEST),
+    }
+}
+
+// Where the next output line goes: where the block has no room for it behind the lines there, these are written out.
+fn room_for_line(output: &[u8], filled: usize) -> usize
+    requires { ⌜ (filled ≤ length (now output)) × (length (now output) ≡ 65536) ⌝ }
+    ensures { λ r. ⌜ r + 25656 ≤ length (now (output .entry)) ⌝ }
+{
+    if filled + LINE <= output.len() {
+        return filled;
+    }
+    write_out(&output[..filled]);
+    0
+}
+
+// The bytes of `table.bin` at the start of the room; none if it can't be read.
+fn read_table(room: &mut [u8]) -> usize
+    ensures { λ r. ⌜ r ≤ length (now (room .exit)) ⌝ }
+{
+    let file = os::open_read(b"table.bin");
+    if file < 0 {
+        return 0;
+    }
+    let length = read_all(file, room);
+    libc::close(file);
+    length
+}
+
+// Reads until the room is full or the file ends; none if a read fails.
+fn read_all(file: i32, room: &mut [u8]) -> usize
+    ensures { λ r. ⌜ r ≤ length (now (room .exit)) ⌝ }
+{
+    let mut done = 0;
+    while done < room.len() {
+        let got = read_some(file, &mut room[done..]);
+        if got.failed {
+            return 0;
+        }
+        if got.count == 0 {
+            break;
+        }
+        done += got.count;
+    }
+    done
+}
