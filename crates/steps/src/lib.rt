@@ -1,5 +1,5 @@
-// What a pass does at nodes without children, and what the forms with children do before and after running them: leaves, outside the
-// cycle of calls of run.rt.
+// The steps of a pass: what it does at nodes without children, and what the forms with children do before and after running them. None of
+// them is in the runner's cycle of calls.
 ghost use mathlib.Core.Path.{_≡_};
 ghost use Prim.Native.Nat.{_+_, _*_, _<_, _≤_, _/_, _%_};
 ghost use lib.Dec.{eqb};

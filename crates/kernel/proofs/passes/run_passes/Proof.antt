@@ -3,7 +3,7 @@ use Rattle.kernel.proofs.passes.run_passes.Statement.{statement}
 use Rattle.kernel.proofs.passes.run_passes.Tie as tie
 use borrow.Author.Needs.{needs}
 use Prim.Native.Nat.{_+_, _-_, _/_}
-use mathlib.Core.Path.{_≡_, refl, sym, _∙_}
+use mathlib.Core.Path.{_≡_, refl, _∙_}
 use native.Mathlib.Omega.{arith}
 use lib.ListN.{length, length-set}
 use Rattle.events.specs.Members.{places, marks}

@@ -1,0 +1,205 @@
+-- `read_bytes` meets its contract: after i turns the room begins with the first i bytes.
+use mathlib.Core.Path.{_≡_, refl, sym, _∙_}
+use mathlib.Core.List.{_++_}
+use Prim.Native.Nat.{ℕ, _*_, _-_, _/_, _≤_, _<_}
+use native.Mathlib.Omega.{arith}
+use lib.ListN.{length, drop, length-set}
+use Rattle.calls.specs.Words.{byteAt, firsts, WordRead}
+use Rattle.calls.proofs.Words.{fits-whole, unfit, firsts-more, all-more}
+use Rattle.calls.proofs.reading.read_bytes.Statement.{statement}
+use Rattle.calls.proofs.reading.read_bytes.Tie as tie
+use borrow.Author.Needs.{needs}
+
+abbrev Inv-loop : tie.InvT-loop
+Inv-loop text room₀ n i₀ room i =
+    (i ≤ n)
+    × (length room ≡ length room₀)
+    × (room ≡ firsts (λ k. byteAt text (2 * k)) i ++ drop i room₀)
+    × ((k : ℕ) → k < i → byteAt text (2 * k) < 256)
+
+abbrev μ-loop : tie.MeasureT-loop
+μ-loop text room₀ n i₀ room i = n - i
+
+-- if is_dash(text) {
+is-dash-requires : tie.Need-is-dash-requires Inv-loop μ-loop
+is-dash-requires c κs =
+    let start = c .before .before in
+    search needs
+
+-- return Amount {
+returns : tie.Need-returns Inv-loop μ-loop
+returns c =
+    let start = c .before .before .before .before in
+    let is-dash = c .before .is-dash in
+    let if1 = c .if1 in
+    WordRead.no-number (sym (is-dash .ensures) ∙ if1 .taken)
+
+-- if fits(text.len(), n, 2 * n, room.len()) {
+fits-requires : tie.Need-fits-requires Inv-loop μ-loop
+fits-requires c κs =
+    let start = c .before .before .before .before in
+    let is-dash = c .before .is-dash in
+    let if1 = c .if1 in
+    search needs
+
+-- for i in 0..n {
+loop-holds : tie.Need-loop-holds Inv-loop μ-loop
+unfolding firsts
+loop-holds c =
+    let start = c .before .before .before .before .before .before in
+    let is-dash = c .before .before .before .is-dash in
+    let if1 = c .before .before .if1 in
+    let fits2 = c .before .fits2 in
+    let if2 = c .if2 in
+    (omega arith, refl, refl, λ k h. absurd (omega arith))
+
+-- let value = byte_at(text, 2 * i);
+byte-at-requires : tie.Need-byte-at-requires Inv-loop μ-loop
+byte-at-requires c κs =
+    let start = c .before .before .before .before .before .before .before .before in
+    let is-dash = c .before .before .before .before .before .is-dash in
+    let if1 = c .before .before .before .before .if1 in
+    let fits2 = c .before .before .before .fits2 in
+    let if2 = c .before .before .if2 in
+    let loop = c .before .loop in
+    let loop-test = c .loop-test in
+    let fit = fits-whole _ _ _ _ (sym (fits2 .ensures) ∙ if2 .taken) in
+    omega (arith, fit)
+
+-- return unread();
+unread-requires : tie.Need-unread-requires Inv-loop μ-loop
+unread-requires c κs =
+    let start = c .before .before .before .before .before .before .before .before .before .before in
+    let is-dash = c .before .before .before .before .before .before .before .is-dash in
+    let if1 = c .before .before .before .before .before .before .if1 in
+    let fits2 = c .before .before .before .before .before .fits2 in
+    let if2 = c .before .before .before .before .if2 in
+    let loop = c .before .before .before .loop in
+    let loop-test = c .before .before .loop-test in
+    let byte-at = c .before .byte-at in
+    let if3 = c .if3 in
+    search needs
+
+returns-2 : tie.Need-returns-2 Inv-loop μ-loop
+returns-2 c =
+    let start = c .before .before .before .before .before .before .before .before .before .before .before in
+    let is-dash = c .before .before .before .before .before .before .before .before .is-dash in
+    let if1 = c .before .before .before .before .before .before .before .if1 in
+    let fits2 = c .before .before .before .before .before .before .fits2 in
+    let if2 = c .before .before .before .before .before .if2 in
+    let loop = c .before .before .before .before .loop in
+    let loop-test = c .before .before .before .loop-test in
+    let byte-at = c .before .before .byte-at in
+    let if3 = c .before .if3 in
+    let unread = c .unread in
+    let fit = fits-whole _ _ _ _ (sym (fits2 .ensures) ∙ if2 .taken) in
+    let big : 256 ≤ byteAt (start .args .text .now) (2 * loop .i) = omega (arith, byte-at .ensures .0, if3 .taken) in
+    rw (unread .ensures .0, unread .ensures .1) (WordRead.not-a-word _ (sym (is-dash .ensures) ∙ if1 .left) (λ m e p q. (loop .i, omega (arith, fit, loop-test .taken), big)))
+
+-- room[i] = value as u8;
+slice-write-room : tie.Need-slice-write-room Inv-loop μ-loop
+slice-write-room c =
+    let start = c .before .before .before .before .before .before .before .before .before .before in
+    let is-dash = c .before .before .before .before .before .before .before .is-dash in
+    let if1 = c .before .before .before .before .before .before .if1 in
+    let fits2 = c .before .before .before .before .before .fits2 in
+    let if2 = c .before .before .before .before .if2 in
+    let loop = c .before .before .before .loop in
+    let loop-test = c .before .before .loop-test in
+    let byte-at = c .before .byte-at in
+    let if3 = c .if3 in
+    let fit = fits-whole _ _ _ _ (sym (fits2 .ensures) ∙ if2 .taken) in
+    omega (arith, fit)
+
+-- for i in 0..n {
+loop-less : tie.Need-loop-less Inv-loop μ-loop
+loop-less c =
+    let start = c .before .before .before .before .before .before .before .before .before .before in
+    let is-dash = c .before .before .before .before .before .before .before .is-dash in
+    let if1 = c .before .before .before .before .before .before .if1 in
+    let fits2 = c .before .before .before .before .before .fits2 in
+    let if2 = c .before .before .before .before .if2 in
+    let loop = c .before .before .before .loop in
+    let loop-test = c .before .before .loop-test in
+    let byte-at = c .before .byte-at in
+    let if3 = c .if3 in
+    omega arith
+
+loop-again : tie.Need-loop-again Inv-loop μ-loop
+loop-again c =
+    let start = c .before .before .before .before .before .before .before .before .before .before in
+    let is-dash = c .before .before .before .before .before .before .before .is-dash in
+    let if1 = c .before .before .before .before .before .before .if1 in
+    let fits2 = c .before .before .before .before .before .fits2 in
+    let if2 = c .before .before .before .before .if2 in
+    let loop = c .before .before .before .loop in
+    let loop-test = c .before .before .loop-test in
+    let byte-at = c .before .byte-at in
+    let if3 = c .if3 in
+    let fit = fits-whole _ _ _ _ (sym (fits2 .ensures) ∙ if2 .taken) in (
+      omega arith,
+      simp length-set (loop .inv .1),
+      rw (loop .inv .2) (firsts-more (λ (k : ℕ). byteAt (start .args .text .now) (2 * k)) (start .args .room .now) (loop .i) (byte-at .result) (omega (arith, fit)) (byte-at .ensures .0)),
+      all-more (λ (k : ℕ). byteAt (start .args .text .now) (2 * k)) 256 (loop .i) (loop .inv .3) (omega (arith, byte-at .ensures .0, if3 .left)),
+    )
+
+-- return Amount {
+returns-3 : tie.Need-returns-3 Inv-loop μ-loop
+returns-3 c =
+    let start = c .before .before .before .before .before .before .before .before in
+    let is-dash = c .before .before .before .before .before .is-dash in
+    let if1 = c .before .before .before .before .if1 in
+    let fits2 = c .before .before .before .fits2 in
+    let if2 = c .before .before .if2 in
+    let loop = c .before .loop in
+    let loop-test = c .loop-test in
+    let fit = fits-whole _ _ _ _ (sym (fits2 .ensures) ∙ if2 .taken) in
+    let i = loop .i in
+    let all : i ≡ length (start .args .text .now) / 2 = omega arith in
+    rw (loop .inv .2, all) (WordRead.numbers (length (start .args .text .now) / 2) (sym (is-dash .ensures) ∙ if1 .left) (omega (arith, fit)) (fit .0) (fit .2) (rw all at (loop .inv .3)))
+
+-- unread()
+unread-requires-2 : tie.Need-unread-requires-2 Inv-loop μ-loop
+unread-requires-2 c κs =
+    let start = c .before .before .before .before .before .before in
+    let is-dash = c .before .before .before .is-dash in
+    let if1 = c .before .before .if1 in
+    let fits2 = c .before .fits2 in
+    let if2 = c .if2 in
+    search needs
+
+-- pub fn read_bytes
+returns-4 : tie.Need-returns-4 Inv-loop μ-loop
+returns-4 c =
+    let start = c .before .before .before .before .before .before .before in
+    let is-dash = c .before .before .before .before .is-dash in
+    let if1 = c .before .before .before .if1 in
+    let fits2 = c .before .before .fits2 in
+    let if2 = c .before .if2 in
+    let unread2 = c .unread2 in
+    rw (unread2 .ensures .0, unread2 .ensures .1) (WordRead.not-a-word _ (sym (is-dash .ensures) ∙ if1 .left) (λ m e p q. unfit _ _ _ _ (sym (fits2 .ensures) ∙ if2 .left) (omega arith) (omega arith) (omega arith)))
+
+pub read-bytes-spec : {M : Type 1} → statement M
+read-bytes-spec =
+    tie.close (tie.spec
+    Inv-loop
+    μ-loop
+    is-dash-requires
+    returns
+    (λ c. search needs)  -- mul-fits: if fits(text.len(), n, 2 * n, room.len()) {
+    fits-requires
+    loop-holds
+    (λ c. search needs)  -- mul-byte-at: let value = byte_at(text, 2 * i);
+    byte-at-requires
+    unread-requires
+    (λ c. search needs)  -- same-length
+    returns-2
+    (λ c. search needs)  -- cast-room: room[i] = value as u8;
+    slice-write-room
+    (λ c. search needs)  -- add-i: for i in 0..n {
+    loop-less
+    loop-again
+    (λ c. search needs)  -- same-length-2: return Amount {
+    returns-3
+    unread-requires-2
+    returns-4)

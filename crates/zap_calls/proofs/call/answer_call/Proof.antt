@@ -1,0 +1,82 @@
+-- `answer_call` meets its contract: the line is cut at its first space.
+use mathlib.Core.Path.{sym}
+use native.Mathlib.Omega.{arith}
+use lib.Seq.{length-take-le}
+use Rattle.zap_calls.proofs.call.answer_call.Statement.{statement}
+use Rattle.zap_calls.proofs.call.answer_call.Tie as tie
+use borrow.Author.Needs.{needs}
+
+-- if is_name(&line[..name], b"check") {
+slice-aggregate-is-name : tie.Need-slice-aggregate-is-name
+slice-aggregate-is-name c =
+    let start = c .before .before .before .before .before .before .before .before .before .before in
+    let find = c .before .before .before .before .find in
+    let if1 = c .before .before .before .if1 in
+    let if2 = c .before .before .if2 in
+    sym (length-take-le (find .result) (start .args .line .now) (omega (arith, if1 .left)))
+
+-- if is_name(&line[..name], b"start") {
+slice-aggregate-is-name-3 : tie.Need-slice-aggregate-is-name-3
+slice-aggregate-is-name-3 c =
+    let start = c .before .before .before .before .before .before .before .before .before .before .before .before .before .before in
+    let find = c .before .before .before .before .before .before .before .before .find in
+    let if1 = c .before .before .before .before .before .before .before .if1 in
+    let if2 = c .before .before .before .before .before .before .if2 in
+    let is-name = c .before .before .is-name in
+    let if3 = c .before .if3 in
+    sym (length-take-le (find .result) (start .args .line .now) (omega (arith, if1 .left)))
+
+-- if is_name(&line[..name], b"instant") {
+slice-aggregate-is-name-5 : tie.Need-slice-aggregate-is-name-5
+slice-aggregate-is-name-5 c =
+    let start = c .before .before .before .before .before .before .before .before .before .before .before .before .before .before .before .before .before .before in
+    let find = c .before .before .before .before .before .before .before .before .before .before .before .before .find in
+    let if1 = c .before .before .before .before .before .before .before .before .before .before .before .if1 in
+    let if2 = c .before .before .before .before .before .before .before .before .before .before .if2 in
+    let is-name = c .before .before .before .before .before .before .is-name in
+    let if3 = c .before .before .before .before .before .if3 in
+    let is-name2 = c .before .before .is-name2 in
+    let if4 = c .before .if4 in
+    sym (length-take-le (find .result) (start .args .line .now) (omega (arith, if1 .left)))
+
+pub answer-call-spec : {M : Type 1} → statement M
+answer-call-spec =
+    tie.close (tie.spec
+    (λ c κs. search needs)  -- find-requires: let name = find(line, 0, line.len(), 32);
+    (λ c κs. search needs)  -- bad-line-requires: return bad_line(output);
+    (λ c. search needs)  -- same-length
+    (λ c. search needs)  -- returns
+    (λ c κs. search needs)  -- bad-line-requires-2
+    (λ c. search needs)  -- same-length-2
+    (λ c. search needs)  -- returns-2
+    (λ c. search needs)  -- add-words: let words = &line[name + 1..];
+    (λ c. search needs)  -- sub-words
+    (λ c. search needs)  -- part-words-start
+    (λ c. search needs)  -- part-words-end
+    slice-aggregate-is-name
+    (λ c. search needs)  -- slice-aggregate-is-name-2
+    (λ c κs. search needs)  -- is-name-requires
+    (λ c κs. search needs)  -- answer-check-requires: return answer_check(words, table, output);
+    (λ c. search needs)  -- same-length-3
+    (λ c. search needs)  -- same-length-4
+    (λ c. search needs)  -- returns-3
+    slice-aggregate-is-name-3
+    (λ c. search needs)  -- slice-aggregate-is-name-4
+    (λ c κs. search needs)  -- is-name-requires-2
+    (λ c κs. search needs)  -- answer-start-requires: return answer_start(words, table, state, out..
+    (λ c. search needs)  -- same-length-5
+    (λ c. search needs)  -- same-length-6
+    (λ c. search needs)  -- same-length-7
+    (λ c. search needs)  -- returns-4
+    slice-aggregate-is-name-5
+    (λ c. search needs)  -- slice-aggregate-is-name-6
+    (λ c κs. search needs)  -- is-name-requires-3
+    (λ c κs. search needs)  -- answer-instant-requires: return answer_instant(words, table, state,..
+    (λ c. search needs)  -- same-length-8
+    (λ c. search needs)  -- same-length-9
+    (λ c. search needs)  -- same-length-10
+    (λ c. search needs)  -- same-length-11
+    (λ c. search needs)  -- returns-5
+    (λ c κs. search needs)  -- bad-line-requires-3: bad_line(output)
+    (λ c. search needs)  -- same-length-12: pub fn answer_call
+    (λ c. search needs))  -- returns-6
