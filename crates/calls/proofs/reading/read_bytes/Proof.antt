@@ -23,13 +23,11 @@ abbrev μ-loop : tie.MeasureT-loop
 -- if is_dash(text) {
 is-dash-requires : tie.Need-is-dash-requires Inv-loop μ-loop
 is-dash-requires c κs =
-    let start = c .before .before in
     search needs
 
 -- return Amount {
 returns : tie.Need-returns Inv-loop μ-loop
 returns c =
-    let start = c .before .before .before .before in
     let is-dash = c .before .is-dash in
     let if1 = c .if1 in
     WordRead.no-number (sym (is-dash .ensures) ∙ if1 .taken)
@@ -37,47 +35,25 @@ returns c =
 -- if fits(text.len(), n, 2 * n, room.len()) {
 fits-requires : tie.Need-fits-requires Inv-loop μ-loop
 fits-requires c κs =
-    let start = c .before .before .before .before in
-    let is-dash = c .before .is-dash in
-    let if1 = c .if1 in
     search needs
 
 -- for i in 0..n {
 loop-holds : tie.Need-loop-holds Inv-loop μ-loop
 unfolding firsts
 loop-holds c =
-    let start = c .before .before .before .before .before .before in
-    let is-dash = c .before .before .before .is-dash in
-    let if1 = c .before .before .if1 in
-    let fits2 = c .before .fits2 in
-    let if2 = c .if2 in
     (omega arith, refl, refl, λ k h. absurd (omega arith))
 
 -- let value = byte_at(text, 2 * i);
 byte-at-requires : tie.Need-byte-at-requires Inv-loop μ-loop
 byte-at-requires c κs =
-    let start = c .before .before .before .before .before .before .before .before in
-    let is-dash = c .before .before .before .before .before .is-dash in
-    let if1 = c .before .before .before .before .if1 in
     let fits2 = c .before .before .before .fits2 in
     let if2 = c .before .before .if2 in
-    let loop = c .before .loop in
-    let loop-test = c .loop-test in
     let fit = fits-whole _ _ _ _ (sym (fits2 .ensures) ∙ if2 .taken) in
     omega (arith, fit)
 
 -- return unread();
 unread-requires : tie.Need-unread-requires Inv-loop μ-loop
 unread-requires c κs =
-    let start = c .before .before .before .before .before .before .before .before .before .before in
-    let is-dash = c .before .before .before .before .before .before .before .is-dash in
-    let if1 = c .before .before .before .before .before .before .if1 in
-    let fits2 = c .before .before .before .before .before .fits2 in
-    let if2 = c .before .before .before .before .if2 in
-    let loop = c .before .before .before .loop in
-    let loop-test = c .before .before .loop-test in
-    let byte-at = c .before .byte-at in
-    let if3 = c .if3 in
     search needs
 
 returns-2 : tie.Need-returns-2 Inv-loop μ-loop
@@ -99,41 +75,22 @@ returns-2 c =
 -- room[i] = value as u8;
 slice-write-room : tie.Need-slice-write-room Inv-loop μ-loop
 slice-write-room c =
-    let start = c .before .before .before .before .before .before .before .before .before .before in
-    let is-dash = c .before .before .before .before .before .before .before .is-dash in
-    let if1 = c .before .before .before .before .before .before .if1 in
     let fits2 = c .before .before .before .before .before .fits2 in
     let if2 = c .before .before .before .before .if2 in
-    let loop = c .before .before .before .loop in
-    let loop-test = c .before .before .loop-test in
-    let byte-at = c .before .byte-at in
-    let if3 = c .if3 in
     let fit = fits-whole _ _ _ _ (sym (fits2 .ensures) ∙ if2 .taken) in
     omega (arith, fit)
 
 -- for i in 0..n {
 loop-less : tie.Need-loop-less Inv-loop μ-loop
 loop-less c =
-    let start = c .before .before .before .before .before .before .before .before .before .before in
-    let is-dash = c .before .before .before .before .before .before .before .is-dash in
-    let if1 = c .before .before .before .before .before .before .if1 in
-    let fits2 = c .before .before .before .before .before .fits2 in
-    let if2 = c .before .before .before .before .if2 in
-    let loop = c .before .before .before .loop in
-    let loop-test = c .before .before .loop-test in
-    let byte-at = c .before .byte-at in
-    let if3 = c .if3 in
     omega arith
 
 loop-again : tie.Need-loop-again Inv-loop μ-loop
 loop-again c =
     let start = c .before .before .before .before .before .before .before .before .before .before in
-    let is-dash = c .before .before .before .before .before .before .before .is-dash in
-    let if1 = c .before .before .before .before .before .before .if1 in
     let fits2 = c .before .before .before .before .before .fits2 in
     let if2 = c .before .before .before .before .if2 in
     let loop = c .before .before .before .loop in
-    let loop-test = c .before .before .loop-test in
     let byte-at = c .before .byte-at in
     let if3 = c .if3 in
     let fit = fits-whole _ _ _ _ (sym (fits2 .ensures) ∙ if2 .taken) in (
@@ -152,7 +109,6 @@ returns-3 c =
     let fits2 = c .before .before .before .fits2 in
     let if2 = c .before .before .if2 in
     let loop = c .before .loop in
-    let loop-test = c .loop-test in
     let fit = fits-whole _ _ _ _ (sym (fits2 .ensures) ∙ if2 .taken) in
     let i = loop .i in
     let all : i ≡ length (start .args .text .now) / 2 = omega arith in
@@ -161,17 +117,11 @@ returns-3 c =
 -- unread()
 unread-requires-2 : tie.Need-unread-requires-2 Inv-loop μ-loop
 unread-requires-2 c κs =
-    let start = c .before .before .before .before .before .before in
-    let is-dash = c .before .before .before .is-dash in
-    let if1 = c .before .before .if1 in
-    let fits2 = c .before .fits2 in
-    let if2 = c .if2 in
     search needs
 
 -- pub fn read_bytes
 returns-4 : tie.Need-returns-4 Inv-loop μ-loop
 returns-4 c =
-    let start = c .before .before .before .before .before .before .before in
     let is-dash = c .before .before .before .before .is-dash in
     let if1 = c .before .before .before .if1 in
     let fits2 = c .before .before .fits2 in

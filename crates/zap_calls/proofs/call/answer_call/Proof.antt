@@ -12,7 +12,6 @@ slice-aggregate-is-name c =
     let start = c .before .before .before .before .before .before .before .before .before .before in
     let find = c .before .before .before .before .find in
     let if1 = c .before .before .before .if1 in
-    let if2 = c .before .before .if2 in
     sym (length-take-le (find .result) (start .args .line .now) (omega (arith, if1 .left)))
 
 -- if is_name(&line[..name], b"start") {
@@ -21,9 +20,6 @@ slice-aggregate-is-name-3 c =
     let start = c .before .before .before .before .before .before .before .before .before .before .before .before .before .before in
     let find = c .before .before .before .before .before .before .before .before .find in
     let if1 = c .before .before .before .before .before .before .before .if1 in
-    let if2 = c .before .before .before .before .before .before .if2 in
-    let is-name = c .before .before .is-name in
-    let if3 = c .before .if3 in
     sym (length-take-le (find .result) (start .args .line .now) (omega (arith, if1 .left)))
 
 -- if is_name(&line[..name], b"instant") {
@@ -32,11 +28,6 @@ slice-aggregate-is-name-5 c =
     let start = c .before .before .before .before .before .before .before .before .before .before .before .before .before .before .before .before .before .before in
     let find = c .before .before .before .before .before .before .before .before .before .before .before .before .find in
     let if1 = c .before .before .before .before .before .before .before .before .before .before .before .if1 in
-    let if2 = c .before .before .before .before .before .before .before .before .before .before .if2 in
-    let is-name = c .before .before .before .before .before .before .is-name in
-    let if3 = c .before .before .before .before .before .if3 in
-    let is-name2 = c .before .before .is-name2 in
-    let if4 = c .before .if4 in
     sym (length-take-le (find .result) (start .args .line .now) (omega (arith, if1 .left)))
 
 pub answer-call-spec : {M : Type 1} → statement M

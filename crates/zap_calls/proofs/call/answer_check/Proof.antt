@@ -10,16 +10,12 @@ use borrow.Author.Needs.{needs}
 -- call_check(&table[..n], output)
 slice-reshare-prefix-call-check : tie.Need-slice-reshare-prefix-call-check
 slice-reshare-prefix-call-check c =
-    let start = c .before .before .before .before .before .before .before .before .before in
     let read-bytes = c .before .before .before .before .read-bytes in
-    let if1 = c .if1 in
     omega (arith, count-within (read-bytes .ensures), read-bytes .kept .1 .0)
 
 slice-aggregate-call-check : tie.Need-slice-aggregate-call-check
 slice-aggregate-call-check c =
-    let start = c .before .before .before .before .before .before .before .before .before .before in
     let read-bytes = c .before .before .before .before .before .read-bytes in
-    let if1 = c .before .if1 in
     sym (length-take-le (read-bytes .result .count) (read-bytes .last .1 .0) (omega (arith, count-within (read-bytes .ensures), read-bytes .kept .1 .0)))
 
 pub answer-check-spec : {M : Type 1} → statement M

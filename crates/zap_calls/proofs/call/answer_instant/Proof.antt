@@ -18,20 +18,12 @@ slice-aggregate-read-bytes c =
 -- with_table(&words[b + 1..], &table[..n], state, row, output)
 slice-reshare-prefix-with-table : tie.Need-slice-reshare-prefix-with-table
 slice-reshare-prefix-with-table c =
-    let start = c .before .before .before .before .before .before .before .before .before .before .before .before .before .before .before in
-    let find = c .before .before .before .before .before .before .before .before .before .find in
-    let if1 = c .before .before .before .before .before .before .before .before .if1 in
     let read-bytes = c .before .before .before .before .before .read-bytes in
-    let if2 = c .before .if2 in
     omega (arith, count-within (read-bytes .ensures), read-bytes .kept .1 .0)
 
 slice-aggregate-with-table : tie.Need-slice-aggregate-with-table
 slice-aggregate-with-table c =
-    let start = c .before .before .before .before .before .before .before .before .before .before .before .before .before .before .before .before in
-    let find = c .before .before .before .before .before .before .before .before .before .before .find in
-    let if1 = c .before .before .before .before .before .before .before .before .before .if1 in
     let read-bytes = c .before .before .before .before .before .before .read-bytes in
-    let if2 = c .before .before .if2 in
     sym (length-take-le (read-bytes .result .count) (read-bytes .last .1 .0) (omega (arith, count-within (read-bytes .ensures), read-bytes .kept .1 .0)))
 
 pub answer-instant-spec : {M : Type 1} → statement M

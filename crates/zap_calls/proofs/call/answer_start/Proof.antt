@@ -18,57 +18,28 @@ slice-aggregate-read-bytes c =
 -- call_start(&table[..n], &mut state[..m], output)
 slice-reshare-prefix-call-start : tie.Need-slice-reshare-prefix-call-start
 slice-reshare-prefix-call-start c =
-    let start = c .before .before .before .before .before .before .before .before .before .before .before .before .before .before .before .before .before .before .before .before in
-    let find = c .before .before .before .before .before .before .before .before .before .before .before .before .before .before .before .find in
-    let if1 = c .before .before .before .before .before .before .before .before .before .before .before .before .before .before .if1 in
     let read-bytes = c .before .before .before .before .before .before .before .before .before .before .before .read-bytes in
-    let if2 = c .before .before .before .before .before .before .before .if2 in
-    let read-bytes2 = c .before .before .before .before .read-bytes2 in
-    let if3 = c .if3 in
     omega (arith, count-within (read-bytes .ensures), read-bytes .kept .1 .0)
 
 slice-aggregate-call-start : tie.Need-slice-aggregate-call-start
 slice-aggregate-call-start c =
-    let start = c .before .before .before .before .before .before .before .before .before .before .before .before .before .before .before .before .before .before .before .before .before in
-    let find = c .before .before .before .before .before .before .before .before .before .before .before .before .before .before .before .before .find in
-    let if1 = c .before .before .before .before .before .before .before .before .before .before .before .before .before .before .before .if1 in
     let read-bytes = c .before .before .before .before .before .before .before .before .before .before .before .before .read-bytes in
-    let if2 = c .before .before .before .before .before .before .before .before .if2 in
-    let read-bytes2 = c .before .before .before .before .before .read-bytes2 in
-    let if3 = c .before .if3 in
     sym (length-take-le (read-bytes .result .count) (read-bytes .last .1 .0) (omega (arith, count-within (read-bytes .ensures), read-bytes .kept .1 .0)))
 
 slice-relend-prefix-call-start : tie.Need-slice-relend-prefix-call-start
 slice-relend-prefix-call-start c =
-    let start = c .before .before .before .before .before .before .before .before .before .before .before .before .before .before .before .before .before .before .before .before .before in
-    let find = c .before .before .before .before .before .before .before .before .before .before .before .before .before .before .before .before .find in
-    let if1 = c .before .before .before .before .before .before .before .before .before .before .before .before .before .before .before .if1 in
-    let read-bytes = c .before .before .before .before .before .before .before .before .before .before .before .before .read-bytes in
-    let if2 = c .before .before .before .before .before .before .before .before .if2 in
     let read-bytes2 = c .before .before .before .before .before .read-bytes2 in
-    let if3 = c .before .if3 in
     omega (arith, count-within (read-bytes2 .ensures), read-bytes2 .kept .1 .0)
 
 slice-aggregate-call-start-2 : tie.Need-slice-aggregate-call-start-2
 slice-aggregate-call-start-2 c =
-    let start = c .before .before .before .before .before .before .before .before .before .before .before .before .before .before .before .before .before .before .before .before .before .before in
-    let find = c .before .before .before .before .before .before .before .before .before .before .before .before .before .before .before .before .before .find in
-    let if1 = c .before .before .before .before .before .before .before .before .before .before .before .before .before .before .before .before .if1 in
-    let read-bytes = c .before .before .before .before .before .before .before .before .before .before .before .before .before .read-bytes in
-    let if2 = c .before .before .before .before .before .before .before .before .before .if2 in
     let read-bytes2 = c .before .before .before .before .before .before .read-bytes2 in
-    let if3 = c .before .before .if3 in
     sym (length-take-le (read-bytes2 .result .count) (read-bytes2 .last .1 .0) (omega (arith, count-within (read-bytes2 .ensures), read-bytes2 .kept .1 .0)))
 
 call-start-requires : tie.Need-call-start-requires
 call-start-requires c κs =
     let start = c .before .before .before .before .before .before .before .before .before .before .before .before .before .before .before .before .before .before .before .before .before .before .before in
-    let find = c .before .before .before .before .before .before .before .before .before .before .before .before .before .before .before .before .before .before .find in
-    let if1 = c .before .before .before .before .before .before .before .before .before .before .before .before .before .before .before .before .before .if1 in
-    let read-bytes = c .before .before .before .before .before .before .before .before .before .before .before .before .before .before .read-bytes in
-    let if2 = c .before .before .before .before .before .before .before .before .before .before .if2 in
     let read-bytes2 = c .before .before .before .before .before .before .before .read-bytes2 in
-    let if3 = c .before .before .before .if3 in
     let long = length-take-le (read-bytes2 .result .count) (read-bytes2 .last .1 .0) (omega (arith, count-within (read-bytes2 .ensures), read-bytes2 .kept .1 .0)) in
     omega (arith, long, count-within (read-bytes2 .ensures), start .pre)
 

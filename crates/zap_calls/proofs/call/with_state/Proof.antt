@@ -18,35 +18,18 @@ slice-aggregate-read-list c =
 -- call_instant(table, state, e.events, &mut row[..k], output)
 slice-relend-prefix-call-instant : tie.Need-slice-relend-prefix-call-instant
 slice-relend-prefix-call-instant c =
-    let start = c .before .before .before .before .before .before .before .before .before .before .before .before .before .before .before .before .before .before .before in
-    let find = c .before .before .before .before .before .before .before .before .before .before .before .before .before .find in
-    let if1 = c .before .before .before .before .before .before .before .before .before .before .before .before .if1 in
-    let read-list = c .before .before .before .before .before .before .before .before .before .before .read-list in
-    let if2 = c .before .before .before .before .before .before .before .before .if2 in
     let read-row = c .before .before .before .before .before .read-row in
-    let if3 = c .before .if3 in
     omega (arith, count-within (read-row .ensures), read-row .kept .1 .0)
 
 slice-aggregate-call-instant : tie.Need-slice-aggregate-call-instant
 slice-aggregate-call-instant c =
-    let start = c .before .before .before .before .before .before .before .before .before .before .before .before .before .before .before .before .before .before .before .before in
-    let find = c .before .before .before .before .before .before .before .before .before .before .before .before .before .before .find in
-    let if1 = c .before .before .before .before .before .before .before .before .before .before .before .before .before .if1 in
-    let read-list = c .before .before .before .before .before .before .before .before .before .before .before .read-list in
-    let if2 = c .before .before .before .before .before .before .before .before .before .if2 in
     let read-row = c .before .before .before .before .before .before .read-row in
-    let if3 = c .before .before .if3 in
     sym (length-take-le (read-row .result .count) (read-row .last .1 .0) (omega (arith, count-within (read-row .ensures), read-row .kept .1 .0)))
 
 call-instant-requires : tie.Need-call-instant-requires
 call-instant-requires c κs =
     let start = c .before .before .before .before .before .before .before .before .before .before .before .before .before .before .before .before .before .before .before .before .before in
-    let find = c .before .before .before .before .before .before .before .before .before .before .before .before .before .before .before .find in
-    let if1 = c .before .before .before .before .before .before .before .before .before .before .before .before .before .before .if1 in
-    let read-list = c .before .before .before .before .before .before .before .before .before .before .before .before .read-list in
-    let if2 = c .before .before .before .before .before .before .before .before .before .before .if2 in
     let read-row = c .before .before .before .before .before .before .before .read-row in
-    let if3 = c .before .before .before .if3 in
     let long = length-take-le (read-row .result .count) (read-row .last .1 .0) (omega (arith, count-within (read-row .ensures), read-row .kept .1 .0)) in
     omega (arith, long, count-within (read-row .ensures), start .pre)
 

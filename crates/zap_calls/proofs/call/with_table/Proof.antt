@@ -18,29 +18,18 @@ slice-aggregate-read-bytes c =
 -- with_state(&words[b + 1..], table, &mut state[..m], row, output)
 slice-relend-prefix-with-state : tie.Need-slice-relend-prefix-with-state
 slice-relend-prefix-with-state c =
-    let start = c .before .before .before .before .before .before .before .before .before .before .before .before .before .before .before in
-    let find = c .before .before .before .before .before .before .before .before .before .find in
-    let if1 = c .before .before .before .before .before .before .before .before .if1 in
     let read-bytes = c .before .before .before .before .before .read-bytes in
-    let if2 = c .before .if2 in
     omega (arith, count-within (read-bytes .ensures), read-bytes .kept .1 .0)
 
 slice-aggregate-with-state : tie.Need-slice-aggregate-with-state
 slice-aggregate-with-state c =
-    let start = c .before .before .before .before .before .before .before .before .before .before .before .before .before .before .before .before in
-    let find = c .before .before .before .before .before .before .before .before .before .before .find in
-    let if1 = c .before .before .before .before .before .before .before .before .before .if1 in
     let read-bytes = c .before .before .before .before .before .before .read-bytes in
-    let if2 = c .before .before .if2 in
     sym (length-take-le (read-bytes .result .count) (read-bytes .last .1 .0) (omega (arith, count-within (read-bytes .ensures), read-bytes .kept .1 .0)))
 
 with-state-requires : tie.Need-with-state-requires
 with-state-requires c κs =
     let start = c .before .before .before .before .before .before .before .before .before .before .before .before .before .before .before .before .before .before in
-    let find = c .before .before .before .before .before .before .before .before .before .before .before .before .find in
-    let if1 = c .before .before .before .before .before .before .before .before .before .before .before .if1 in
     let read-bytes = c .before .before .before .before .before .before .before .before .read-bytes in
-    let if2 = c .before .before .before .before .if2 in
     let long = length-take-le (read-bytes .result .count) (read-bytes .last .1 .0) (omega (arith, count-within (read-bytes .ensures), read-bytes .kept .1 .0)) in
     omega (arith, long, count-within (read-bytes .ensures), start .pre)
 
