@@ -1,9 +1,13 @@
 /*
- * The zapper kernel for C: check a table, start its program, run it one instant at a time.
+ * The zapper kernel for C: check a table, start its program, run it one instant at a time; read a program in written form into a table, and
+ * print a table in written form.
  *
- * A call takes whatever it is lent and returns: bad tables, damaged states, unknown events and short rooms are answered by a number (the
- * requirements' refusal numbers 1 to 12; 0 is success) and an index, and then no room has been written. A call keeps nothing between calls,
- * allocates nothing and calls nothing back. It checks the table anew each time.
+ * `rt staticlib kernel` makes libkernel.a, which has zapper_check, zapper_start and zapper_instant; `rt staticlib text` makes libtext.a, which has
+ * zapper_read and zapper_print. A program links the one that it needs, or both.
+ *
+ * A call takes whatever it is lent and returns: bad tables, damaged states, unknown events, texts that can't be read and short rooms are answered
+ * by a number (the requirements' refusal numbers; 0 is success) and an index, and then no room has been written. A call keeps nothing between
+ * calls, allocates nothing and calls nothing back. It checks the table anew each time.
  *
  * Pointers are not null, each with as many elements as its length says, and nothing that a call writes overlaps anything else that it is lent.
  * An answer is a row of 64-bit numbers, whose places are named below. All of them are written by every call.
@@ -18,7 +22,7 @@
 extern "C" {
 #endif
 
-/* In every answer: the refusal's number, 0 for success, and its index (a node, a configuration or an event, else 0). */
+/* In every answer: the refusal's number, 0 for success, and its index (a node, a configuration, an event or a place in a text, else 0). */
 enum { ZAPPER_NUMBER = 0, ZAPPER_INDEX = 1 };
 
 /* A check's answer: how many event generations, atoms and node visits one instant can make at most. They are 0 if the table is refused. */
@@ -45,6 +49,9 @@ enum {
 /* The words of an event set: event e is bit e % 64 of word e / 64. */
 enum { ZAPPER_EVENT_WORDS = 4 };
 
+/* The answer of reading and of printing: how many bytes were written at the start of the room. It is 0 if the text or the table is refused. */
+enum { ZAPPER_LENGTH = 2, ZAPPER_TEXT_PLACES = 3 };
+
 /* Refusals 1 to 8: is this a table, and what can one instant of its program cost? */
 void zapper_check(const uint8_t *table, size_t table_length, uint64_t answer[ZAPPER_CHECK_PLACES]);
 
@@ -58,6 +65,22 @@ void zapper_start(const uint8_t *table, size_t table_length, uint8_t *state, siz
 void zapper_instant(const uint8_t *table, size_t table_length, uint8_t *state, size_t state_length,
                     const uint64_t handed_in[ZAPPER_EVENT_WORDS], uint16_t *atoms, size_t atoms_length,
                     uint64_t answer[ZAPPER_INSTANT_PLACES]);
+
+/*
+ * Refusals 21, 22 and 1 to 8: reads a program in written form and puts its table at the start of the room. 21 is a text that has no reading; the
+ * index is the first byte where none goes on, or the text's length if it only ends early. 22 is a table that needs more bytes than the room has, or
+ * more than 32,778; 1 to 8 are those of zapper_check on that table. What stands behind the table in the room is not touched.
+ *
+ * A read has its memory on the stack: 64 KiB for the brackets that are open, 32 KiB for the table until it is checked and 8 KiB for the levels of
+ * the text, which the compiler may lay over one another.
+ */
+void zapper_read(const uint8_t *text, size_t text_length, uint8_t *table, size_t table_length, uint64_t answer[ZAPPER_TEXT_PLACES]);
+
+/*
+ * Refusals 1 to 8 and 24: prints the program of a table in written form at the start of the room, nothing behind it, so that zapper_read can read it.
+ * 24 is a text that is longer than the room. What stands behind the text in the room is not touched.
+ */
+void zapper_print(const uint8_t *table, size_t table_length, uint8_t *text, size_t text_length, uint64_t answer[ZAPPER_TEXT_PLACES]);
 
 #ifdef __cplusplus
 }

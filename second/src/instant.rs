@@ -49,7 +49,8 @@ pub fn instant(table: &[u8], state: &mut [u8], handed: Events, row: &mut [u16]) 
     Ok(Report { events, atoms: actions.len(), finished: answer == Flag::Term, passes })
 }
 
-fn load(table: &[u8]) -> Result<(Program, Figures), Refusal> {
+/// A table that passes 1 to 8, with its figures.
+pub fn load(table: &[u8]) -> Result<(Program, Figures), Refusal> {
     let program = table::read(table)?;
     let figures = figures::load(&program.root)?;
     Ok((program, figures))

@@ -4,14 +4,35 @@
 use crate::env::Events;
 use crate::instant::{self, Report};
 use crate::table::Refusal;
+use crate::text;
 use crate::words;
 
 /// A call with everything that it lends.
 #[derive(Clone, Debug, PartialEq, Eq)]
 pub enum Call {
-    Check { table: Vec<u8> },
-    Start { table: Vec<u8>, state: Vec<u8> },
-    Instant { table: Vec<u8>, state: Vec<u8>, events: Events, row: Vec<u16> },
+    Check {
+        table: Vec<u8>,
+    },
+    Start {
+        table: Vec<u8>,
+        state: Vec<u8>,
+    },
+    Instant {
+        table: Vec<u8>,
+        state: Vec<u8>,
+        events: Events,
+        row: Vec<u16>,
+    },
+    /// The text and the room for its table.
+    Read {
+        text: Vec<u8>,
+        room: Vec<u8>,
+    },
+    /// The table and the room for its text.
+    Print {
+        table: Vec<u8>,
+        room: Vec<u8>,
+    },
 }
 
 /// The answer line of a line.
@@ -34,6 +55,8 @@ pub fn print(call: &Call) -> String {
             words::list(events.rising()),
             words::hex(&words::row_bytes(row))
         ),
+        Call::Read { text, room } => format!("read {} {}", words::hex(text), words::hex(room)),
+        Call::Print { table, room } => format!("print {} {}", words::hex(table), words::hex(room)),
     }
 }
 
@@ -51,12 +74,18 @@ fn read(line: &[u8]) -> Option<Call> {
             events: read_events(events)?,
             row: read_row(row)?,
         }),
+        [b"read", text, room] => Some(Call::Read { text: read_text(text)?, room: read_table(room)? }),
+        [b"print", table, room] => Some(Call::Print { table: read_table(table)?, room: read_text(room)? }),
         _ => None,
     }
 }
 
 fn read_table(word: &[u8]) -> Option<Vec<u8>> {
     words::read_hex(word).filter(|table| table.len() <= 33_000)
+}
+
+fn read_text(word: &[u8]) -> Option<Vec<u8>> {
+    words::read_hex(word).filter(|text| text.len() <= 33_000)
 }
 
 fn read_state(word: &[u8]) -> Option<Vec<u8>> {
@@ -103,7 +132,15 @@ fn make(call: Call) -> String {
                 words::hex(&words::row_bytes(&row))
             )
         }
+        Call::Read { text, mut room } => written(text::read(&text, &mut room), &room),
+        Call::Print { table, mut room } => written(text::print(&table, &mut room), &room),
     }
+}
+
+/// The answer of a call that writes so many bytes into a room.
+fn written(answer: Result<usize, Refusal>, room: &[u8]) -> String {
+    let Refusal { number, index } = answer.err().unwrap_or(Refusal::new(0, 0));
+    format!("{number} {index} {} {}", answer.unwrap_or(0), words::hex(room))
 }
 
 #[cfg(test)]
@@ -127,6 +164,15 @@ mod tests {
         says(&format!("instant {NOTHING} 00000000ff 0,0 -"), "0 0 0 1 0 0 1 1 03000000ff -");
         says(&format!("instant {NOTHING} 00000000 - 0007"), "0 0 - 0 256 0 1 1 03000000 0007");
         says(&format!("instant {NOTHING} 00000000 3,0,1 0007"), "11 1 - 0 256 0 0 0 00000000 0007");
+        // The text of the table.
+        let text = words::hex(b"Jr.Nothing()");
+        says(&format!("read {text} {NOTHING}0506"), &format!("0 0 16 {NOTHING}0506"));
+        says(&format!("read {text} 01"), "22 0 0 01");
+        says("read 4a 01", "21 1 0 01");
+        says("read - -", "21 0 0 -");
+        says(&format!("print {NOTHING} {text}ff"), &format!("0 0 12 {text}ff"));
+        says(&format!("print {NOTHING} -"), "24 0 0 -");
+        says("print - 01", "1 0 0 01");
     }
 
     #[test]
@@ -135,6 +181,9 @@ mod tests {
             says(line, "bad-line");
         }
         for line in ["start -", "start - - -", "instant - - -", "instant - - - - -", "instant - -  -", "check -\r"] {
+            says(line, "bad-line");
+        }
+        for line in ["read", "read -", "read - - -", "read 4A -", "read - 0", "print -", "print - - -", "prints - -"] {
             says(line, "bad-line");
         }
         for events in ["", ",", "0,", ",0", "00", "256", "0,,1", "0 1", "-,0", "+1"] {
@@ -154,6 +203,13 @@ mod tests {
         says(&format!("start - {}", zeros(17_001)), "bad-line");
         says(&format!("instant - - - {}", zeros(8_400)), &format!("1 0 - 0 256 0 0 0 - {}", zeros(8_400)));
         says(&format!("instant - - - {}", zeros(8_402)), "bad-line");
+        for word in ["read", "print"] {
+            for (given, room) in [(33_001, 0), (0, 33_001)] {
+                says(&format!("{word} {} {}", words::hex(&vec![0; given]), words::hex(&vec![0; room])), "bad-line");
+            }
+        }
+        says(&format!("read {} {}", zeros(33_000), zeros(33_000)), &format!("21 0 0 {}", zeros(33_000)));
+        says(&format!("print {} {}", zeros(33_000), zeros(33_000)), &format!("1 0 0 {}", zeros(33_000)));
         // The events may be as many as the line holds: 12 + 159,986 + 2 bytes are 160,000.
         let many = ",10".repeat(53_328);
         says(&format!("instant - - 10{many} -"), "1 0 - 0 256 0 0 0 - -");

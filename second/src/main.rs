@@ -4,14 +4,19 @@
 mod config;
 mod env;
 mod figures;
+mod grammar;
 mod instant;
+mod layout;
 mod lines;
 mod listing;
 mod make;
 mod rules;
+mod spell;
 mod state;
 mod table;
 mod term;
+mod text;
+mod ways;
 mod words;
 
 #[cfg(test)]
@@ -21,7 +26,8 @@ use std::io::{BufWriter, Read, Result, Write};
 use std::path::Path;
 use std::process::ExitCode;
 
-const USAGE: &str = "usage: second calls | run | make calls CASES SEED | make edges | make listing SEED DIR";
+const USAGE: &str = "usage: second calls | run | make calls CASES SEED | make edges | make texts CASES SEED \
+                     | make text-edges | make listing SEED DIR";
 
 fn main() -> ExitCode {
     let arguments: Vec<String> = std::env::args().skip(1).collect();
@@ -35,6 +41,11 @@ fn main() -> ExitCode {
             _ => return misused(),
         },
         ["make", "edges"] => print_lines(&mut out, make::edges::lines()),
+        ["make", "texts", cases, seed] => match (cases.parse(), seed.parse()) {
+            (Ok(cases), Ok(seed)) => print_lines(&mut out, make::texts::lines(cases, seed)),
+            _ => return misused(),
+        },
+        ["make", "text-edges"] => print_lines(&mut out, make::text_edges::lines()),
         ["make", "listing", seed, dir] => match seed.parse() {
             Ok(seed) => make::listings::write(seed, Path::new(dir)),
             Err(_) => return misused(),

@@ -9,6 +9,9 @@ pub use rest::keep_rest;
 // A proved loop has to end, so it counts its turns, up to a number that no run reaches.
 pub const TURNS: usize = 140737488355328;
 
+// Room for the line of a refused table.
+const LINE: usize = 1080;
+
 // How many bytes a call moved, or that it failed.
 pub struct Moved {
     pub failed: bool,
@@ -35,6 +38,37 @@ pub fn read_some(file: i32, room: &mut [u8]) -> Moved
         failed: true,
         count: 0,
     }
+}
+
+// The bytes of `table.bin` at the start of the room; none if it can't be read.
+pub fn read_table(room: &mut [u8]) -> usize
+    ensures { λ r. ⌜ r ≤ length (now (room .exit)) ⌝ }
+{
+    let file = os::open_read(b"table.bin");
+    if file < 0 {
+        return 0;
+    }
+    let length = read_all(file, room);
+    libc::close(file);
+    length
+}
+
+// Reads until the room is full or the file ends; none if a read fails.
+fn read_all(file: i32, room: &mut [u8]) -> usize
+    ensures { λ r. ⌜ r ≤ length (now (room .exit)) ⌝ }
+{
+    let mut done = 0;
+    while done < room.len() {
+        let got = read_some(file, &mut room[done..]);
+        if got.failed {
+            return 0;
+        }
+        if got.count == 0 {
+            break;
+        }
+        done += got.count;
+    }
+    done
 }
 
 // Writes a text to standard output and answers how much of it could be written.
@@ -66,4 +100,13 @@ fn write_some(text: &[u8]) -> usize
         }
     }
     0
+}
+
+// Tells that a table is refused, and answers how much of that line could be written.
+pub fn tell_table_refused(refusal: usize, index: usize) -> usize
+    ensures { λ r. ⌜ r ≤ 1080 ⌝ }
+{
+    let mut line = [0u8; LINE];
+    let n = listing::write_table_refused(&mut line, refusal, index);
+    write_out(&line[..n])
 }

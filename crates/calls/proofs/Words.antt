@@ -7,17 +7,17 @@ use native.Mathlib.Omega.{arith}
 use native.Mathlib.Numerals.{add-one}
 use lib.ListN.{length, getD, set, take, drop, length-append}
 use lib.Dec.{leb, ltb, eqb}
-use lib.Seq.{sets, take-length, take-suc, drop-cons, set-at, append-snoc}
+use lib.Seq.{sets, length-take-le, take-length, take-suc, drop-cons, set-at, append-snoc}
 use borrow.Author.Tests.{lt-ltb, le-leb, eq-eqb, ne-eqb, ltb-true, ltb-false, leb-true, eqb-true}
 use Rattle.events.specs.Events.{Events, none}
 use Rattle.events.specs.Members.{places}
-use Rattle.listing.specs.Decimal.{decimal}
-use Rattle.listing.specs.Text.{bytes, space, comma}
+use Rattle.letters.specs.Decimal.{decimal}
+use Rattle.letters.specs.Text.{bytes, space, comma}
 use Rattle.listing.specs.Input.{Under, withAll}
 use Rattle.listing.specs.Output.{listed}
 use Rattle.listing.specs.Inside.{Named, Puts}
 use Rattle.listing.proofs.Puts.{puts-none, puts-more}
-use Rattle.calls.specs.Words.{isDash, firsts, WordRead, ListRead, spelled, word, spaced}
+use Rattle.calls.specs.Words.{isDash, firsts, Counted, ListRead, spelled, word, spaced}
 use Rattle.calls.specs.Inside.{fitting}
 
 false≢true : {A : Type 0} → false ≡ true → A
@@ -61,11 +61,8 @@ all-more value limit i all h k l = go (ltb k i) refl
     go true e = all k (ltb-true k i e)
     go false e = let least = ltb-false k i e in let same : i ≡ k = omega arith in subst (λ (j : ℕ). value j < limit) same h
 
--- no more numbers are read than the room has places
-pub count-within : {width limit : ℕ} {value : ℕ → ℕ} {text old new : List ℕ} {good : Bool} {n : ℕ} → WordRead width limit value text old new good n → n ≤ length old
-count-within (WordRead.no-number e) = omega arith
-count-within (WordRead.numbers n e l p q a) = q
-count-within (WordRead.not-a-word new e a) = omega arith
+pub counted : (n : ℕ) (room : List ℕ) → n ≤ length room → Counted n room
+counted n room h = (h, sym (length-take-le n room h))
 
 -- the list of no event
 pub dash-is : (text : List ℕ) → isDash text ≡ true → text ≡ bytes "-"

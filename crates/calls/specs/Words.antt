@@ -3,12 +3,13 @@ use Prim.Native.Nat.{ℕ, zero, suc, _+_, _-_, _*_, _/_, _%_, _≤_, _<_}
 use mathlib.Core.Path.{_≡_}
 use mathlib.Core.Bool.{Bool, true, false, cond, _&&_}
 use mathlib.Core.List.{List, [], _∷_, _++_}
-use lib.ListN.{length, getD, drop}
+use lib.ListN.{length, getD, take, drop}
 use lib.Dec.{leb, ltb, eqb}
+use Rattle.bytes.specs.Bytes.{indexOf}
 use Rattle.events.specs.Events.{Events, none}
 use Rattle.events.specs.Members.{places}
-use Rattle.listing.specs.Decimal.{decimal}
-use Rattle.listing.specs.Text.{bytes, space}
+use Rattle.letters.specs.Decimal.{decimal}
+use Rattle.letters.specs.Text.{bytes, space}
 use Rattle.listing.specs.Input.{Under, withAll}
 use Rattle.listing.specs.Output.{listed}
 
@@ -46,6 +47,29 @@ pub data WordRead (width limit : ℕ) (value : ℕ → ℕ) (text old : List ℕ
   not-a-word : (new : List ℕ) → isDash text ≡ false
       → ((n : ℕ) → length text ≡ width * n → 0 < n → n ≤ length old → (i : ℕ) × (i < n) × (limit ≤ value i))
       → WordRead width limit value text old new false 0
+
+-- the room has so many numbers at its start; the second part follows from the first, and lending those numbers asks for both
+abbrev pub Counted : ℕ → List ℕ → Type 0
+Counted n room = (n ≤ length room) × (n ≡ length (take n room))
+
+-- reading BYTES
+abbrev pub BytesRead : List ℕ → List ℕ → List ℕ → Bool → ℕ → Type 0
+BytesRead text = WordRead 2 256 (λ i. byteAt text (2 * i)) text
+
+-- where the first word of a text ends: at its first space
+abbrev pub wordEnd : List ℕ → ℕ
+wordEnd text = indexOf space text
+
+-- Reading two words of BYTES, a space between them, into rooms a and b, which hold a′ and b′ afterwards: whether there are two, and how many bytes
+-- each spells. Where the first is none that its room has place for, the second is not read.
+pub data PairRead (text a b : List ℕ) : List ℕ → List ℕ → Bool → ℕ → ℕ → Type 0 where
+  one-word : length text ≤ wordEnd text → PairRead text a b a b false 0 0
+  bad-first : {a′ : List ℕ} {n : ℕ} → wordEnd text < length text → BytesRead (take (wordEnd text) text) a a′ false n
+      → PairRead text a b a′ b false 0 0
+  bad-second : {a′ b′ : List ℕ} {n m : ℕ} → wordEnd text < length text → BytesRead (take (wordEnd text) text) a a′ true n
+      → BytesRead (drop (wordEnd text + 1) text) b b′ false m → PairRead text a b a′ b′ false 0 0
+  two-words : {a′ b′ : List ℕ} {n m : ℕ} → wordEnd text < length text → BytesRead (take (wordEnd text) text) a a′ true n
+      → BytesRead (drop (wordEnd text + 1) text) b b′ true m → PairRead text a b a′ b′ true n m
 
 -- reading EVENTS: whether a text is such a list, and the events that it names
 pub data ListRead (text : List ℕ) : Bool → Events → Type 0 where

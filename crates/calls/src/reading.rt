@@ -2,10 +2,11 @@
 ghost use mathlib.Core.Path.{_≡_};
 ghost use mathlib.Core.Bool.{true, false};
 ghost use Prim.Native.Nat.{_+_, _*_, _<_, _≤_};
-ghost use lib.ListN.{length, getD};
+ghost use lib.ListN.{length};
 ghost use Rattle.events.specs.Members.{members};
-ghost use Rattle.calls.specs.Words.{figure16, byteAt, numberAt, isDash, WordRead, ListRead};
+ghost use Rattle.calls.specs.Words.{figure16, byteAt, numberAt, isDash, WordRead, BytesRead, PairRead, Counted, ListRead};
 ghost use Rattle.calls.specs.Inside.{fitting};
+use bytes::scan::find;
 use events::EventSet;
 use listing::LineRead;
 
@@ -17,8 +18,8 @@ pub struct Amount {
 
 // Reads bytes into the start of a room.
 pub fn read_bytes(text: &[u8], room: &mut [u8]) -> Amount
-    ensures { λ r.
-        ⌜ WordRead 2 256 (λ i. byteAt (now (text .entry)) (2 * i)) (now (text .entry)) (now (room .entry)) (now (room .exit)) (r .good) (r .count) ⌝ }
+    ensures { λ r. ⌜ BytesRead (now (text .entry)) (now (room .entry)) (now (room .exit)) (r .good) (r .count) ⌝ }
+    ensures { λ r. ⌜ Counted (r .count) (now (room .exit)) ⌝ }
 {
     if is_dash(text) {
         return Amount {
@@ -43,10 +44,51 @@ pub fn read_bytes(text: &[u8], room: &mut [u8]) -> Amount
     unread()
 }
 
+// Whether a text is two such words, a space between them, and how many bytes each spells.
+pub struct Pair {
+    pub good: bool,
+    pub first: usize,
+    pub second: usize,
+}
+
+// Reads the bytes of two words into the starts of two rooms.
+pub fn read_pair(text: &[u8], first: &mut [u8], second: &mut [u8]) -> Pair
+    ensures { λ r.
+        ⌜ PairRead
+        (now (text .entry))
+        (now (first .entry))
+        (now (second .entry))
+        (now (first .exit))
+        (now (second .exit))
+        (r .good)
+        (r .first)
+        (r .second) ⌝ }
+    ensures { λ r. ⌜ Counted (r .first) (now (first .exit)) × Counted (r .second) (now (second .exit)) ⌝ }
+{
+    let end = find(text, 0, text.len(), 32);
+    if text.len() <= end {
+        return unread_pair();
+    }
+    let a = read_bytes(&text[..end], first);
+    if !a.good {
+        return unread_pair();
+    }
+    let b = read_bytes(&text[end + 1..], second);
+    if !b.good {
+        return unread_pair();
+    }
+    Pair {
+        good: true,
+        first: a.count,
+        second: b.count,
+    }
+}
+
 // Reads a row's numbers into the start of a room.
 pub fn read_row(text: &[u8], room: &mut [u16]) -> Amount
     ensures { λ r.
         ⌜ WordRead 4 65536 (λ i. numberAt (now (text .entry)) (4 * i)) (now (text .entry)) (now (room .entry)) (now (room .exit)) (r .good) (r .count) ⌝ }
+    ensures { λ r. ⌜ Counted (r .count) (now (room .exit)) ⌝ }
 {
     if is_dash(text) {
         return Amount {
@@ -90,6 +132,16 @@ fn unread() -> Amount
     Amount {
         good: false,
         count: 0,
+    }
+}
+
+fn unread_pair() -> Pair
+    ensures { λ r. ⌜ (r .good ≡ false) × (r .first ≡ 0) × (r .second ≡ 0) ⌝ }
+{
+    Pair {
+        good: false,
+        first: 0,
+        second: 0,
     }
 }
 

@@ -7,17 +7,13 @@ use native.Mathlib.Omega.{arith}
 use lib.ListN.{length, getD, take, drop, drop-of-length-le}
 use lib.Seq.{length-take-le, take-all}
 use Rattle.events.specs.Events.{Events}
-use Rattle.junior.specs.Term.{Term, prog}
-use Rattle.junior.specs.AtRest.{AtRest}
 use Rattle.table.specs.Records.{nodes}
-use Rattle.table.specs.Spells.{treeOf}
 use Rattle.steps.specs.StateBytes.{stateBytes}
 use Rattle.kernel.specs.declared.Outcome.the-variants.{Ran}
 use Rattle.kernel.specs.declared.Answer.{Answer}
-use Rattle.kernel.specs.Resting.{blamed}
 use Rattle.kernel.specs.Answer.{instantOutcome, Run, Refused, Answered}
 use Rattle.kernel.specs.Passes.{Startable}
-use Rattle.kernel.proofs.Accepted.{Admitted, admitted}
+use Rattle.kernel.proofs.Accepted.{admitted}
 use Rattle.kernel.proofs.Outcomes.{Passed}
 use Rattle.kernel.proofs.Standing.{standing}
 
@@ -30,6 +26,7 @@ startable t s p b =
       term = x;
       program = program;
       placed = rw program (o .placed);
+      loops = rw program (o .loops);
       long = length-take-le (4 * nodes t) s (p .room);
       bytes = bytes;
       at-rest = at-rest;

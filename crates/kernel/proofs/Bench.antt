@@ -6,7 +6,7 @@ use native.Mathlib.Omega.{arith}
 use lib.ListN.{length, replicate, length-replicate, drop-of-length-le}
 use Rattle.events.specs.Events.{put, lowest}
 use Rattle.junior.specs.Configuration.{test, fixed, eval}
-use Rattle.junior.specs.Program.{Program, size, kind}
+use Rattle.junior.specs.Program.{size, kind}
 use Rattle.junior.specs.Term.{Term, prog, fresh, leave}
 use Rattle.junior.specs.Trace.{collect}
 use Rattle.junior.specs.Figures.{stops, LoopsStop, figure}
@@ -56,7 +56,7 @@ goes t x o a (y ∷ l) p e =
 
 -- the program of an accepted table, fresh
 loops : (t : List ℕ) {g a w : ℕ} → verdictOf t ≡ Accepted g a w → LoopsStop (prog (fresh (treeOf t)))
-loops t v = loops-fresh (treeOf t) (admitted t v .placed .loops)
+loops t v = loops-fresh (treeOf t) (admitted t v .loops)
 
 starts : (t : List ℕ) {g a w : ℕ} → verdictOf t ≡ Accepted g a w
     → Started t (replicate (4 * nodes t) 255) (replicate (4 * nodes t) 0) Ran

@@ -18,14 +18,14 @@ use Rattle.junior.specs.Term.{repeat0, repeat1, when0, when1, when2, until0, un
 use Rattle.junior.specs.AtRest.{AtRest, Waiting, Over}
 use Rattle.table.specs.Records.{nodes, secondAt}
 use Rattle.table.specs.Spells.{Spells, treeOf}
+use Rattle.table.specs.Inside.{Placed}
+use Rattle.table.proofs.Tree.{size-pos, written, second-is, second}
+use Rattle.table.proofs.Loaded.{all-nodes}
 use Rattle.steps.specs.StateBytes.{Own, head, code, before, in-phase, zeros, below, stateBytes}
-use Rattle.steps.specs.Running.{Placed}
-use Rattle.steps.proofs.Parts.{blank, blank-below, blank-both, size-pos, len-bytes}
-use Rattle.steps.proofs.Frames.{written}
+use Rattle.steps.proofs.Parts.{blank, blank-below, blank-both, len-bytes}
 use Rattle.kernel.specs.Resting.{phaseAt, firstZero, secondZero, belowZero, phaseRests}
 use Rattle.kernel.specs.Resting.{flagsRest, countRests, rests, blamed}
 use Rattle.kernel.proofs.NodeBytes.{bytesAt, Owns, both-parts, node-owns, bytes-zero, first-byte}
-use Rattle.kernel.proofs.Standing.{second-is, second, all-nodes}
 
 module _ (t s : List ℕ) (long : 4 * nodes t ≤ length s) where
   -- of the n nodes from i on none is to blame
@@ -295,7 +295,7 @@ module _ (t s : List ℕ) (long : 4 * nodes t ≤ length s) where
 pub resting : (t s : List ℕ) → Placed t 0 (treeOf t) → (x : Term) → prog x ≡ treeOf t → take (4 * nodes t) s ≡ stateBytes x → AtRest x
     → blamed t s ≡ nodes t
 resting t s p x e b a =
-    let n : size (prog x) ≡ nodes t = ap size e ∙ all-nodes t (treeOf t) p in
+    let n : size (prog x) ≡ nodes t = ap size e ∙ all-nodes p in
     let w : min (4 * nodes t) (length s) ≡ 4 * size (prog x) = sym (length-take (4 * nodes t) s) ∙ (ap (λ l. length l) b ∙ len-bytes x) in
     let long : 4 * nodes t ≤ length s = omega arith in
     let c = calm t s long x 0 (rw e (p .spelled)) (omega arith) (rw n b) a in

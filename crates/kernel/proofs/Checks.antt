@@ -24,6 +24,7 @@ use Rattle.table.specs.Spells.{treeOf}
 use Rattle.table.specs.Verdict.{lengthGood, countsGood, distancesGood, Node, preorder, firstSuch, deep, endlessLoop}
 use Rattle.table.specs.Verdict.{endless, light}
 use Rattle.table.specs.Verdict.{numberOf, indexOf}
+use Rattle.table.proofs.Laid.{both}
 use Rattle.kernel.specs.declared.Outcome.{Outcome}
 use Rattle.kernel.specs.declared.Outcome.the-variants.{Table, StateRoom, NotAtRest, UnlistedEvent, AtomRoom}
 use Rattle.kernel.specs.Resting.{rests, blamed}
@@ -32,7 +33,6 @@ use Rattle.kernel.specs.Demand1.{Handed, LowestBad, LowestNode, Endless,
 use Rattle.kernel.specs.Demand1.{its-distances}
 use Rattle.kernel.specs.Demand1.{its-configurations, its-nodes, its-depth, its-loops, its-figures, state-room}
 use Rattle.kernel.specs.Demand1.{state-at-rest, listed-events, atom-room, number, Fails}
-use Rattle.kernel.proofs.Accepted.{both}
 
 -- the test of a check, and the outcome where it is false
 abbrev pub ok : Check → Handed → Bool
@@ -109,7 +109,7 @@ module _ (X : Events) (v n : ℕ) where
       × ((e : ℕ) → e < lowest n (λ e. X e && leb v e) → X e ≡ true → e < v)
   lowest-unlisted h =
       let inside = ltb-true (lowest n (λ e. X e && leb v e)) n (not-false _ h) in
-      let (there, high) = both (X _) (leb v _) (at-lowest n (λ e. X e && leb v e) inside) in (
+      let (there, high) = both {a = X _} (at-lowest n (λ e. X e && leb v e) inside) in (
         inside,
         there,
         leb-true v _ high,

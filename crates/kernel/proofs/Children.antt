@@ -1,45 +1,23 @@
 -- The children of a node of a loaded table: where they stand, and that no subtree goes past the last node.
 use Prim.Native.Nat.{ℕ, zero, suc, _+_, _≤_, _<_}
-use mathlib.Core.Bool.{true, _||_}
-use mathlib.Core.Path.{_≡_, refl, subst}
+use mathlib.Core.Path.{_≡_, subst}
 use mathlib.Core.List.{List}
 use native.Mathlib.Omega.{arith}
 use native.Mathlib.Decide.{ℕ-discrete, decLt}
-use lib.Dec.{eqb, leb, ltb}
-use borrow.Author.Tests.{eqb-true}
-use Rattle.table.specs.Records.{nodes, kindAt, zeroAt, argumentAt, sizeAt, secondAt}
-use Rattle.table.specs.Good.{goodNode, children, argumentLimit, laidOut}
-use Rattle.table.proofs.Laid.{both, Laid, none, one, two, laid}
-use Rattle.steps.specs.Running.{Loaded}
-
--- a good record is laid out as its kind wants, and record 0 is the whole tree
-good-laid : (t : List ℕ) (i : ℕ) → goodNode t i ≡ true
-    → (laidOut (sizeAt t) (nodes t) i (children (kindAt t i)) ≡ true) × ((ltb 0 i || eqb (sizeAt t i) (nodes t)) ≡ true)
-unfolding goodNode
-good-laid t i g =
-    let k = both {a = leb (kindAt t i) 12} g in
-    let z = both {a = eqb (zeroAt t i) 0} (k .1) in
-    both (both {a = ltb (argumentAt t i) (argumentLimit t (kindAt t i))} (z .1) .1)
+use Rattle.table.specs.Records.{nodes, kindAt, sizeAt, secondAt}
+use Rattle.table.specs.Good.{children}
+use Rattle.table.specs.Inside.{Loaded}
+use Rattle.table.specs.Inside.Weighing.{treeAt}
+use Rattle.table.proofs.Laid.{Laid, none, one, two}
+use Rattle.table.proofs.Tree.{size-pos}
+use Rattle.table.proofs.Loaded.{fine-node, node-placed, size-of}
 
 module _ {t : List ℕ} (l : Loaded t) where
   laid-at : (i : ℕ) → i < nodes t → Laid (sizeAt t) (nodes t) i (children (kindAt t i))
-  laid-at i h = laid _ _ _ _ (good-laid t i (l .nodes-good i h) .0)
-
-  pub whole : sizeAt t 0 ≡ nodes t
-  whole = eqb-true _ _ (good-laid t 0 (l .nodes-good 0 (l .framed .n-least)) .1)
-
-  ends-by : (f i : ℕ) → nodes t ≤ f + i → i < nodes t → i + sizeAt t i ≤ nodes t
-  ends-by zero i g h = absurd (omega arith)
-  ends-by (suc f) i g h = go (children (kindAt t i)) (laid-at i h) (λ j a b. ends-by f j (omega arith) b)
-    where
-      go : (c : ℕ) → Laid (sizeAt t) (nodes t) i c → ((j : ℕ) → i < j → j < nodes t → j + sizeAt t j ≤ nodes t)
-          → i + sizeAt t i ≤ nodes t
-      go c (none s) later = omega arith
-      go c (one n s) later = omega (arith, later (i + 1) (omega arith) n)
-      go c (two n m s) later = omega (arith, later (secondAt t i) (omega arith) m)
+  laid-at i h = fine-node l i h .laid-out
 
   pub ends : (i : ℕ) → i < nodes t → i + sizeAt t i ≤ nodes t
-  ends i h = ends-by (nodes t) i (omega arith) h
+  ends i h = let p = node-placed l i h in omega (arith, size-of p, p .inside)
 
   -- a subtree lies within those around it
   nested-by : (f i : ℕ) → nodes t ≤ f + i → i < nodes t → (k : ℕ) → i ≤ k → k < i + sizeAt t i → k + sizeAt t k ≤ i + sizeAt t i
@@ -61,12 +39,7 @@ module _ {t : List ℕ} (l : Loaded t) where
   nested i h = nested-by (nodes t) i (omega arith) h
 
   pub starts : (i : ℕ) → i < nodes t → 1 ≤ sizeAt t i
-  starts i h = go (children (kindAt t i)) (laid-at i h)
-    where
-      go : (c : ℕ) → Laid (sizeAt t) (nodes t) i c → 1 ≤ sizeAt t i
-      go c (none s) = omega arith
-      go c (one n s) = omega arith
-      go c (two n m s) = omega arith
+  starts i h = omega (arith, size-of (node-placed l i h), size-pos (treeAt t i))
 
 -- node i has one child
 pub record Body (t : List ℕ) (i : ℕ) : Type 0 where

@@ -1,5 +1,5 @@
 -- Demand 1: each call's outcome is that of the first of its checks that fails; a refusal writes nothing; what runs is the whole table.
-use Prim.Native.Nat.{ℕ, zero, suc, _-_}
+use Prim.Native.Nat.{ℕ, _-_}
 use mathlib.Core.Bool.{Bool, true, false, cond, not, false≢true}
 use mathlib.Core.Path.{_≡_, refl, ap, sym, _∙_}
 use mathlib.Core.Logic.{_≢_, _⊎_, inl, inr}
@@ -28,7 +28,7 @@ use Rattle.kernel.specs.Answer.{unlisted, instantOutcome}
 use Rattle.kernel.specs.Demand1.{Handed, handed, Check, its-length, its-counts, its-distances}
 use Rattle.kernel.specs.Demand1.{its-configurations}
 use Rattle.kernel.specs.Demand1.{its-nodes, its-depth, its-loops, its-figures, state-room, state-at-rest}
-use Rattle.kernel.specs.Demand1.{listed-events, atom-room, number, Fails, Passes, FirstToFail, AllPassed}
+use Rattle.kernel.specs.Demand1.{listed-events, atom-room, number, Passes, FirstToFail, AllPassed}
 use Rattle.kernel.specs.Demand1.{ByFirstCheck, checks-of-table, checks-of-start, checks-of-instant, Whole}
 use Rattle.kernel.specs.Demand1.{Demand1}
 use Rattle.kernel.proofs.Accepted.{Admitted, admitted}

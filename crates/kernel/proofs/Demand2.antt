@@ -1,18 +1,17 @@
 -- Demand 2: the answer is what the rules give, by the contract of `instant`; there is one such term and one such result.
 use Prim.Native.Nat.{ℕ, _*_, _≤_, _<_}
 use mathlib.Core.Bool.{Bool, true, false, _&&_}
-use mathlib.Core.Path.{_≡_, refl, ap, sym, subst, _∙_}
+use mathlib.Core.Path.{_≡_, refl, sym, subst, _∙_}
 use mathlib.Core.List.{List, _++_}
 use native.Mathlib.Omega.{arith}
 use lib.Dec.{leb}
-use lib.ListN.{length, take, drop}
+use lib.ListN.{length, drop}
 use lib.Seq.{take-at, drop-at}
 use borrow.Author.Tests.{lt-leb}
 use Rattle.events.specs.Events.{Events}
 use Rattle.events.specs.Members.{places}
 use Rattle.events.proofs.Events.{lowest-is}
 use Rattle.junior.specs.Configuration.{handed-in}
-use Rattle.junior.specs.Term.{Term, prog}
 use Rattle.junior.specs.Trace.{atoms}
 use Rattle.junior.specs.Rules.{Result}
 use Rattle.junior.specs.Instant.{Instant}
@@ -20,7 +19,6 @@ use Rattle.junior.proofs.Deterministic.{one-outcome}
 use Rattle.junior.proofs.Going.{program-kept}
 use Rattle.junior.proofs.AsPrinted.{instant-as-printed}
 use Rattle.table.specs.Records.{nodes, events}
-use Rattle.table.specs.Spells.{treeOf}
 use Rattle.steps.specs.StateBytes.{stateBytes}
 use Rattle.steps.proofs.Parts.{len-bytes}
 use Rattle.kernel.specs.declared.Outcome.the-variants.{Ran}

@@ -1,14 +1,10 @@
 -- Demand 3, of every answer: by the contract of `instant` and demand 3 of the definitions.
 use Prim.Native.Nat.{ℕ, _*_}
-use mathlib.Core.Path.{_≡_, refl, sym, subst, _∙_}
+use mathlib.Core.Path.{_≡_, sym, _∙_}
 use mathlib.Core.List.{List}
 use native.Mathlib.Omega.{arith}
 use Rattle.events.specs.Events.{Events}
-use Rattle.junior.specs.Term.{prog}
-use Rattle.junior.specs.Figures.{LoopsStop}
-use Rattle.junior.specs.Decided.{DecidedRight}
 use Rattle.junior.proofs.Demand3.{demand-3 as by-the-rules}
-use Rattle.table.specs.Records.{nodes}
 use Rattle.kernel.specs.declared.Answer.{Answer}
 use Rattle.kernel.specs.Answer.{Answered}
 use Rattle.kernel.specs.Demand2.{Premises}
@@ -23,7 +19,7 @@ demand-3 {t} {s} {X} {s′ = s′} {a = a} p o =
     let ran = o .outcome-is ∙ sym (runs p) in
     let r = o .ran ran in
     let accepted = admitted t (p .accepted) in
-    let settled = by-the-rules (r .term) X (rw (r .program) (accepted .placed .loops)) (r .at-rest) .settled (r .instant) in
+    let settled = by-the-rules (r .term) X (rw (r .program) (accepted .loops)) (r .at-rest) .settled (r .instant) in
     let next = gives p r .next-state in
     record {
       ran = ran;

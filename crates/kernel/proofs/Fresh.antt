@@ -6,17 +6,17 @@ use mathlib.Core.List.{List}
 use native.Mathlib.Omega.{arith}
 use lib.Dec.{eqb}
 use borrow.Author.Tests.{eqb-true}
-use Rattle.table.specs.Records.{nodes, kindAt, argumentAt, sizeAt}
+use Rattle.table.specs.Records.{nodes, kindAt, sizeAt}
 use Rattle.table.specs.Good.{children}
+use Rattle.table.specs.Inside.{Loaded}
 use Rattle.table.proofs.Laid.{both}
-use Rattle.steps.specs.Running.{Loaded}
-use Rattle.kernel.specs.Resting.{phaseAt, flagsAt, countAt, zeroNode, firstZero, secondZero, belowZero}
+use Rattle.kernel.specs.Resting.{zeroNode, firstZero, secondZero, belowZero}
 use Rattle.kernel.specs.Resting.{phaseRests}
 use Rattle.kernel.specs.Resting.{flagsRest, countRests, rests}
 use Rattle.kernel.specs.Inside.{Judged}
 use Rattle.kernel.proofs.Little.{cond-same}
 use Rattle.kernel.proofs.Zeros.{zero-bytes, zero-all}
-use Rattle.kernel.proofs.Children.{body, pair, nested, starts, ends}
+use Rattle.kernel.proofs.Children.{body, pair, nested, ends}
 use Rattle.kernel.proofs.Near.{body-below, pair-below}
 use Rattle.kernel.proofs.Firsts.{Hold, hold-join}
 

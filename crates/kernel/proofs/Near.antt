@@ -8,7 +8,7 @@ use lib.Dec.{leb}
 use lib.ListN.{length}
 use borrow.Author.Tests.{leb-true, leb-false}
 use Rattle.table.specs.Records.{nodes, sizeAt, secondAt}
-use Rattle.steps.specs.Running.{Loaded}
+use Rattle.table.specs.Inside.{Loaded}
 use Rattle.kernel.specs.Resting.{zeroNode, zeroNodes, firstZero, secondZero, belowZero}
 use Rattle.kernel.specs.Inside.{Nearest, ZeroFrom, Tells, Judged, Judging}
 use Rattle.kernel.proofs.Zeros.{zero-all, zero-not, zero-split}

@@ -1,6 +1,6 @@
 -- A state's bytes, node by node: a node's own four, then those of the nodes below it.
 use Prim.Native.Nat.{ℕ, zero, suc, _+_, _*_, _/_, _%_, _≤_, _<_}
-use mathlib.Core.Bool.{Bool, true, false, _&&_, _||_, false≢true}
+use mathlib.Core.Bool.{Bool, true, false, _||_}
 use mathlib.Core.Path.{_≡_, refl, sym, ap, ap₂, _∙_}
 use mathlib.Core.List.{List, _∷_, _++_}
 use native.Mathlib.Nat.{div-add-mod'}
@@ -10,15 +10,12 @@ use lib.Seq.{getD-take, getD-drop, drop-drop, take-add}
 use lib.Dec.{eqb}
 use borrow.Author.Tests.{eqb-true}
 use Rattle.table.specs.Records.{byte}
+use Rattle.table.proofs.Laid.{both}
 use Rattle.steps.specs.StateBytes.{Own, before, in-phase}
 use Rattle.steps.proofs.Parts.{blank, blank-below, own-of, own-below}
 use Rattle.kernel.specs.Resting.{phaseAt, flagsAt, countAt, zeroNode, zeroNodes}
 
--- tests taken apart
-pub both-true : (a b : Bool) → (a && b) ≡ true → (a ≡ true) × (b ≡ true)
-both-true true b e = (refl, e)
-both-true false b e = absurd (false≢true e)
-
+-- a test taken apart
 pub either-true : {A : Type 0} (a b : Bool) → (a || b) ≡ true → (a ≡ true → A) → (b ≡ true → A) → A
 either-true true b e f g = f refl
 either-true false b e f g = g e
@@ -83,9 +80,9 @@ pub zero-bytes : (s : List ℕ) → ((i : ℕ) → byte s i < 256) → (i n : �
 unfolding zeroNodes zeroNode
 zero-bytes s small i zero h e = refl
 zero-bytes s small i (suc n) h e =
-    let (own, rest) = both-true (zeroNode s i) (zeroNodes s (i + 1) n) e in
-    let (p, more) = both-true (eqb (phaseAt s i) 0) (eqb (flagsAt s i) 0 && eqb (countAt s i) 0) own in
-    let (f, c) = both-true (eqb (flagsAt s i) 0) (eqb (countAt s i) 0) more in
+    let (own, rest) = both {a = zeroNode s i} e in
+    let (p, more) = both {a = eqb (phaseAt s i) 0} own in
+    let (f, c) = both {a = eqb (flagsAt s i) 0} more in
     let is : Owns s i (in-phase 0) = (eqb-true (phaseAt s i) 0 p, eqb-true (flagsAt s i) 0 f, eqb-true (countAt s i) 0 c) in
     let k : suc n ≡ 1 + n = omega arith in
     let b = zero-bytes s small (i + 1) n (omega arith) rest in

@@ -1,6 +1,5 @@
 -- No input of check, start or instant allows two answers or two contents of a room.
 use mathlib.Core.Path.{_≡_, refl, ap, sym, _∙_}
-use mathlib.Core.Bool.{Bool}
 use mathlib.Core.Logic.{_≢_, _⊎_, inl, inr}
 use mathlib.Core.List.{List, _++_}
 use Prim.Native.Nat.{ℕ, suc, _*_, _^_, _<_}
@@ -10,11 +9,7 @@ use Rattle.events.specs.declared.EventSet.{EventSet}
 use Rattle.events.specs.Events.{Events, howMany, lowest}
 use Rattle.events.specs.Members.{places, members}
 use Rattle.events.proofs.Sets.{Whole, same-members}
-use Rattle.junior.specs.Term.{Term}
 use Rattle.junior.specs.Trace.{atoms}
-use Rattle.junior.specs.Configuration.{handed-in}
-use Rattle.junior.specs.Rules.{Result}
-use Rattle.junior.specs.Instant.{Instant}
 use Rattle.junior.proofs.Deterministic.{one-outcome}
 use Rattle.table.specs.declared.Checked.{Checked}
 use Rattle.table.specs.Records.{nodes}

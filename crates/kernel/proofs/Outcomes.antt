@@ -18,13 +18,13 @@ use Rattle.table.specs.declared.Checked.the-variants.{TooDeep, EndlessLoop, Too
 use Rattle.table.specs.Records.{nodes}
 use Rattle.table.specs.Verdict.{no-figures, figuresOf, verdictOf}
 use Rattle.table.proofs.Checked.{the-type as verdict-type}
+use Rattle.table.proofs.Accepted.{chosen, passed}
 use Rattle.kernel.specs.declared.Outcome.{Outcome}
 use Rattle.kernel.specs.declared.Outcome.the-variants.{Ran, Table, StateRoom, NotAtRest, UnlistedEvent}
 use Rattle.kernel.specs.declared.Outcome.the-variants.{AtomRoom}
 use Rattle.kernel.specs.Resting.{rests, blamed}
 use Rattle.kernel.specs.Answer.{onAccepted, hasRoom, startOutcome, unlisted, instantOutcome}
 use Rattle.kernel.proofs.Outcome.{the-type as outcome-type}
-use Rattle.kernel.proofs.Accepted.{chosen, passed}
 
 -- the arm of a match on a verdict beside the accepted one
 refused-arm : (c : Checked) → OneOf (0 ∷ 1 ∷ 2 ∷ 3 ∷ 4 ∷ 5 ∷ 6 ∷ 7 ∷ []) (tagOf verdict-type c) → (go : ℕ → Outcome)
@@ -108,10 +108,11 @@ pub all-passed : (t s : List ℕ) (X : Events) (row : List ℕ) → instantOutco
 unfolding instantOutcome
 all-passed t s X row e =
     let (g, a, w, v, go) = accepted (verdictOf t) _ e in
-    let roomy = chosen (hasRoom t s) go (λ z. let n : _≡_ {A = ℕ} 0 1 = cc in omega arith) in
-    let resting = passed (ltb (blamed t s) (nodes t)) (roomy .1) (λ z. let n : _≡_ {A = ℕ} 0 1 = cc in omega arith) in
-    let listed = passed (ltb (unlisted t X) places) (resting .1) (λ z. let n : _≡_ {A = ℕ} 0 1 = cc in omega arith) in
-    let wide = chosen (leb a (length row)) (listed .1) (λ z. let n : _≡_ {A = ℕ} 0 1 = cc in omega arith) in
+    let Goes : Outcome → Type 0 = λ r. r ≡ Ran in
+    let roomy = chosen Goes (hasRoom t s) go (λ z. let n : _≡_ {A = ℕ} 0 1 = cc in omega arith) in
+    let resting = passed Goes (ltb (blamed t s) (nodes t)) (roomy .1) (λ z. let n : _≡_ {A = ℕ} 0 1 = cc in omega arith) in
+    let listed = passed Goes (ltb (unlisted t X) places) (resting .1) (λ z. let n : _≡_ {A = ℕ} 0 1 = cc in omega arith) in
+    let wide = chosen Goes (leb a (length row)) (listed .1) (λ z. let n : _≡_ {A = ℕ} 0 1 = cc in omega arith) in
     record {
       generations = g;
       most = a;

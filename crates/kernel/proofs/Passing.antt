@@ -1,7 +1,7 @@
 -- An instant in the code's hands: what holds before each pass, what a pass that suspends leaves of it, and what one that ends it gives.
-use Prim.Native.Nat.{ℕ, zero, suc, _+_, _-_, _*_, _≤_}
+use Prim.Native.Nat.{ℕ, suc, _+_, _-_, _*_, _≤_}
 use mathlib.Core.Bool.{Bool, true, false, cond}
-use mathlib.Core.Path.{_≡_, refl, ap, sym, _∙_, subst}
+use mathlib.Core.Path.{_≡_, refl, ap, sym, _∙_}
 use mathlib.Core.Logic.{_≢_}
 use mathlib.Core.List.{List, [], _∷_, _++_, append-assoc, append-nil}
 use native.Mathlib.Nat.{zero-add}
@@ -14,12 +14,12 @@ use borrow.Author.Tests.{ltb-true, ltb-false, ne-eqb, eq-eqb}
 use Rattle.events.specs.Events.{Events}
 use Rattle.events.specs.Members.{places, marks, members}
 use Rattle.junior.specs.declared.Flag.{Flag}
-use Rattle.junior.specs.declared.Flag.the-variants.{SUSP, STOP, TERM}
+use Rattle.junior.specs.declared.Flag.the-variants.{SUSP, TERM}
 use Rattle.junior.specs.Configuration.{Env, handed-in, unmoved, declared-end}
 use Rattle.junior.specs.Program.{Program, size}
 use Rattle.junior.specs.Term.{Term, prog, done}
 use Rattle.junior.specs.Trace.{Act, root, atom-of, atoms, collect}
-use Rattle.junior.specs.Rules.{Result, answers, after, Rewrites}
+use Rattle.junior.specs.Rules.{Result, answers, after}
 use Rattle.junior.specs.Instant.{Instant, r47, r48, r49}
 use Rattle.junior.specs.Figures.{per, G}
 use Rattle.junior.proofs.Little.{collect-++}
@@ -30,9 +30,10 @@ use Rattle.junior.proofs.End.{ended}
 use Rattle.junior.proofs.Figures.{pot, cost-A, suspends, pot-at-rest}
 use Rattle.junior.proofs.Instants.{uses-up, goes-on}
 use Rattle.table.specs.Records.{nodes}
+use Rattle.table.proofs.Tree.{size-pos}
 use Rattle.steps.specs.StateBytes.{zeros, below, stateBytes}
 use Rattle.steps.specs.Running.{atoms-done, envOf, Ready, Ran, Wrote}
-use Rattle.steps.proofs.Parts.{len-bytes, size-pos}
+use Rattle.steps.proofs.Parts.{len-bytes}
 use Rattle.kernel.specs.declared.Answer.{Answer}
 use Rattle.kernel.specs.Answer.{Run, ended as ended-by}
 use Rattle.kernel.specs.Passes.{Startable, Reported}
@@ -135,13 +136,14 @@ module _ {table : List ℕ} {t₀ : Term} {X : Events} {row₀ state words row t
 
     room-left : atoms-done tally′ + pot (per 2) (ran .to) ≤ length row′
     room-left =
-        let spent = suspends (per 2) (ran .rewrites) (u .ready .placed .loops) refl in
+        let spent = suspends (per 2) (ran .rewrites) (u .ready .loops) refl in
         let more = ran .wrote .done-is in
         omega (arith, u .ready .room, cost-A (ran .acts))
 
     ready-again : Ready 0 table 0 state′ words′ row′ (next-tally tally′) (ran .to)
     ready-again = record {
       placed = rw (kept (ran .rewrites)) (u .ready .placed);
+      loops = rw (kept (ran .rewrites)) (u .ready .loops);
       wide = rw (ran .lengths .of-words) (u .ready .wide);
       tallied = simp length-set (ran .lengths .of-tally ∙ u .ready .tallied);
       long = ap length (ran .bytes) ∙ len-bytes (ran .to);
@@ -165,7 +167,7 @@ module _ {table : List ℕ} {t₀ : Term} {X : Events} {row₀ state words row t
     soon-again : (m : Bool) → envOf words′ tally′ .move ≡ m → Soon t₀ (passes + 1) (ran .to) (envOf words′ (next-tally tally′) .eoi)
     soon-again true e =
         let before = rw not-ended at (u .soon) in
-        let spent = uses-up (ran .rewrites) (u .ready .placed .loops) (u .still) refl e in
+        let spent = uses-up (ran .rewrites) (u .ready .loops) (u .still) refl e in
         rw (ap (λ E. E .eoi) (next true e), off) (omega arith)
     soon-again false e =
         let before = rw not-ended at (u .soon) in
@@ -206,6 +208,7 @@ begins words b wide =
       acts = [];
       ready = record {
         placed = b .placed;
+        loops = b .loops;
         wide = wide;
         tallied = refl;
         long = ap length (b .bytes) ∙ len-bytes t;

@@ -5,7 +5,7 @@ use mathlib.Core.Path.{_≡_, refl, sym, ap, ap₂, _∙_}
 use mathlib.Core.List.{List, [], _++_}
 use native.Mathlib.Omega.{arith}
 use lib.ListN.{length, getD, take, replicate}
-use lib.Dec.{eqb, leb, ltb}
+use lib.Dec.{eqb, ltb}
 use borrow.Author.Tests.{eqb-true, ltb-true, not-false}
 use Rattle.events.proofs.Events.{before-lowest}
 use Rattle.junior.specs.declared.Flag.the-variants.{SUSP, TERM}
@@ -14,18 +14,20 @@ use Rattle.junior.specs.Program.{Until, Control, Local, size, kind}
 use Rattle.junior.specs.Term.{Term, done, nothing, stop, atom, generate, await, seq0, seq2, par, loop0, loop1}
 use Rattle.junior.specs.Term.{repeat0, repeat1, when0, when1, when2, until0, until2, control, local, prog}
 use Rattle.junior.specs.AtRest.{AtRest, Over}
-use Rattle.table.specs.Records.{byte, nodes, kindAt, zeroAt, argumentAt, sizeAt, secondAt}
-use Rattle.table.specs.Good.{goodNode, laidOut, children, argumentLimit}
+use Rattle.table.specs.Records.{byte, nodes, kindAt, argumentAt, sizeAt, secondAt}
 use Rattle.table.specs.Spells.{Spells, treeOf}
+use Rattle.table.specs.Inside.{Placed}
+use Rattle.table.proofs.Tree.{size-pos, written, second-is, second}
+use Rattle.table.proofs.Laid.{both}
+use Rattle.table.proofs.Loaded.{all-nodes}
 use Rattle.steps.specs.StateBytes.{Own, head, before, in-phase, zeros, below, stateBytes}
-use Rattle.steps.specs.Running.{Placed}
-use Rattle.steps.proofs.Parts.{blank, size-pos}
+use Rattle.steps.proofs.Parts.{blank}
 use Rattle.steps.proofs.Shape.{Shape, is-done, is-local, shape-by}
-use Rattle.steps.proofs.Frames.{written}
+use Rattle.steps.proofs.Leaves.{no-sign}
 use Rattle.kernel.specs.Resting.{phaseAt, flagsAt, countAt, zeroNodes, firstZero, secondZero, belowZero}
 use Rattle.kernel.specs.Resting.{phaseRests}
 use Rattle.kernel.specs.Resting.{flagsRest, countRests, rests, blamed}
-use Rattle.kernel.proofs.NodeBytes.{both-true, either-true, bytesAt, Owns, both-parts, node-bytes, zero-bytes}
+use Rattle.kernel.proofs.NodeBytes.{either-true, bytesAt, Owns, both-parts, node-bytes, zero-bytes}
 use Rattle.kernel.proofs.NodeBytes.{first-byte}
 
 -- a term of p, at rest, stands at node i
@@ -39,20 +41,9 @@ pub record Stands (s : List ℕ) (i : ℕ) (p : Program) : Type 0 where
 over : (x : Term) → head x .phase ≡ 3 → Over TERM x
 over x e = go (shape-by x refl e)
   where
-    no : (b : Bool) → _≡_ {A = ℕ} (cond b 1 0) 3 → ⊥
-    no true h = omega arith
-    no false h = omega arith
-
     go : {x : Term} {k : ℕ} → Shape x k 3 → Over TERM x
     go (is-done p h) = (p, refl)
-    go (is-local b s t h) = absurd (no b h)
-
--- a second child stands behind all of the first
-pub second-is : (t : List ℕ) (i : ℕ) (p : Program) → Spells t (i + 1) p → secondAt t i ≡ i + 1 + size p
-second-is t i p a = ap (λ n. i + 1 + n) (written t (i + 1) p a)
-
-pub second : (t : List ℕ) (i : ℕ) (p q : Program) → Spells t (i + 1) p → Spells t (secondAt t i) q → Spells t (i + 1 + size p) q
-second t i p q a b = rw (← written t (i + 1) p a) b
+    go (is-local b s t h) = absurd (no-sign b h)
 
 abbrev flagged : ℕ → Own
 flagged n = record { phase = 0; flags = n; count = 0 }
@@ -86,8 +77,8 @@ module _ (t s : List ℕ) (small : (i : ℕ) → byte s i < 256) (long : 4 * nod
           ≡ true
           → Stands s i p
       go true e r =
-          let (a, r1) = both-true _ _ r in
-          let (b, c) = both-true _ _ r1 in
+          let (a, r1) = both r in
+          let (b, c) = both r1 in
           let own : Owns s i (in-phase 3) = (eqb-true _ 3 e, eqb-true _ 0 a, eqb-true _ 0 b) in
           let m : size p ≡ 1 + (size p - 1) = omega (arith, size-pos p) in
           let n : 4 * (size p - 1) ≡ 4 * size p - 4 = omega arith in
@@ -100,8 +91,8 @@ module _ (t s : List ℕ) (small : (i : ℕ) → byte s i < 256) (long : 4 * nod
             at-rest = tt;
           }
       go false e r =
-          let (a, r1) = both-true _ _ (rw ek at r) in
-          let (b, c) = both-true _ _ r1 in
+          let (a, r1) = both (rw ek at r) in
+          let (b, c) = both r1 in
           f (record { phases = a; flags = b; counts = c })
 
   plain : (i : ℕ) → eqb (flagsAt s i) 0 ≡ true → eqb (countAt s i) 0 ≡ true → (n : ℕ) → eqb (phaseAt s i) n ≡ true → Owns s i (in-phase n)
@@ -168,11 +159,11 @@ module _ (t s : List ℕ) (small : (i : ℕ) → byte s i < 256) (long : 4 * nod
       let write = two i (size p) (size q) h in
       either-true _ _ (c .phases)
       (λ e.
-      let (ph, z) = both-true _ _ e in
+      let (ph, z) = both e in
       stand (seq0 (x .term) q) (ap (λ r. Seq r q) (x .of-program))
       (write (in-phase 0) (own 0 ph) _ _ (x .bytes) (none₂ z)) (x .at-rest))
       (λ e.
-      let (ph, z) = both-true _ _ e in
+      let (ph, z) = both e in
       stand (seq2 p (y .term)) (ap (Seq p) (y .of-program)) (write (in-phase 2) (own 2 ph) _ _ (none₁ z) (y .bytes))
       (y .at-rest)))
   find (Par p q) i sp h = split (Par p q) i (sp .0 .0) (sp .0 .1) h (λ c.
@@ -186,11 +177,11 @@ module _ (t s : List ℕ) (small : (i : ℕ) → byte s i < 256) (long : 4 * nod
       (write (flagged 0) (own 0 e) _ _ (x .bytes) (y .bytes)) (tt, tt, tt, x .at-rest, y .at-rest))
       (λ r. either-true _ _ r
       (λ e.
-      let (f, d) = both-true _ _ e in
+      let (f, d) = both e in
       stand (par TERM SUSP (x .term) (y .term)) (ap₂ Par (x .of-program) (y .of-program))
       (write (flagged 2) (own 2 f) _ _ (x .bytes) (y .bytes)) (tt, phase-3 (i + 1) p x d, tt, x .at-rest, y .at-rest))
       (λ e.
-      let (f, d) = both-true _ _ e in
+      let (f, d) = both e in
       stand (par SUSP TERM (x .term) (y .term)) (ap₂ Par (x .of-program) (y .of-program))
       (write (flagged 8) (own 8 f) _ _ (x .bytes) (y .bytes))
       (tt, tt, phase-3 (i + 1 + size p) q y (rw (second-is t i p (sp .1)) at d), x .at-rest, y .at-rest))))
@@ -199,7 +190,7 @@ module _ (t s : List ℕ) (small : (i : ℕ) → byte s i < 256) (long : 4 * nod
       let own = plain i (c .flags) (c .counts) in
       either-true _ _ (c .phases)
       (λ e.
-      let (ph, z) = both-true _ _ e in
+      let (ph, z) = both e in
       stand (loop0 p) refl (one i (size p) h (in-phase 0) (own 0 ph) _ (first-none i p (sp .1) (omega arith) z)) tt)
       (λ ph. stand (loop1 (x .term)) (ap Loop (x .of-program)) (one i (size p) h (in-phase 1) (own 1 ph) _ (x .bytes))
       (x .at-rest)))
@@ -207,7 +198,7 @@ module _ (t s : List ℕ) (small : (i : ℕ) → byte s i < 256) (long : 4 * nod
       let x = find p (i + 1) (sp .2) (omega arith) in
       either-true _ _ (c .phases)
       (λ e.
-      let (ph, z) = both-true _ _ e in
+      let (ph, z) = both e in
       let ct = counted i 0 n (sp .1) (eqb-true _ 0 ph) (c .counts) in
       stand (repeat0 n p) refl
       (one i (size p) h (in-phase 0) (eqb-true _ 0 ph, eqb-true _ 0 (c .flags), eqb-true _ 0 ct) _ (first-none i p (sp .2) (omega arith) z))
@@ -226,16 +217,16 @@ module _ (t s : List ℕ) (small : (i : ℕ) → byte s i < 256) (long : 4 * nod
       let write = two i (size p) (size q) h in
       either-true _ _ (c .phases)
       (λ e.
-      let (ph, zs) = both-true _ _ e in
-      let (z₁, z) = both-true _ _ zs in
+      let (ph, zs) = both e in
+      let (z₁, z) = both zs in
       stand (when0 b p q) refl (write (in-phase 0) (own 0 ph) _ _ (none₁ z₁) (none₂ z)) tt)
       (λ r. either-true _ _ r
       (λ e.
-      let (ph, z) = both-true _ _ e in
+      let (ph, z) = both e in
       stand (when1 b (x .term) q) (ap (λ r. When b r q) (x .of-program))
       (write (in-phase 1) (own 1 ph) _ _ (x .bytes) (none₂ z)) (x .at-rest))
       (λ e.
-      let (ph, z) = both-true _ _ e in
+      let (ph, z) = both e in
       stand (when2 b p (y .term)) (ap (When b p) (y .of-program))
       (write (in-phase 2) (own 2 ph) _ _ (none₁ z) (y .bytes)) (y .at-rest))))
   find (Until b p q) i sp h = split (Until b p q) i (sp .0 .0) (sp .0 .1) h (λ c.
@@ -247,11 +238,11 @@ module _ (t s : List ℕ) (small : (i : ℕ) → byte s i < 256) (long : 4 * nod
       let write = two i (size p) (size q) h in
       either-true _ _ (c .phases)
       (λ e.
-      let (ph, z) = both-true _ _ e in
+      let (ph, z) = both e in
       stand (until0 b (x .term) q) (ap (λ r. Until b r q) (x .of-program))
       (write (in-phase 0) (own 0 ph) _ _ (x .bytes) (none₂ z)) (x .at-rest))
       (λ e.
-      let (ph, z) = both-true _ _ e in
+      let (ph, z) = both e in
       stand (until2 b p (y .term)) (ap (Until b p) (y .of-program))
       (write (in-phase 2) (own 2 ph) _ _ (none₁ z) (y .bytes)) (y .at-rest)))
   find (Control e p) i sp h = split (Control e p) i (sp .0 .0) (sp .0 .1) h (λ c.
@@ -263,23 +254,11 @@ module _ (t s : List ℕ) (small : (i : ℕ) → byte s i < 256) (long : 4 * nod
       stand (local false e (x .term)) (ap (Local e) (x .of-program))
       (one i (size p) h (in-phase 0) (plain i (c .flags) (c .counts) 0 (c .phases)) _ (x .bytes)) (refl, x .at-rest))
 
--- node 0 is the whole table's
-pub all-nodes : (t : List ℕ) (p : Program) → Placed t 0 p → size p ≡ nodes t
-unfolding goodNode
-all-nodes t p h =
-    let least = h .loaded .framed .n-least in
-    let good = h .loaded .nodes-good 0 (omega arith) in
-    let (_, a) = both-true (leb (kindAt t 0) 12) _ good in
-    let (_, b) = both-true (eqb (zeroAt t 0) 0) _ a in
-    let (_, c) = both-true (ltb (argumentAt t 0) (argumentLimit t (kindAt t 0))) _ b in
-    let (_, d) = both-true (laidOut (sizeAt t) (nodes t) 0 (children (kindAt t 0))) _ c in
-    sym (written t 0 p (h .spelled)) ∙ eqb-true (sizeAt t 0) (nodes t) d
-
 pub standing : (t s : List ℕ) → Placed t 0 (treeOf t) → ((i : ℕ) → getD s i 0 < 256) → 4 * nodes t ≤ length s → blamed t s ≡ nodes t
     → (x : Term) × (prog x ≡ treeOf t) × (take (4 * nodes t) s ≡ stateBytes x) × AtRest x
 standing t s p b h r =
     let none : (i : ℕ) → i < nodes t → rests t s i ≡ true =
     λ i l. not-false _ (before-lowest (nodes t) (λ j. not (rests t s j)) i (rw r l)) in
     let f = find t s b h none (treeOf t) 0 (p .spelled) (p .inside) in
-    let e : size (treeOf t) ≡ nodes t = all-nodes t (treeOf t) p in
+    let e : size (treeOf t) ≡ nodes t = all-nodes p in
     (f .term, f .of-program, ap (λ n. take (4 * n) s) (sym e) ∙ f .bytes, f .at-rest)

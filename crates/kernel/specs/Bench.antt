@@ -1,6 +1,6 @@
 -- The bench list (01, "Bench list") of the definitions that the contracts cite: K1 to K12, one list and one statement over it. For each table:
 -- its bytes, the verdict with its figures, the started state, and of each instant its passes, its answer, the events, the atoms and the state's bytes.
-use Prim.Native.Nat.{ℕ, _*_, _/_, _%_}
+use Prim.Native.Nat.{ℕ, _*_}
 use mathlib.Core.Path.{_≡_}
 use mathlib.Core.List.{List, [], _∷_, _++_}
 use lib.ListN.{replicate}
@@ -18,6 +18,7 @@ use Rattle.table.specs.declared.Checked.the-variants.{Accepted}
 use Rattle.table.specs.Records.{nodes}
 use Rattle.table.specs.Spells.{treeOf}
 use Rattle.table.specs.Verdict.{verdictOf, numberOf, indexOf}
+use Rattle.table.specs.Bytes.{node, configuration, trailer}
 use Rattle.steps.specs.StateBytes.{stateBytes}
 use Rattle.kernel.specs.declared.Outcome.the-variants.{Ran}
 use Rattle.kernel.specs.Answer.{Started}
@@ -70,16 +71,6 @@ Shown (refused t n i) = (numberOf (verdictOf t) ≡ n) × (indexOf (verdictOf t)
 unfoldable pub All : (Entry → Type 0) → List Entry → Type 0
 All So [] = Unit {0}
 All So (e ∷ l) = So e × All So l
-
--- a node's record, a configuration's, the trailer of n nodes, m configurations and v events
-abbrev pub node : ℕ → ℕ → ℕ → List ℕ
-node kind argument size = kind ∷ 0 ∷ argument / 256 ∷ argument % 256 ∷ size / 256 ∷ size % 256 ∷ []
-
-abbrev pub configuration : ℕ → ℕ → ℕ → List ℕ
-configuration kind event size = kind ∷ event ∷ size / 256 ∷ size % 256 ∷ []
-
-abbrev pub trailer : ℕ → ℕ → ℕ → ℕ → ℕ → List ℕ
-trailer n m v back-to-nodes back-to-configurations = 0 ∷ n ∷ 0 ∷ m ∷ 0 ∷ v ∷ 0 ∷ back-to-nodes ∷ 0 ∷ back-to-configurations ∷ []
 
 -- the state's bytes by the nodes' phases: none of these has flags or a count
 unfoldable pub phases : List ℕ → List ℕ

@@ -5,7 +5,7 @@ use mathlib.Core.Path.{_≡_}
 use mathlib.Core.List.{List}
 use lib.ListN.{length}
 use Rattle.table.specs.Records.{nodes}
-use Rattle.steps.specs.Running.{Loaded}
+use Rattle.table.specs.Inside.{Loaded}
 use Rattle.kernel.specs.Resting.{zeroNode, zeroNodes, rests}
 
 -- r is the first of the nodes from i to n of which it doesn't hold; n if it holds of all

@@ -8,12 +8,12 @@ use Rattle.events.specs.declared.EventSet.{EventSet}
 use Rattle.events.specs.Events.{howMany, lowest}
 use Rattle.events.specs.Members.{places, members}
 use Rattle.junior.specs.Term.{Term, prog}
-use Rattle.junior.specs.Figures.{G, A}
+use Rattle.junior.specs.Figures.{LoopsStop, G, A}
 use Rattle.junior.specs.AtRest.{AtRest}
 use Rattle.table.specs.Records.{nodes}
 use Rattle.table.specs.Spells.{treeOf}
+use Rattle.table.specs.Inside.{Placed}
 use Rattle.steps.specs.StateBytes.{stateBytes}
-use Rattle.steps.specs.Running.{Placed}
 use Rattle.kernel.specs.declared.Outcome.the-variants.{Ran}
 use Rattle.kernel.specs.declared.Answer.{Answer}
 
@@ -22,6 +22,7 @@ pub record Startable (t s row : List ℕ) : Type 0 where
   pub term : Term
   pub program : prog term ≡ treeOf t
   pub placed : Placed t 0 (prog term)
+  pub loops : LoopsStop (prog term)
   pub long : length s ≡ 4 * nodes t
   pub bytes : s ≡ stateBytes term
   pub at-rest : AtRest term

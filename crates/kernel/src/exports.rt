@@ -4,11 +4,11 @@ ghost use Rattle.table.specs.Verdict.{verdictOf};
 ghost use Rattle.kernel.specs.Exports.{checkPlaces, StartedInPlaces, AnsweredInPlaces};
 use crate::instant;
 use crate::numbers::refusal_of;
-use crate::numbers::refusal_of_table;
 use crate::start;
 use events::EventSet;
 use table::Checked;
 use table::check;
+use table::numbers::refusal_of_table;
 
 #[no_mangle]
 pub extern "C" fn zapper_check(table: &[u8], answer: &mut [u64; 5])

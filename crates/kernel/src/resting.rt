@@ -7,7 +7,7 @@ ghost use lib.Dec.{eqb, leb};
 ghost use lib.ListN.{length};
 ghost use Rattle.table.specs.Records.{nodes, kindAt, secondAt};
 ghost use Rattle.table.specs.Good.{children};
-ghost use Rattle.steps.specs.Running.{Loaded};
+ghost use Rattle.table.specs.Inside.{Loaded};
 ghost use Rattle.kernel.specs.Resting.{phaseAt, flagsAt, countAt, zeroNodes, firstZero, secondZero};
 ghost use Rattle.kernel.specs.Resting.{phaseRests, flagsRest, countRests, rests, blamed};
 ghost use Rattle.kernel.specs.Inside.{ZeroFrom, Tells, Judged, Judging, Blamed};

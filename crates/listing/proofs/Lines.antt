@@ -7,10 +7,11 @@ use native.Mathlib.Omega.{arith}
 use native.Mathlib.Nat.{zero-add}
 use lib.ListN.{length}
 use borrow.Author.Tests.{le-leb, lt-leb}
-use Rattle.listing.specs.Text.{bytes, newline, space, led, joined}
+use Rattle.letters.specs.Text.{bytes, newline, space, led, joined}
+use Rattle.letters.proofs.Rooms.{sets-front}
 use Rattle.listing.specs.Output.{line, Written}
 use Rattle.listing.specs.Inside.{Puts}
-use Rattle.listing.proofs.Puts.{sets-front, puts-then}
+use Rattle.listing.proofs.Puts.{puts-then}
 
 -- a field, and the rest of the line
 pub puts-field : {a b c : List ℕ} {x r s : ℕ} (w v : List ℕ) (l : List (List ℕ)) → Puts a b x (w ++ (space ∷ [])) r → Puts b c r (line (v ∷ l)) s

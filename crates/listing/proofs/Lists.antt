@@ -6,11 +6,12 @@ use native.Mathlib.Omega.{arith}
 use native.Mathlib.Numerals.{add-one}
 use lib.ListN.{length, getD, set, take, length-append}
 use lib.Seq.{sets, set-set, take-suc}
-use Rattle.listing.specs.Decimal.{decimal}
-use Rattle.listing.specs.Text.{comma, led, joined}
+use Rattle.letters.specs.Decimal.{decimal}
+use Rattle.letters.specs.Text.{comma, led, joined}
+use Rattle.letters.proofs.Rooms.{sets-append}
 use Rattle.listing.specs.Output.{listed}
 use Rattle.listing.specs.Inside.{Puts, items}
-use Rattle.listing.proofs.Puts.{sets-append, puts-long, puts-then}
+use Rattle.listing.proofs.Puts.{puts-long, puts-then}
 
 pub items-append : (l m : List ℕ) → items (l ++ m) ≡ items l ++ items m
 unfolding items

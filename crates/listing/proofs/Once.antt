@@ -10,8 +10,8 @@ use borrow.Author.Tests.{ltb-true, ltb-false, eqb-true, eqb-false, leb-true, leb
 use Rattle.events.specs.Events.{Events, none, put}
 use Rattle.events.specs.Members.{places, members}
 use Rattle.events.proofs.Sets.{Whole, same-members}
-use Rattle.listing.specs.Decimal.{decimal}
-use Rattle.listing.specs.Text.{space, led, joined}
+use Rattle.letters.specs.Decimal.{decimal}
+use Rattle.letters.specs.Text.{space, led, joined}
 use Rattle.listing.specs.Input.{Under, withAll, Reading}
 use Rattle.listing.specs.Inside.{figure, tokenAt, Named}
 use Rattle.listing.specs.declared.LineRead.{LineRead}

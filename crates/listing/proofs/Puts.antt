@@ -3,21 +3,14 @@ use mathlib.Core.Path.{_≡_, refl, sym, ap, _∙_}
 use mathlib.Core.List.{List, [], _∷_, _++_}
 use Prim.Native.Nat.{ℕ, suc, _+_, _^_, _≤_, _<_}
 use native.Mathlib.Omega.{arith}
-use native.Mathlib.Nat.{add-zero, add-suc, suc-add, zero-add}
+use native.Mathlib.Nat.{add-zero}
 use native.Mathlib.Numerals.{add-one}
-use lib.ListN.{length, getD, set, take, drop, length-append}
-use lib.Seq.{sets, sets-eq, length-sets, take-suc}
-use Rattle.listing.specs.Decimal.{decimal}
+use lib.ListN.{length, getD, set, take, length-append}
+use lib.Seq.{sets, length-sets, take-suc}
+use Rattle.letters.specs.Decimal.{decimal}
+use Rattle.letters.proofs.Decimal.{decimal-length}
+use Rattle.letters.proofs.Rooms.{sets-append}
 use Rattle.listing.specs.Inside.{Puts}
-use Rattle.listing.proofs.Decimal.{decimal-length}
-
-pub sets-append : (l : List ℕ) (i : ℕ) (u v : List ℕ) → sets l i (u ++ v) ≡ sets (sets l i u) (i + length u) v
-sets-append l i [] v = rw (add-zero i)
-sets-append l i (a ∷ u) v = rw (add-suc i (length u), ← suc-add i (length u)) (sets-append (set l i a) (suc i) u v)
-
--- at the room's start
-pub sets-front : (l w : List ℕ) → length w ≤ length l → sets l 0 w ≡ w ++ drop (length w) l
-sets-front l w h = rw (zero-add (length w)) at (sets-eq w l 0 (rw (zero-add (length w)) h))
 
 pub puts-none : (l : List ℕ) (x : ℕ) → x ≤ length l → Puts l l x [] x
 puts-none l x h = record { next = sym (add-zero x); room = refl; within = h }

@@ -11,12 +11,12 @@ use lib.Seq.{drop-cons}
 use borrow.Author.Tests.{lt-ltb}
 use Rattle.events.specs.Events.{Events, none, put}
 use Rattle.events.specs.Members.{places, marks}
-use Rattle.listing.specs.Decimal.{decimal}
-use Rattle.listing.specs.Text.{space, led, joined}
+use Rattle.letters.specs.Decimal.{decimal}
+use Rattle.letters.specs.Text.{space, led, joined}
+use Rattle.letters.proofs.Decimal.{decimal-some}
 use Rattle.listing.specs.Input.{Under, Names, withAll, Reading}
 use Rattle.listing.specs.Inside.{figure, tokenAt, Named}
 use Rattle.listing.specs.declared.input.Token.{Token}
-use Rattle.listing.proofs.Decimal.{decimal-some}
 use Rattle.listing.proofs.Tokens.{figure-of, here, behind, stands, found}
 
 -- events that are named take at least a byte

@@ -8,11 +8,11 @@ use lib.Dec.{lit≤}
 use lib.ListN.{length, getD, length-append}
 use Rattle.events.specs.Events.{Events}
 use Rattle.events.specs.Members.{places}
-use Rattle.listing.specs.Decimal.{decimal}
-use Rattle.listing.specs.Text.{bytes, comma, led, joined}
+use Rattle.letters.specs.Decimal.{decimal}
+use Rattle.letters.specs.Text.{bytes, comma, led, joined}
+use Rattle.letters.proofs.Decimal.{decimal-length}
 use Rattle.listing.specs.Output.{rising, listed, line, ranLine, enough}
 use Rattle.listing.specs.Inside.{items}
-use Rattle.listing.proofs.Decimal.{decimal-length}
 use Rattle.listing.proofs.Lists.{items-append, items-listed}
 
 -- with a comma behind each, events take 4 bytes each and atoms 6

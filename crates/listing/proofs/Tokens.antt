@@ -10,10 +10,11 @@ use lib.ListN.{getD, drop}
 use lib.Seq.{getD-drop, drop-drop}
 use borrow.Author.Tests.{lt-ltb, le-ltb, le-leb, eq-eqb, ne-eqb, ltb-true, ltb-false, leb-true, eqb-true, eqb-false}
 use Rattle.events.specs.Members.{places}
-use Rattle.listing.specs.Decimal.{decimal}
+use Rattle.letters.specs.Decimal.{decimal}
+use Rattle.letters.proofs.Decimal.{decimal-digit}
 use Rattle.listing.specs.Inside.{figure, token, tokenAt}
 use Rattle.listing.specs.declared.input.Token.{Token}
-use Rattle.listing.proofs.Decimal.{decimal-digit, decimal-two, decimal-three}
+use Rattle.listing.proofs.Decimal.{decimal-two, decimal-three}
 
 -- a byte by its figure
 pub data Figure (b : ℕ) : ℕ → Type 0 where

@@ -6,8 +6,8 @@ use mathlib.Core.List.{List, [], _∷_, map}
 use lib.ListN.{length}
 use Rattle.events.specs.Events.{Events, none, put}
 use Rattle.events.specs.Members.{places}
-use Rattle.listing.specs.Decimal.{decimal}
-use Rattle.listing.specs.Text.{space, joined}
+use Rattle.letters.specs.Decimal.{decimal}
+use Rattle.letters.specs.Text.{space, joined}
 
 -- all numbers of the list are below b
 abbrev pub Under : ℕ → List ℕ → Type 0

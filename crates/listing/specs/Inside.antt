@@ -8,8 +8,8 @@ use lib.Seq.{sets}
 use lib.Dec.{leb, ltb, eqb}
 use Rattle.events.specs.Events.{Events, none}
 use Rattle.events.specs.Members.{places, marks}
-use Rattle.listing.specs.Decimal.{decimal}
-use Rattle.listing.specs.Text.{bytes, comma, joined}
+use Rattle.letters.specs.Decimal.{decimal}
+use Rattle.letters.specs.Text.{bytes, comma, joined}
 use Rattle.listing.specs.Input.{Under, withAll}
 use Rattle.listing.specs.Output.{rising, listed, line}
 use Rattle.listing.specs.declared.input.Token.{Token}

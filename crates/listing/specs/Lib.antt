@@ -1,5 +1,3 @@
-pub mod Decimal
 pub mod Input
 pub mod Inside
 pub mod Output
-pub mod Text

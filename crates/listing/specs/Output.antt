@@ -7,8 +7,8 @@ use lib.ListN.{length, drop}
 use lib.Dec.{leb}
 use Rattle.events.specs.Events.{Events}
 use Rattle.events.specs.Members.{places}
-use Rattle.listing.specs.Decimal.{decimal}
-use Rattle.listing.specs.Text.{bytes, newline, space, comma, joined}
+use Rattle.letters.specs.Decimal.{decimal}
+use Rattle.letters.specs.Text.{bytes, newline, space, comma, joined}
 
 -- the first n events that are present, rising
 unfoldable pub rising : ℕ → Events → List ℕ

@@ -4,7 +4,7 @@ ghost use mathlib.Core.List.{_∷_, [], _++_};
 ghost use Prim.Native.Nat.{_+_, _<_, _≤_};
 ghost use lib.ListN.{length};
 ghost use lib.Seq.{sets};
-ghost use Rattle.listing.specs.Decimal.{decimal};
+ghost use Rattle.letters.specs.Decimal.{decimal};
 ghost use Rattle.listing.specs.Inside.{Puts, pair, four};
 
 // Puts a number and the byte behind it.

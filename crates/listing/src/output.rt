@@ -6,7 +6,7 @@ ghost use lib.ListN.{length};
 ghost use Rattle.events.specs.Members.{places, members};
 ghost use Rattle.listing.specs.Output.{rising, listed};
 ghost use Rattle.listing.specs.Inside.{Puts, items, eventsOf, Ended, refusalEnd};
-ghost use Rattle.listing.specs.Text.{bytes, newline, space};
+ghost use Rattle.letters.specs.Text.{bytes, newline, space};
 use crate::number::put_number;
 use events::EventSet;
 use events::WORDS;

@@ -52,7 +52,7 @@ module _ {table : List ℕ} {i : ℕ} {state words row tally : List ℕ} where
       ready-as h (ap Loop (prog-fresh p)) refl (same-lengths words tally)
       (h .bytes ∙ ap (λ l. 0 ∷ 0 ∷ 0 ∷ l) (sym (fresh-zeros p)))
       (rest-going _ (fresh p) (fresh-at-rest p))
-      (omega (arith, h .room, pot-begun p (h .placed .loops .0)))
+      (omega (arith, h .room, pot-begun p (h .loops .0)))
 
   pub begin-asks : {t : Term} → Begins t → Ready 1 table i state words row tally t → {k : ℕ} (rank : ℕ) → falling table i rank ≡ k
       → (falling table (i + 1) 3 < k) × Live 0 Any table (i + 1) (midOf 4 (length state - 4) state) words row tally
@@ -71,7 +71,7 @@ module _ {table : List ℕ} {i : ℕ} {state words row tally : List ℕ} where
     -- it doesn't end
     pub goes-on : {t : Term} → Begins t → Ready 1 table i state words row tally t → α ≢ TERM
     unfolding prog LoopsStop
-    goes-on (begins p) h = begun p (body-ran p h (at-node i) refl .rewrites) (h .placed .loops .0)
+    goes-on (begins p) h = begun p (body-ran p h (at-node i) refl .rewrites) (h .loops .0)
 
     pub begin-writes : {t : Term} → Begins t → Ready 1 table i state words row tally t → 0 < length (putMid 4 (length state - 4) state s)
     begin-writes (begins p) h =
@@ -125,7 +125,7 @@ module _ {table : List ℕ} {i : ℕ} {state words row tally : List ℕ} where
     anew x h z =
         let u = only-cut h loop-body in
         let g = ran-flag z (rest-ran x h (at-node i) refl) in
-        let r = few g (h .placed .loops .1) in
+        let r = few g (h .loops .1) in
         ready-as h refl (back-long loop-body h u s (omega arith) (ran-long g)) (g .lengths)
         (ap (drop 1) (back-kept loop-body h u s refl)
         ∙ ap (λ l. 0 ∷ 0 ∷ 0 ∷ l) (append-nil s ∙ ran-zeros g))

@@ -13,11 +13,11 @@ use Rattle.junior.specs.Term.{Term, prog}
 use Rattle.junior.specs.Rules.{r1}
 use Rattle.junior.specs.Trace.{Place, collect}
 use Rattle.table.specs.Records.{kindAt}
+use Rattle.table.proofs.Tree.{size-pos}
+use Rattle.table.proofs.Loaded.{kind-of, in-table}
 use Rattle.steps.specs.StateBytes.{below}
 use Rattle.steps.specs.Running.{Ready, Ran, Live, Runs, Any, Kind, Phase}
-use Rattle.steps.proofs.Parts.{size-pos}
 use Rattle.steps.proofs.Shape.{Shape, is-done, is-nothing, shape-by}
-use Rattle.steps.proofs.Frames.{kind-of, in-table}
 use Rattle.steps.proofs.Children.{falling, falls, phase-is}
 use Rattle.steps.proofs.Done.{ran-alone}
 

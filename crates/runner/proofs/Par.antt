@@ -20,13 +20,15 @@ use Rattle.junior.proofs.Going.{Going, Suspended, going-more}
 use Rattle.junior.proofs.Figures.{pot}
 use Rattle.table.specs.Records.{sizeAt}
 use Rattle.table.specs.Spells.{Spells}
+use Rattle.table.specs.Inside.{Placed}
+use Rattle.table.proofs.Tree.{size-pos, written}
+use Rattle.table.proofs.Loaded.{in-table}
 use Rattle.steps.specs.StateBytes.{code, head, below, stateBytes}
-use Rattle.steps.specs.Running.{envOf, Placed, Ready, Wrote, SameLengths, Ran, Live, Runs, Any, Kind, LeftSuspended}
+use Rattle.steps.specs.Running.{envOf, Ready, Wrote, SameLengths, Ran, Live, Runs, Any, Kind, LeftSuspended}
 use Rattle.steps.specs.Running.{RightSuspended, parEnd, atoms-done}
-use Rattle.steps.proofs.Parts.{first-of, with-first, rest-of, with-rest, size-pos, len-bytes}
+use Rattle.steps.proofs.Parts.{first-of, with-first, rest-of, with-rest, len-bytes}
 use Rattle.steps.proofs.Shape.{Shape, is-done, is-par, shape-by}
 use Rattle.steps.proofs.Flags.{code-same, code-below, both-are}
-use Rattle.steps.proofs.Frames.{written, in-table}
 use Rattle.steps.proofs.Children.{asks-for, at-node, falling, first-at, second-at, byte-is}
 use Rattle.runner.proofs.Joined.{Two, first-part, put-first, ends, second-part, put-second}
 use Rattle.runner.proofs.Joined.{end-asks, unchanged}
@@ -125,19 +127,14 @@ module _ {table : List ℕ} {i : ℕ} {p q : Program} (h : Placed table i (Par p
     first-size = m ∙ written table (i + 1) p (h .spelled .1)
 
     first-placed : Placed table (i + 1) p
-    unfolding Spells size LoopsStop
+    unfolding Spells size
     first-placed =
-        record { loaded = h .loaded; spelled = h .spelled .1; inside = omega (arith, h .inside); loops = h .loops .0 }
+        record { loaded = h .loaded; spelled = h .spelled .1; inside = omega (arith, h .inside) }
 
     second-placed : Placed table (i + 1 + n) q
-    unfolding Spells size LoopsStop
+    unfolding Spells size
     second-placed =
-        record {
-          loaded = h .loaded;
-          spelled = rw m (h .spelled .2);
-          inside = omega (arith, h .inside, first-size);
-          loops = h .loops .1;
-        }
+        record { loaded = h .loaded; spelled = rw m (h .spelled .2); inside = omega (arith, h .inside, first-size) }
 
 module _ {table : List ℕ} {i : ℕ} {state words row tally : List ℕ} where
   -- the first child's size can be read
@@ -195,10 +192,11 @@ module _ {table : List ℕ} {i : ℕ} {state words row tally : List ℕ} {n : �
   -- the first branch is ready; so is the second, in the state as it is then
   first-ready : {β : Flag} {t u : Term} → Ready 0 table i state words row tally (par SUSP β t u)
       → Ready 0 table (i + 1) (first-of state n) words row tally t
-  unfolding Going pot prog kind
+  unfolding Going pot prog kind LoopsStop
   first-ready {t = t} h =
       record {
         placed = first-placed (h .placed) m;
+        loops = h .loops .0;
         wide = h .wide;
         tallied = h .tallied;
         long = ap length (first-part (two h)) ∙ len-bytes t;
@@ -212,10 +210,11 @@ module _ {table : List ℕ} {i : ℕ} {state words row tally : List ℕ} {n : �
     second-ready : SameLengths words tally words₁ tally₁ → Going (marks words₁) u
         → atoms-done tally₁ + pot (per 2) u ≤ length row₁
         → Ready 0 table (i + 1 + n) (rest-of state₁ n) words₁ row₁ tally₁ u
-    unfolding prog
+    unfolding prog LoopsStop
     second-ready k g r =
         record {
           placed = second-placed (h .placed) m;
+          loops = h .loops .1;
           wide = rw (k .of-words) (h .wide);
           tallied = k .of-tally ∙ h .tallied;
           long = ap length (second-part o) ∙ len-bytes u;
@@ -280,7 +279,7 @@ module _ {table : List ℕ} {i : ℕ} {state words row tally : List ℕ} {n : �
     unfolding Going prog pot kind LoopsStop
     both-second {t} {u} h =
         let d = first-ran h (at-node i) refl in
-        let l = few d (h .placed .loops .0) in
+        let l = few d (h .loops .0) in
         second-ready h (first-back h) (d .lengths) (going-more u (grows (d .rewrites)) (h .going .2))
         (room-after h d u (omega arith))
 

@@ -186,7 +186,7 @@ module _ {table : List ℕ} {i : ℕ} {state words row tally : List ℕ} where
     next n k x h z =
         let o = repeat-body n (suc k) in
         let g = ran-flag z (rest-ran n (suc k) x h (at-node i) refl) in
-        let r = few g (h .placed .loops) in
+        let r = few g (h .loops) in
         let f = pot-again (per 2) n (suc k) (prog x) in
         ready-as h (ap (Repeat n) (prog-fresh (prog x))) (back-long o h (only-cut h o) s (omega arith) (ran-long g)) (g .lengths)
         (ap (drop 4) (back n (suc k) x h) ∙ (append-nil s ∙ (ran-zeros g ∙ sym (fresh-zeros (prog x)))))

@@ -20,11 +20,13 @@ use Rattle.junior.proofs.Going.{Going, rest-going, fresh-at-rest}
 use Rattle.junior.proofs.Figures.{pot, pot-fresh}
 use Rattle.table.specs.Records.{sizeAt}
 use Rattle.table.specs.Spells.{Spells}
+use Rattle.table.specs.Inside.{Placed}
+use Rattle.table.proofs.Tree.{written}
 use Rattle.steps.specs.StateBytes.{in-phase, zeros, below}
-use Rattle.steps.specs.Running.{Placed, Ready, Ran, Live, Runs, Any, Kind, Phase, phaseAfter}
+use Rattle.steps.specs.Running.{Ready, Ran, Live, Runs, Any, Kind, Phase, phaseAfter}
 use Rattle.steps.proofs.Parts.{first-of, with-first, rest-of, with-rest, fresh-zeros}
 use Rattle.steps.proofs.Shape.{Shape, is-done, is-seq0, is-seq2, is-when2, is-until2, is-local, shape-by}
-use Rattle.steps.proofs.Frames.{Frame, seq-first, seq-second, when-second, until-second, written}
+use Rattle.steps.proofs.Frames.{Frame, seq-first, seq-second, when-second, until-second}
 use Rattle.steps.proofs.Children.{at-node, falling, first-cut, second-cut, asks, child-ran, next-index}
 use Rattle.steps.proofs.Children.{first-at, second-at, phase-is, next-in-table, till-in}
 use Rattle.steps.proofs.Done.{ready-as, room-after, few, ran-flag, ran-zeros, ran-long, ran-then}
@@ -158,7 +160,7 @@ module _ {table : List ℕ} {i : ℕ} {state words row tally : List ℕ} {n : �
     over x q h z =
         let u = first-cut h (seq-first q) m in
         let g = ran-flag z (first-ran x q h (at-node i) refl) in
-        let r = few g (h .placed .loops .0) in
+        let r = few g (h .loops .0) in
         let f = pot-fresh (per 2) q in
         ready-as h (ap (Seq (prog x)) (prog-fresh q)) (back-long (seq-first q) h u s (omega arith) (ran-long g)) (g .lengths)
         (ap (drop 1) (back-kept (seq-first q) h u s refl)

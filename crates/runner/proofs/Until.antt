@@ -23,12 +23,14 @@ use Rattle.junior.proofs.Going.{Going, rest-going, fresh-at-rest, stands}
 use Rattle.junior.proofs.Figures.{pot, pot-fresh}
 use Rattle.table.specs.Records.{sizeAt}
 use Rattle.table.specs.Spells.{Spells}
+use Rattle.table.proofs.Tree.{size-pos, written}
+use Rattle.table.proofs.Loaded.{in-table}
 use Rattle.steps.specs.StateBytes.{zeros, below, stateBytes}
 use Rattle.steps.specs.Running.{Ready, Ran, Live, Runs, Any, Kind, Phase, KindPhase, envOf}
 use Rattle.steps.specs.Running.{HasTest, TestRead}
-use Rattle.steps.proofs.Parts.{size-pos, len-bytes, fresh-zeros, own-of, part-is, put-is}
+use Rattle.steps.proofs.Parts.{len-bytes, fresh-zeros, own-of, part-is, put-is}
 use Rattle.steps.proofs.Shape.{Shape, is-done, is-until0, is-until*, is-until2, shape-by}
-use Rattle.steps.proofs.Frames.{until-first, written, in-table}
+use Rattle.steps.proofs.Frames.{until-first}
 use Rattle.steps.proofs.Children.{at-node, falling, first-cut, asks, child-ran, next-index, first-at}
 use Rattle.steps.proofs.Children.{phase-is}
 use Rattle.steps.proofs.Children.{next-in-table, till-in, byte-is, own-and-below}
@@ -94,7 +96,7 @@ module _ {table : List ℕ} {i : ℕ} {state words row tally : List ℕ} {n : �
     unfolding Going prog below pot kind LoopsStop
     star c x q h z g =
         let u = first-cut h (until-first c q) m in
-        let r = few g (h .placed .loops .0) in
+        let r = few g (h .loops .0) in
         ready-as h (ap (λ y. Until c y q) (kept (g .rewrites)))
         (back-long (until-first c q) h u s (omega arith) (ran-long g)) (g .lengths)
         (ap (drop 1) (back-kept (until-first c q) h u s refl) ∙ ap (λ l. 0 ∷ 0 ∷ 0 ∷ (l ++ zeros q)) (g .bytes))

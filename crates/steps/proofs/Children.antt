@@ -14,10 +14,13 @@ use Rattle.junior.specs.Term.{Term, prog}
 use Rattle.junior.specs.Trace.{Place}
 use Rattle.junior.proofs.Going.{Going}
 use Rattle.table.specs.Records.{sizeAt}
+use Rattle.table.specs.Inside.{Placed}
+use Rattle.table.proofs.Tree.{size-pos}
+use Rattle.table.proofs.Loaded.{size-of, in-table}
 use Rattle.steps.specs.StateBytes.{Own, head, below, stateBytes}
-use Rattle.steps.specs.Running.{Placed, Ready, Ran, Live, Runs, Any}
-use Rattle.steps.proofs.Parts.{blank, size-pos, len-bytes, own-of, own-below, part-is, put-is}
-use Rattle.steps.proofs.Frames.{Frame, size-of, in-table}
+use Rattle.steps.specs.Running.{Ready, Ran, Live, Runs, Any}
+use Rattle.steps.proofs.Parts.{blank, len-bytes, own-of, own-below, part-is, put-is}
+use Rattle.steps.proofs.Frames.{Frame}
 
 module _ {skip : ℕ} {table : List ℕ} {i : ℕ} {state words row tally : List ℕ} {t : Term}
     (h : Ready skip table i state words row tally t) where
@@ -53,6 +56,7 @@ module _ {table : List ℕ} {i : ℕ} {state words row tally : List ℕ} {t : Te
   unseen skip =
       record {
         placed = h .placed;
+        loops = h .loops;
         wide = h .wide;
         tallied = h .tallied;
         long = h .long;
@@ -96,7 +100,6 @@ module _ {own : Own} {ahead behind : ℕ} {f : Term → Term} (o : Frame own ahe
         loaded = h .placed .loaded;
         spelled = o .spells table i x (h .placed .spelled);
         inside = omega (arith, o .size-is x, h .placed .inside);
-        loops = o .loops x (h .placed .loops);
       }
 
   -- the record behind the node's own can be read
@@ -125,6 +128,7 @@ module _ {own : Own} {ahead behind : ℕ} {f : Term → Term} (o : Frame own ahe
         part-is state (own-of state (blank ahead)) (stateBytes x) (blank behind) (split low) a e own-long to-end in
         record {
           placed = rw at-j child-placed;
+          loops = o .loops x (h .loops);
           wide = w;
           tallied = h .tallied;
           long = ap length part ∙ len-bytes x;

@@ -108,6 +108,7 @@ pub ready-as : {skip skip′ : ℕ} {table : List ℕ} {i : ℕ} {state words ro
 ready-as h e l k b g r =
     record {
       placed = rw e (h .placed);
+      loops = rw e (h .loops);
       wide = rw (k .of-words) (h .wide);
       tallied = k .of-tally ∙ h .tallied;
       long = rw e (l ∙ h .long);

@@ -1,55 +1,21 @@
 -- Nodes around one child: where the child stands in the table and in the bytes, and what of the node is the child's.
-use Prim.Native.Nat.{ℕ, _+_, _*_, _≤_, _<_}
+use Prim.Native.Nat.{ℕ, _+_, _≤_}
 use mathlib.Core.Bool.{Bool, cond}
 use mathlib.Core.Path.{_≡_, refl}
 use mathlib.Core.List.{List, _++_, append-nil}
 use native.Mathlib.Omega.{arith}
 use native.Mathlib.Nat.{add-zero}
-use lib.ListN.{length}
 use Rattle.junior.specs.Configuration.{Config}
-use Rattle.junior.specs.Program.{Program, Nothing, Stop, Atom, Seq, Par, Loop, Repeat, Generate, Await, When}
-use Rattle.junior.specs.Program.{Until, Control, Local, size, kind}
+use Rattle.junior.specs.Program.{Program}
+use Rattle.junior.specs.Program.{size}
 use Rattle.junior.specs.Term.{Term, seq0, seq2, loop1, repeat1, when1, when2, until0, until2, control, local}
 use Rattle.junior.specs.Term.{prog}
 use Rattle.junior.specs.Figures.{LoopsStop, per}
 use Rattle.junior.proofs.Figures.{pot}
-use Rattle.table.specs.Records.{kindAt, sizeAt, secondAt}
-use Rattle.table.specs.Spells.{Spells, Heads}
+use Rattle.table.specs.Spells.{Spells}
+use Rattle.table.proofs.Tree.{second}
 use Rattle.steps.specs.StateBytes.{Own, head, in-phase, below, stateBytes}
-use Rattle.steps.specs.Running.{Placed}
 use Rattle.steps.proofs.Parts.{blank}
-
-heads : (table : List ℕ) (i : ℕ) (p : Program) → Spells table i p → Heads table i p
-unfolding Spells
-heads table i Nothing h = h
-heads table i Stop h = h
-heads table i (Atom a) h = h .0
-heads table i (Seq p q) h = h .0
-heads table i (Par p q) h = h .0
-heads table i (Loop p) h = h .0
-heads table i (Repeat n p) h = h .0
-heads table i (Generate s) h = h .0
-heads table i (Await c) h = h .0
-heads table i (When c p q) h = h .0
-heads table i (Until c p q) h = h .0
-heads table i (Control s p) h = h .0
-heads table i (Local s p) h = h .0
-
--- the size written at node i
-pub written : (table : List ℕ) (i : ℕ) (p : Program) → Spells table i p → sizeAt table i ≡ size p
-written table i p s = heads table i p s .1
-
-module _ {table : List ℕ} {i : ℕ} {p : Program} (h : Placed table i p) where
-  pub kind-of : kindAt table i ≡ kind p
-  kind-of = heads table i p (h .spelled) .0
-
-  pub size-of : sizeAt table i ≡ size p
-  size-of = heads table i p (h .spelled) .1
-
-  -- the record of the node, and those of all below it
-  pub in-table : (k : ℕ) → k < size p → 6 * (i + k) + 5 < length table
-  in-table k l =
-      let f = h .loaded .framed in let a = h .inside in let b = f .long in omega arith
 
 -- a node f with its own bytes around one child: so many fresh nodes stand ahead of the child, so many behind it
 pub record Frame (own : Own) (ahead behind : ℕ) (f : Term → Term) : Type 0 where
@@ -60,13 +26,9 @@ pub record Frame (own : Own) (ahead behind : ℕ) (f : Term → Term) : Type 0 w
   pub loops : (x : Term) → LoopsStop (prog (f x)) → LoopsStop (prog x)
   pub pot-in : (x : Term) → pot (per 2) x ≤ pot (per 2) (f x)
 
--- a first or only child is the next record, a second stands behind all of the first
+-- a first or only child is the next record
 next-record : (table : List ℕ) (i : ℕ) (p : Program) → Spells table (i + 1) p → Spells table (i + 1 + 0) p
 next-record table i p s = rw add-zero s
-
-behind-first : (table : List ℕ) (i : ℕ) (p q : Program) → Spells table (i + 1) p → Spells table (secondAt table i) q
-    → Spells table (i + 1 + size p) q
-behind-first table i p q f s = rw (← heads table (i + 1) p f .1) s
 
 pub seq-first : (q : Program) → Frame (in-phase 0) 0 (size q) (λ x. seq0 x q)
 unfolding below prog size Spells LoopsStop pot
@@ -85,7 +47,7 @@ seq-second p = record {
   head-is = λ x. refl;
   below-is = λ x. simp append-nil;
   size-is = λ x. omega arith;
-  spells = λ table i x h. behind-first table i p (prog x) (h .1) (h .2);
+  spells = λ table i x h. second table i p (prog x) (h .1) (h .2);
   loops = λ x h. h .1;
   pot-in = λ x. omega arith;
 }
@@ -129,7 +91,7 @@ when-second c p = record {
   head-is = λ x. refl;
   below-is = λ x. simp append-nil;
   size-is = λ x. omega arith;
-  spells = λ table i x h. behind-first table i p (prog x) (h .2) (h .3);
+  spells = λ table i x h. second table i p (prog x) (h .2) (h .3);
   loops = λ x h. h .1;
   pot-in = λ x. omega arith;
 }
@@ -151,7 +113,7 @@ until-second c p = record {
   head-is = λ x. refl;
   below-is = λ x. simp append-nil;
   size-is = λ x. omega arith;
-  spells = λ table i x h. behind-first table i p (prog x) (h .2) (h .3);
+  spells = λ table i x h. second table i p (prog x) (h .2) (h .3);
   loops = λ x h. h .1;
   pot-in = λ x. omega arith;
 }

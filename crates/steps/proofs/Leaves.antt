@@ -23,9 +23,9 @@ use Rattle.junior.specs.Rules.{r1-on, r2, r3, r16, r22, r23, r24, r25}
 use Rattle.junior.proofs.Figures.{pot}
 use Rattle.table.specs.Records.{argumentAt}
 use Rattle.table.specs.Spells.{Spells}
+use Rattle.table.proofs.Tree.{size-pos}
 use Rattle.steps.specs.StateBytes.{zeros, below, stateBytes}
 use Rattle.steps.specs.Running.{Ready, Ran, HasTest, TestRead, envOf, atoms-done}
-use Rattle.steps.proofs.Parts.{size-pos}
 use Rattle.steps.proofs.Shape.{Shape, is-done, is-stop, is-atom, is-generate, is-await, is-local}
 use Rattle.steps.proofs.LoadedNode.{generate-placed, await-test}
 use Rattle.steps.proofs.Done.{ran-alone, wrote-none}
@@ -48,7 +48,7 @@ moved words words′ [] s n e = absurd (omega arith)
 moved words words′ (a ∷ []) s n e = absurd (omega arith)
 moved words words′ (a ∷ b ∷ l) s n e = rw e
 
-no-sign : (b : Bool) → _≡_ {A = ℕ} (cond b 1 0) 3 → ⊥
+pub no-sign : (b : Bool) → _≡_ {A = ℕ} (cond b 1 0) 3 → ⊥
 no-sign true e = omega arith
 no-sign false e = omega arith
 

@@ -5,5 +5,4 @@ pub mod Frames
 pub mod Children
 pub mod Done
 pub mod LoadedNode
-pub mod TestInside
 pub mod Leaves

@@ -1,44 +1,23 @@
 -- What is known of a node of a loaded table: its event has a place, its configuration stands in the table.
 use Prim.Native.Nat.{ℕ, _+_, _*_, _≤_, _<_}
-use mathlib.Core.Bool.{true, _||_}
 use mathlib.Core.Path.{_≡_, refl}
 use mathlib.Core.List.{List}
 use native.Mathlib.Omega.{arith}
 use lib.ListN.{length}
-use lib.Dec.{eqb, leb, ltb}
-use borrow.Author.Tests.{eqb-true, ltb-true}
 use Rattle.events.specs.Members.{places}
 use Rattle.junior.specs.Configuration.{Config}
 use Rattle.junior.specs.Program.{Program, Repeat, Generate, Await, When, Until, Control, Local, kind}
-use Rattle.table.specs.Records.{nodes, configurations, events, kindAt, zeroAt, argumentAt, sizeAt}
-use Rattle.table.specs.Good.{argumentLimit, goodNode, laidOut, children}
+use Rattle.table.specs.Records.{configurations, events, argumentAt, sizeAt}
+use Rattle.table.specs.Good.{argumentLimit}
 use Rattle.table.specs.Spells.{Spells, Configured, tested, weight}
-use Rattle.table.proofs.Laid.{both}
-use Rattle.steps.specs.Running.{Loaded, Placed, HasTest}
-use Rattle.steps.proofs.Parts.{size-pos}
-use Rattle.steps.proofs.Frames.{kind-of}
-use Rattle.steps.proofs.TestInside.{ends-inside}
-
-module _ {table : List ℕ} (l : Loaded table) where
-  -- what the last two tests of a node say
-  argument-laid : (i : ℕ) → i < nodes table
-      → (argumentAt table i < argumentLimit table (kindAt table i)) × ((ltb 0 i || eqb (sizeAt table i) (nodes table)) ≡ true)
-  unfolding goodNode
-  argument-laid i h =
-      let k = both {a = leb (kindAt table i) 12} (l .nodes-good i h) in
-      let z = both {a = eqb (zeroAt table i) 0} (k .1) in
-      let a = both (z .1) in
-      (ltb-true _ _ (a .0), both {a = laidOut (sizeAt table) (nodes table) i (children (kindAt table i))} (a .1) .1)
-
-  pub root-size : sizeAt table 0 ≡ nodes table
-  root-size = eqb-true _ _ (argument-laid 0 (omega (arith, l .framed .n-least)) .1)
+use Rattle.table.specs.Inside.{Placed}
+use Rattle.table.proofs.TestParts.{ends-inside}
+use Rattle.table.proofs.Loaded.{root-size, own-node, fine-at}
+use Rattle.steps.specs.Running.{HasTest}
 
 module _ {table : List ℕ} {i : ℕ} {p : Program} (h : Placed table i p) where
-  within : i < nodes table
-  within = omega (arith, h .inside, size-pos p)
-
   argument-below : {limit : ℕ} → argumentLimit table (kind p) ≡ limit → argumentAt table i < limit
-  argument-below e = rw (kind-of h, e) at (argument-laid (h .loaded) i within .0)
+  argument-below e = rw e at (fine-at h .argument-below)
 
   event-placed : argumentLimit table (kind p) ≡ events table → argumentAt table i < places
   event-placed e = omega (arith, argument-below e, h .loaded .framed .v-most)
@@ -46,7 +25,7 @@ module _ {table : List ℕ} {i : ℕ} {p : Program} (h : Placed table i p) where
   has-test : argumentLimit table (kind p) ≡ configurations table → (c : Config) → Configured table (tested table i) c
       → {tally : List ℕ} → length tally ≡ 3 → HasTest table i tally
   has-test e c s n =
-      record { loaded = h .loaded; node = within; tests = argument-below e; spelled = (c, s); tallied = n }
+      record { loaded = h .loaded; node = own-node h; tests = argument-below e; spelled = (c, s); tallied = n }
 
 -- the events that nodes name
 module _ {table : List ℕ} {i s : ℕ} where
@@ -85,7 +64,7 @@ module _ {table : List ℕ} {i : ℕ} {c : Config} {tally : List ℕ} (n : lengt
 pub test-inside : {table : List ℕ} {i : ℕ} {tally : List ℕ} → HasTest table i tally → (c : Config)
     → Configured table (tested table i) c → tested table i + 4 * weight c ≤ length table
 test-inside {table} {i} h c s =
-    omega (arith, ends-inside table (h .loaded .configurations-good) c (argumentAt table i) (h .tests) s, h .loaded .framed .long)
+    omega (arith, ends-inside (h .loaded .configurations-good) c {j = argumentAt table i} (record { among = h .tests; there = s }), h .loaded .framed .long)
 
 -- where a test's configuration begins, by the sizes and arguments that the code reads
 pub test-at : {table : List ℕ} {i : ℕ} {tally : List ℕ} → HasTest table i tally → (n a : ℕ) → n ≡ sizeAt table 0

@@ -12,27 +12,12 @@ use Rattle.junior.specs.Program.{Until, Control, Local, size}
 use Rattle.junior.specs.Term.{Term, done, nothing, stop, atom, generate, await, seq0, seq2, par, loop0, loop1}
 use Rattle.junior.specs.Term.{repeat0, repeat1, when0, when1, when2, until0, until*, until2, control, local}
 use Rattle.junior.specs.Term.{prog, fresh}
+use Rattle.table.proofs.Tree.{size-pos}
 use Rattle.steps.specs.StateBytes.{before, in-phase, zeros, below, stateBytes}
 
 -- so many zeros: of all below a node
 abbrev pub blank : ℕ → List ℕ
 blank n = replicate (4 * n) 0
-
-pub size-pos : (p : Program) → 1 ≤ size p
-unfolding size
-size-pos Nothing = omega arith
-size-pos Stop = omega arith
-size-pos (Atom a) = omega arith
-size-pos (Seq p q) = omega arith
-size-pos (Par p q) = omega arith
-size-pos (Loop p) = omega arith
-size-pos (Repeat n p) = omega arith
-size-pos (Generate s) = omega arith
-size-pos (Await c) = omega arith
-size-pos (When c p q) = omega arith
-size-pos (Until c p q) = omega arith
-size-pos (Control s p) = omega arith
-size-pos (Local s p) = omega arith
 
 len-zeros : (p : Program) → length (zeros p) ≡ 4 * size p
 len-zeros p = length-replicate (4 * size p) 0

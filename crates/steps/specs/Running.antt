@@ -12,17 +12,16 @@ use Rattle.junior.specs.declared.Flag.the-variants.{SUSP, STOP, TERM}
 use Rattle.junior.specs.declared.Verdict.{Verdict}
 use Rattle.junior.specs.Flags.{γ, δ₁, δ₂}
 use Rattle.junior.specs.Configuration.{Config, Env, test}
-use Rattle.junior.specs.Program.{Program, kind, size}
+use Rattle.junior.specs.Program.{kind, size}
 use Rattle.junior.specs.Term.{Term, prog}
 use Rattle.junior.specs.Trace.{Place, Act, atoms}
 use Rattle.junior.specs.Rules.{Rewrites, answers}
 use Rattle.junior.specs.Figures.{LoopsStop, per}
 use Rattle.junior.proofs.Going.{Going}
 use Rattle.junior.proofs.Figures.{pot}
-use Rattle.table.specs.Records.{nodes, configurations, events, argumentAt}
-use Rattle.table.specs.Good.{goodNode}
-use Rattle.table.specs.Spells.{Spells, Configured, tested}
-use Rattle.table.specs.Inside.{Framed, ConfigurationsGood}
+use Rattle.table.specs.Records.{nodes, configurations, argumentAt}
+use Rattle.table.specs.Spells.{Configured, tested}
+use Rattle.table.specs.Inside.{Loaded, Placed}
 use Rattle.steps.specs.StateBytes.{code, head, zeros, stateBytes}
 
 -- The tally of an instant: how many atoms are done, whether something moved, whether the end is declared (0 for no).
@@ -33,26 +32,15 @@ atoms-done tally = getD tally 0 0
 abbrev pub envOf : List ℕ → List ℕ → Env
 envOf words tally = record { now = marks words; eoi = ltb 0 (getD tally 2 0); move = ltb 0 (getD tally 1 0) }
 
--- past refusals 1 to 5
-pub record Loaded (table : List ℕ) : Type 0 where
-  pub framed : Framed table (nodes table) (configurations table) (events table)
-  pub configurations-good : ConfigurationsGood table
-  pub nodes-good : (i : ℕ) → i < nodes table → goodNode table i ≡ true
-
--- p stands at node i of such a table, and its Loops stop
-pub record Placed (table : List ℕ) (i : ℕ) (p : Program) : Type 0 where
-  pub loaded : Loaded table
-  pub spelled : Spells table i p
-  pub inside : i + size p ≤ nodes table
-  pub loops : LoopsStop p
-
 -- the bytes of a term, all but the first few
 abbrev pub Bytes : ℕ → List ℕ → Term → Type 0
 Bytes skip state t = drop skip state ≡ drop skip (stateBytes t)
 
--- t, at node i of the table, can be run: its bytes but for the first `skip` are in the state, and the row has room for its atoms
+-- t, at node i of the table, can be run: its Loops stop, its bytes but for the first `skip` are in the state, and the row has room for its
+-- atoms
 pub record Ready (skip : ℕ) (table : List ℕ) (i : ℕ) (state words row tally : List ℕ) (t : Term) : Type 0 where
   pub placed : Placed table i (prog t)
+  pub loops : LoopsStop (prog t)
   pub wide : 64 * length words ≡ places
   pub tallied : length tally ≡ 3
   pub long : length state ≡ 4 * size (prog t)

@@ -6,7 +6,7 @@ use mathlib.Core.List.{List}
 use native.Mathlib.Nat.{zero-add}
 use native.Mathlib.Omega.{arith}
 use lib.Dec.{ltb, leb, eqb}
-use borrow.Author.Tests.{lt-ltb, le-ltb, le-leb, lt-leb, leb-true, not-false, ne-eqb}
+use borrow.Author.Tests.{lt-ltb, le-ltb, le-leb, lt-leb, leb-true, ne-eqb}
 use Rattle.events.specs.Events.{lowest}
 use Rattle.junior.specs.Program.{size}
 use Rattle.table.specs.declared.Checked.the-variants.{BadNode, TooDeep, EndlessLoop, TooHeavy, Accepted}
@@ -16,10 +16,10 @@ use Rattle.table.specs.Good.{children, goodNode}
 use Rattle.table.specs.Spells.{treeOf}
 use Rattle.table.specs.Verdict.{preorder, firstSuch, deep, endless, endlessLoop, light, programVerdict}
 use Rattle.table.specs.Verdict.{nodesVerdict}
+use Rattle.table.specs.Inside.{NodesGood}
 use Rattle.table.specs.Inside.Weighing.{treeAt, height, Weighs, Whole, AllGood, Row}
 use Rattle.table.proofs.Here.{sized-here, tree-here, stands}
 use Rattle.table.proofs.Little.{below-or}
-use Rattle.events.proofs.Events.{before-lowest}
 use Rattle.table.proofs.Lowest.{lowest-bad}
 use Rattle.table.proofs.Order.{Lowest, one-lowest, none-too-deep, some-too-deep, first-in-table}
 use Rattle.table.proofs.Tree.{Tree}
@@ -41,17 +41,13 @@ root-answer t n e l z =
     (lowest-bad (goodNode t) (nodes t) 0 (omega arith) (λ k h. absurd (omega arith)) (λ h. b))
     (omega arith)
 
-pub all-good : {t : List ℕ} {n m v : ℕ} → Whole t n m v → ((i : ℕ) → i < nodes t → goodNode t i ≡ true) → AllGood t
+pub all-good : {t : List ℕ} {n m v : ℕ} → Whole t n m v → NodesGood t → AllGood t
 all-good P g =
     let F = P .framed in
     let e = F .long in
     let n = F .n-is in
     let h = F .n-most in
     record { long = omega arith; few = omega arith; configurations-good = P .configurations-good; good = g }
-
-pub none-bad : (t : List ℕ) (r : ℕ) → r ≡ lowest (nodes t) (λ i. not (goodNode t i)) → nodes t ≤ r
-    → (i : ℕ) → i < nodes t → goodNode t i ≡ true
-none-bad t r e l i h = not-false _ (before-lowest (nodes t) (λ i. not (goodNode t i)) i (omega arith))
 
 -- a figure and what stands for it are on the same side of a limit below the cap, and the same if within it
 same-side : (x f m : ℕ) → m < 65536 → min x 65536 ≡ min f 65536 → leb x m ≡ leb f m

@@ -23,7 +23,7 @@ written t c (Not d) h = h .1
 written t c (And d e) h = h .1
 written t c (Or d e) h = h .1
 
-some-record : (d : Config) → 1 ≤ weight d
+pub some-record : (d : Config) → 1 ≤ weight d
 unfolding weight
 some-record (Event s) = omega arith
 some-record (Not d) = omega arith

@@ -6,9 +6,8 @@ use mathlib.Core.List.{List}
 use native.Mathlib.Omega.{arith}
 use lib.ListN.{length}
 use lib.Dec.{eqb, leb}
-use borrow.Author.Tests.{eqb-true, leb-true, le-leb, lt-ltb, le-ltb, not-false}
+use borrow.Author.Tests.{eqb-true, leb-true, le-leb, lt-ltb, le-ltb}
 use Rattle.events.specs.Events.{lowest}
-use Rattle.events.proofs.Events.{before-lowest}
 use Rattle.table.specs.declared.Checked.{Checked}
 use Rattle.table.specs.declared.Checked.the-variants.{BadLength, BadCounts, BadDistances, BadConfiguration}
 use Rattle.table.specs.declared.frame.Frame.{Frame}
@@ -16,7 +15,7 @@ use Rattle.table.specs.declared.frame.Frame.the-variants.{Refused, Count
 use Rattle.table.specs.Records.{nodes, configurations, events, back-to-nodes, back-to-configurations}
 use Rattle.table.specs.Good.{goodConfiguration}
 use Rattle.table.specs.Verdict.{lengthGood, countsGood, distancesGood, nodesVerdict, recordsVerdict, verdictOf}
-use Rattle.table.specs.Inside.{Framed, ConfigurationsGood}
+use Rattle.table.specs.Inside.{Framed}
 use Rattle.table.specs.Inside.Framing.{frameOf}
 use Rattle.table.proofs.Laid.{both}
 
@@ -108,6 +107,3 @@ module _ (t : List ℕ) (r : ℕ) (e : r ≡ lowest (configurations t) (λ j. no
   pub records-good : configurations t ≤ r → nodesVerdict t ≡ recordsVerdict t
   unfolding recordsVerdict
   records-good l = rw (← e, le-ltb r (configurations t) l)
-
-  pub none-bad : configurations t ≤ r → ConfigurationsGood t
-  none-bad l j h = not-false (goodConfiguration t j) (before-lowest (configurations t) (λ j. not (goodConfiguration t j)) j (omega arith))

@@ -12,7 +12,7 @@ use Rattle.table.specs.Records.{nodes, configurations, kindAt, zeroAt, a
 use Rattle.table.specs.Records.{configurationAt}
 use Rattle.table.specs.Good.{children, argumentLimit, goodNode}
 use Rattle.table.specs.Spells.{Configured, configurationOf, Spells, form, programOf, tested, treeOf}
-use Rattle.table.specs.Inside.{ConfigurationsGood}
+use Rattle.table.specs.Inside.{ConfigurationsGood, NodesGood}
 use Rattle.table.specs.Inside.Weighing.{treeAt}
 use Rattle.table.proofs.Spelled.{configured}
 use Rattle.table.proofs.Laid.{both, Laid, none, one, two, laid}
@@ -54,6 +54,7 @@ pub record Fine (t : List ℕ) (i k : ℕ) : Type 0 where
   pub known : Kind k
   pub argument-below : argumentAt t i < argumentLimit t k
   pub laid-out : Laid (sizeAt t) (nodes t) i (children k)
+  pub root : (ltb 0 i || eqb (sizeAt t i) (nodes t)) ≡ true
 
 pub fine : (t : List ℕ) (i k : ℕ) → kindAt t i ≡ k → goodNode t i ≡ true → Fine t i k
 unfolding goodNode
@@ -68,6 +69,7 @@ fine t i k e g =
       known = kind-below _ (leb-true _ _ (h .0));
       argument-below = ltb-true _ _ (a .0);
       laid-out = laid _ _ _ _ (l .0);
+      root = l .1;
     })
 
 -- p stands at node i, within the table
@@ -176,5 +178,5 @@ pub spells-from : (t : List ℕ) → ConfigurationsGood t → (b : ℕ)
 spells-from t c b good i g l = grown t (configured t c) b good (nodes t) i (omega arith) g l
 
 pub spells-tree : (t : List ℕ) → ConfigurationsGood t → 0 < nodes t
-    → ((i : ℕ) → i < nodes t → goodNode t i ≡ true) → Spells t 0 (treeOf t)
+    → NodesGood t → Spells t 0 (treeOf t)
 spells-tree t c n good = spells-from t c 0 (λ i g l. good i l) 0 (omega arith) n .spells

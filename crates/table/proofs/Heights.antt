@@ -2,7 +2,7 @@
 -- where the parts begin.
 use Prim.Native.Nat.{ℕ, zero, suc, _+_, _-_, _*_, _≤_, _<_}
 use mathlib.Core.Bool.{Bool, true, false, cond, _&&_, false≢true}
-use mathlib.Core.Path.{_≡_, refl, sym, ap, _∙_}
+use mathlib.Core.Path.{_≡_, refl, ap, _∙_}
 use mathlib.Core.List.{List}
 use native.Mathlib.Omega.{arith}
 use lib.Dec.{eqb, eqb·suc-zero, eqb·suc-suc}
@@ -10,7 +10,7 @@ use borrow.Author.Tests.{eqb-true}
 use Rattle.table.specs.Records.{configurations, partKind, partSize}
 use Rattle.table.specs.Good.{parts, goodButHeight, ofParts, heightAtMost, goodConfiguration}
 use Rattle.table.specs.Inside.{Begins}
-use Rattle.table.proofs.Laid.{both, sizeOf, kindOf, Laid, none, one, two, Fine, fine}
+use Rattle.table.proofs.Laid.{both, sizeOf, kindOf, Laid, none, one, two, fine}
 use Rattle.table.proofs.OwnBytes.{first-at, second-at}
 
 -- the height of a good record with that many parts

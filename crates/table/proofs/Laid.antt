@@ -4,7 +4,7 @@ use mathlib.Core.Bool.{Bool, true, false, cond, _&&_, false≢true}
 use mathlib.Core.Path.{_≡_, refl}
 use mathlib.Core.List.{List}
 use native.Mathlib.Omega.{arith}
-use lib.Dec.{eqb, ltb, leb}
+use lib.Dec.{eqb}
 use borrow.Author.Tests.{eqb-true, ltb-true, leb-true}
 use Rattle.table.specs.Records.{configurations, events, configurationAt, partKind, partEvent, partSize}
 use Rattle.table.specs.Good.{laidOut, parts, goodButHeight}
@@ -28,6 +28,13 @@ laid written n i (suc (suc more)) e =
     let h = both e in
     let k = both (h .1) in
     two (ltb-true _ _ (h .0)) (ltb-true _ _ (k .0)) (eqb-true _ _ (k .1))
+
+-- so its children are records too
+pub one-inside : {written : ℕ → ℕ} {n i : ℕ} → Laid written n i 1 → i + 1 < n
+one-inside (one l s) = l
+
+pub two-inside : {written : ℕ → ℕ} {n i : ℕ} → Laid written n i 2 → (i + 1 < n) × (i + 1 + written (i + 1) < n)
+two-inside (two l m s) = (l, m)
 
 -- the size written in configuration j
 abbrev pub sizeOf : List ℕ → ℕ → ℕ

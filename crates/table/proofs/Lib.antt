@@ -23,4 +23,7 @@ pub mod Waits
 pub mod Placing
 pub mod Swept
 pub mod Answers
+pub mod TestParts
+pub mod Loaded
+pub mod Accepted
 pub mod Bench

@@ -3,7 +3,7 @@ use Prim.Native.Nat.{ℕ, zero, suc, _+_}
 use mathlib.Core.Path.{_≡_, ap, ap₂, sym, _∙_}
 use mathlib.Core.List.{List}
 use native.Mathlib.Omega.{arith}
-use Rattle.junior.specs.Configuration.{Config, Event, Not, And, Or}
+use Rattle.junior.specs.Configuration.{Config}
 use Rattle.junior.specs.Program.{Program, Nothing, Stop, Atom, Seq, Par, Loop, Repeat, Generate, Await, When, Until}
 use Rattle.junior.specs.Program.{Control, Local, size, kind}
 use Rattle.table.proofs.ByParts.{written}

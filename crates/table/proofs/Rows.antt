@@ -8,18 +8,13 @@ use Rattle.table.specs.Records.{nodes, sizeAt, secondAt}
 use Rattle.table.specs.Inside.Weighing.{Row, height}
 use Rattle.table.proofs.Little.{below-or}
 use Rattle.table.proofs.Parts.{of-none, of-one, of-two}
-use Rattle.table.proofs.Tree.{Tree, leaf, one, two, sized}
+use Rattle.table.proofs.Tree.{Tree, leaf, one, two, sized, size-pos}
 
 -- of k programs some stand from e on, and at most h before it
 record Beyond (t : List ℕ) (k e h : ℕ) : Type 0 where
   rest : ℕ
   row : Row t rest e
   few : k ≤ rest + h
-
-size-positive : {t : List ℕ} {i c : ℕ} {p : Program} → Tree t i c p → 0 < size p
-size-positive (leaf h z v) = let s = of-none v .size-is in omega arith
-size-positive (one h z v x) = let s = of-one v .size-is in omega arith
-size-positive (two h z v x y) = let s = of-two v .size-is in omega arith
 
 height-positive : {t : List ℕ} {i c : ℕ} {p : Program} → Tree t i c p → 0 < height p
 height-positive (leaf h z v) = let s = of-none v .height-is in omega arith
@@ -44,7 +39,7 @@ height-most (two h z v x y) =
 beyond-whole : {t : List ℕ} {b c : ℕ} {p : Program} → Tree t b c p → b + size p ≤ nodes t → (k : ℕ) → Row t k b
     → Beyond t k (b + size p) 1
 unfolding Row
-beyond-whole x l zero r = let s = size-positive x in absurd (omega arith)
+beyond-whole {p = p} x l zero r = let s = size-pos p in absurd (omega arith)
 beyond-whole x l (suc k) r = record { rest = k; row = rw (sized x) at (r .1); few = omega arith }
 
 moved : {t : List ℕ} {k e h : ℕ} → Beyond t k e h → (e′ h′ : ℕ) → e ≡ e′ → h ≤ h′ → Beyond t k e′ h′

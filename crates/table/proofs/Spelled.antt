@@ -1,10 +1,9 @@
 -- Good configurations spell: the whole of each is there within 16 levels and inside the table, and nothing else is spelled there.
 use Prim.Native.Nat.{ℕ, zero, suc, _+_, _*_, _≤_, _<_}
-use mathlib.Core.Bool.{Bool, true, false, cond, _&&_, false≢true}
+use mathlib.Core.Bool.{true, _&&_, false≢true}
 use mathlib.Core.Path.{_≡_, refl, sym, ap, ap₂, _∙_}
 use mathlib.Core.List.{List}
 use native.Mathlib.Omega.{arith}
-use lib.ListN.{length}
 use Rattle.junior.specs.Configuration.{Config, Event, Not, And, Or}
 use Rattle.table.specs.Records.{configurations, configurationAt, partKind, partSize, secondPart}
 use Rattle.table.specs.Good.{parts, goodButHeight, ofParts, heightAtMost, goodConfiguration}
@@ -72,7 +71,7 @@ found-at t h c j k e l d disjunction parts low below =
     record { configured = rw d (d, o .size, o .first, o .second); weighs = rw d (sym (o .size)); ends = o .ends }
 
 module _ (t : List ℕ) (good : ConfigurationsGood t) where
-  own-good : (j : ℕ) → j < configurations t → (goodButHeight t j ≡ true) × (heightAtMost t 16 j ≡ true)
+  pub own-good : (j : ℕ) → j < configurations t → (goodButHeight t j ≡ true) × (heightAtMost t 16 j ≡ true)
   unfolding goodConfiguration
   own-good j l = both {a = goodButHeight t j} (good j l)
 

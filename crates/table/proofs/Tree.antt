@@ -1,7 +1,8 @@
 -- The tree at a node, node by node: with no part, one or two, and what follows of the order of its nodes.
-use Prim.Native.Nat.{ℕ, _+_}
-use mathlib.Core.Path.{_≡_}
+use Prim.Native.Nat.{ℕ, _+_, _≤_}
+use mathlib.Core.Path.{_≡_, ap}
 use mathlib.Core.List.{List}
+use native.Mathlib.Omega.{arith}
 use Rattle.junior.specs.Program.{Program, Nothing, Stop, Atom, Seq, Par, Loop, Repeat, Generate, Await, When, Until}
 use Rattle.junior.specs.Program.{Control, Local, size, kind}
 use Rattle.table.specs.Records.{kindAt, argumentAt, sizeAt, secondAt}
@@ -47,3 +48,33 @@ heads (two h z v x y) = z
 
 pub sized : {t : List ℕ} {i c : ℕ} {p : Program} → Tree t i c p → sizeAt t i ≡ size p
 sized x = heads x .1
+
+-- what stands at node i, by its record
+pub kind-is : (t : List ℕ) (i : ℕ) (p : Program) → Spells t i p → kindAt t i ≡ kind p
+kind-is t i p h = heads (tree t i p h) .0
+
+pub written : (t : List ℕ) (i : ℕ) (p : Program) → Spells t i p → sizeAt t i ≡ size p
+written t i p h = sized (tree t i p h)
+
+-- a second child stands behind all of the first
+pub second-is : (t : List ℕ) (i : ℕ) (p : Program) → Spells t (i + 1) p → secondAt t i ≡ i + 1 + size p
+second-is t i p h = ap (λ n. i + 1 + n) (written t (i + 1) p h)
+
+pub second : (t : List ℕ) (i : ℕ) (p q : Program) → Spells t (i + 1) p → Spells t (secondAt t i) q → Spells t (i + 1 + size p) q
+second t i p q h k = rw (← written t (i + 1) p h) k
+
+pub size-pos : (p : Program) → 1 ≤ size p
+unfolding size
+size-pos Nothing = omega arith
+size-pos Stop = omega arith
+size-pos (Atom a) = omega arith
+size-pos (Seq p q) = omega arith
+size-pos (Par p q) = omega arith
+size-pos (Loop p) = omega arith
+size-pos (Repeat n p) = omega arith
+size-pos (Generate s) = omega arith
+size-pos (Await c) = omega arith
+size-pos (When c p q) = omega arith
+size-pos (Until c p q) = omega arith
+size-pos (Control s p) = omega arith
+size-pos (Local s p) = omega arith

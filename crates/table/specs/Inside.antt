@@ -1,11 +1,13 @@
--- What a table has once some refusals are past. Private contracts alone cite this file and those below it; no public one does.
+-- What a table has once some refusals are past. No contract of a customer's call cites this file or those below it.
 use Prim.Native.Nat.{ℕ, _+_, _*_, _≤_, _<_}
 use mathlib.Core.Bool.{true}
 use mathlib.Core.Path.{_≡_}
 use mathlib.Core.List.{List}
 use lib.ListN.{length}
+use Rattle.junior.specs.Program.{Program, size}
 use Rattle.table.specs.Records.{nodes, configurations, events, configurationAt}
-use Rattle.table.specs.Good.{goodConfiguration}
+use Rattle.table.specs.Good.{goodConfiguration, goodNode}
+use Rattle.table.specs.Spells.{Spells}
 pub mod Framing
 pub mod Ranks
 pub mod Ways
@@ -26,6 +28,22 @@ pub record Framed (t : List ℕ) (n m v : ℕ) : Type 0 where
 -- past 4
 abbrev pub ConfigurationsGood : List ℕ → Type 0
 ConfigurationsGood t = (j : ℕ) → j < configurations t → goodConfiguration t j ≡ true
+
+-- past 5
+abbrev pub NodesGood : List ℕ → Type 0
+NodesGood t = (i : ℕ) → i < nodes t → goodNode t i ≡ true
+
+-- past 1 to 5
+pub record Loaded (t : List ℕ) : Type 0 where
+  pub framed : Framed t (nodes t) (configurations t) (events t)
+  pub configurations-good : ConfigurationsGood t
+  pub nodes-good : NodesGood t
+
+-- p stands at node i of such a table
+pub record Placed (t : List ℕ) (i : ℕ) (p : Program) : Type 0 where
+  pub loaded : Loaded t
+  pub spelled : Spells t i p
+  pub inside : i + size p ≤ nodes t
 
 -- configuration j begins at byte c, and the bytes end ten behind the last configuration
 pub record Begins (t : List ℕ) (c j : ℕ) : Type 0 where

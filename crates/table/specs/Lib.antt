@@ -5,3 +5,4 @@ pub mod Spells
 pub mod Reading
 pub mod Verdict
 pub mod Inside
+pub mod Bytes

@@ -1,10 +1,10 @@
 -- The tree that records spell.
 use Prim.Native.Nat.{ℕ, zero, suc, _+_, _*_}
-use mathlib.Core.Bool.{Bool, cond}
+use mathlib.Core.Bool.{cond}
 use mathlib.Core.Path.{_≡_}
 use mathlib.Core.List.{List}
 use lib.Dec.{eqb}
-use Rattle.table.specs.Records.{nodes, configurations, kindAt, argumentAt, sizeAt, secondAt, configurationAt}
+use Rattle.table.specs.Records.{nodes, kindAt, argumentAt, sizeAt, secondAt, configurationAt}
 use Rattle.table.specs.Records.{partKind}
 use Rattle.table.specs.Records.{partEvent, partSize, firstPart, secondPart}
 use Rattle.junior.specs.Configuration.{Config, Event, Not, And, Or}

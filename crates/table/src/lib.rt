@@ -7,6 +7,7 @@ use frame::Frame;
 pub mod configurations;
 pub mod frame;
 pub mod nodes;
+pub mod numbers;
 pub mod reading;
 pub mod records;
 pub mod weights;

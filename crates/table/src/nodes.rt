@@ -319,7 +319,8 @@ fn first_deep(table: &[u8], i: usize, d: usize) -> usize
     first_deep(table, second, d + 1)
 }
 
-fn children_of(k: usize) -> usize
+// How many children kind k has.
+pub fn children_of(k: usize) -> usize
     ensures { λ r. ⌜ children k ≡ r ⌝ }
 {
     match k {

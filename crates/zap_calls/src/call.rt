@@ -1,18 +1,24 @@
 // The call that a line makes, and its answer line. Each function puts an answer line at the start of the output and answers its length.
 ghost use Prim.Native.Nat.{_≤_};
 ghost use lib.ListN.{length};
+ghost use Rattle.zap_calls.specs.Rooms.{LongRoom, StateRoom, RowRoom, Rooms, AnswerRoom};
 use bytes::scan::find;
 use calls::put_bytes;
 use calls::put_numbers;
 use calls::put_row;
 use calls::read_bytes;
 use calls::read_list;
+use calls::read_pair;
 use calls::read_row;
 use events::EventSet;
-use kernel::numbers::Refusal;
 use kernel::numbers::refusal_of;
-use kernel::numbers::refusal_of_table;
 use table::Checked;
+use table::numbers::Refusal;
+use table::numbers::refusal_of_table;
+use text::TextPrinted;
+use text::TextRead;
+use text::numbers::refusal_of_print;
+use text::numbers::refusal_of_read;
 
 // The bytes of the longest line that is a call.
 pub const LONGEST: usize = 160000;
@@ -22,9 +28,11 @@ pub fn answer_call(
     table: &mut [u8],
     state: &mut [u8],
     row: &mut [u16],
+    text: &mut [u8],
     output: &mut [u8],
 ) -> usize
-    requires { ⌜ (length (now state) ≤ 17000) × (length (now row) ≤ 4200) × (52000 ≤ length (now output)) ⌝ }
+    requires { ⌜ Rooms (now table) (now state) (now row) (now text) ⌝ }
+    requires { ⌜ AnswerRoom (now output) ⌝ }
     ensures { λ r. ⌜ r ≤ length (now (output .entry)) ⌝ }
 {
     let name = find(line, 0, line.len(), 32);
@@ -44,11 +52,17 @@ pub fn answer_call(
     if is_name(&line[..name], b"instant") {
         return answer_instant(words, table, state, row, output);
     }
+    if is_name(&line[..name], b"read") {
+        return answer_read(words, text, table, output);
+    }
+    if is_name(&line[..name], b"print") {
+        return answer_print(words, table, text, output);
+    }
     bad_line(output)
 }
 
 fn answer_check(words: &[u8], table: &mut [u8], output: &mut [u8]) -> usize
-    requires { ⌜ 52000 ≤ length (now output) ⌝ }
+    requires { ⌜ AnswerRoom (now output) ⌝ }
     ensures { λ r. ⌜ r ≤ length (now (output .entry)) ⌝ }
 {
     let t = read_bytes(words, table);
@@ -60,7 +74,7 @@ fn answer_check(words: &[u8], table: &mut [u8], output: &mut [u8]) -> usize
 }
 
 fn call_check(table: &[u8], output: &mut [u8]) -> usize
-    requires { ⌜ 52000 ≤ length (now output) ⌝ }
+    requires { ⌜ AnswerRoom (now output) ⌝ }
     ensures { λ r. ⌜ r ≤ length (now (output .entry)) ⌝ }
 {
     let verdict = table::check(table);
@@ -76,7 +90,7 @@ fn call_check(table: &[u8], output: &mut [u8]) -> usize
 }
 
 fn put_check(output: &mut [u8], refusal: Refusal, g: usize, a: usize, w: usize) -> usize
-    requires { ⌜ 52000 ≤ length (now output) ⌝ }
+    requires { ⌜ AnswerRoom (now output) ⌝ }
     ensures { λ r. ⌜ r ≤ length (now (output .entry)) ⌝ }
 {
     let to = put_numbers(
@@ -93,28 +107,20 @@ fn put_check(output: &mut [u8], refusal: Refusal, g: usize, a: usize, w: usize) 
 }
 
 fn answer_start(words: &[u8], table: &mut [u8], state: &mut [u8], output: &mut [u8]) -> usize
-    requires { ⌜ (length (now state) ≤ 17000) × (52000 ≤ length (now output)) ⌝ }
+    requires { ⌜ StateRoom (now state) × AnswerRoom (now output) ⌝ }
     ensures { λ r. ⌜ r ≤ length (now (output .entry)) ⌝ }
 {
-    let b = find(words, 0, words.len(), 32);
-    if words.len() <= b {
+    let p = read_pair(words, table, state);
+    if !p.good {
         return bad_line(output);
     }
-    let t = read_bytes(&words[..b], table);
-    if !t.good {
-        return bad_line(output);
-    }
-    let s = read_bytes(&words[b + 1..], state);
-    if !s.good {
-        return bad_line(output);
-    }
-    let n = t.count;
-    let m = s.count;
+    let n = p.first;
+    let m = p.second;
     call_start(&table[..n], &mut state[..m], output)
 }
 
 fn call_start(table: &[u8], state: &mut [u8], output: &mut [u8]) -> usize
-    requires { ⌜ (length (now state) ≤ 17000) × (52000 ≤ length (now output)) ⌝ }
+    requires { ⌜ StateRoom (now state) × AnswerRoom (now output) ⌝ }
     ensures { λ r. ⌜ r ≤ length (now (output .entry)) ⌝ }
 {
     let outcome = kernel::start(table, state);
@@ -130,45 +136,33 @@ fn answer_instant(
     row: &mut [u16],
     output: &mut [u8],
 ) -> usize
-    requires { ⌜ (length (now state) ≤ 17000) × (length (now row) ≤ 4200) × (52000 ≤ length (now output)) ⌝ }
+    requires { ⌜ StateRoom (now state) × RowRoom (now row) × AnswerRoom (now output) ⌝ }
     ensures { λ r. ⌜ r ≤ length (now (output .entry)) ⌝ }
 {
-    let b = find(words, 0, words.len(), 32);
-    if words.len() <= b {
+    let table_end = find(words, 0, words.len(), 32);
+    if words.len() <= table_end {
         return bad_line(output);
     }
-    let t = read_bytes(&words[..b], table);
-    if !t.good {
+    let state_end = find(words, table_end + 1, words.len(), 32);
+    if words.len() <= state_end {
         return bad_line(output);
     }
-    let n = t.count;
-    with_table(&words[b + 1..], &table[..n], state, row, output)
+    let p = read_pair(&words[..state_end], table, state);
+    if !p.good {
+        return bad_line(output);
+    }
+    let n = p.first;
+    let m = p.second;
+    with_state(
+        &words[state_end + 1..],
+        &table[..n],
+        &mut state[..m],
+        row,
+        output,
+    )
 }
 
-// An instant whose table has been read.
-fn with_table(
-    words: &[u8],
-    table: &[u8],
-    state: &mut [u8],
-    row: &mut [u16],
-    output: &mut [u8],
-) -> usize
-    requires { ⌜ (length (now state) ≤ 17000) × (length (now row) ≤ 4200) × (52000 ≤ length (now output)) ⌝ }
-    ensures { λ r. ⌜ r ≤ length (now (output .entry)) ⌝ }
-{
-    let b = find(words, 0, words.len(), 32);
-    if words.len() <= b {
-        return bad_line(output);
-    }
-    let s = read_bytes(&words[..b], state);
-    if !s.good {
-        return bad_line(output);
-    }
-    let m = s.count;
-    with_state(&words[b + 1..], table, &mut state[..m], row, output)
-}
-
-// And its state.
+// An instant whose table and state have been read.
 fn with_state(
     words: &[u8],
     table: &[u8],
@@ -176,7 +170,7 @@ fn with_state(
     row: &mut [u16],
     output: &mut [u8],
 ) -> usize
-    requires { ⌜ (length (now state) ≤ 17000) × (length (now row) ≤ 4200) × (52000 ≤ length (now output)) ⌝ }
+    requires { ⌜ StateRoom (now state) × RowRoom (now row) × AnswerRoom (now output) ⌝ }
     ensures { λ r. ⌜ r ≤ length (now (output .entry)) ⌝ }
 {
     let b = find(words, 0, words.len(), 32);
@@ -202,7 +196,7 @@ fn call_instant(
     row: &mut [u16],
     output: &mut [u8],
 ) -> usize
-    requires { ⌜ (length (now state) ≤ 17000) × (length (now row) ≤ 4200) × (52000 ≤ length (now output)) ⌝ }
+    requires { ⌜ StateRoom (now state) × RowRoom (now row) × AnswerRoom (now output) ⌝ }
     ensures { λ r. ⌜ r ≤ length (now (output .entry)) ⌝ }
 {
     let answer = kernel::instant(table, state, handed_in, row);
@@ -225,8 +219,71 @@ fn call_instant(
     put_row(output, bytes, row, 10)
 }
 
+fn answer_read(words: &[u8], text: &mut [u8], table: &mut [u8], output: &mut [u8]) -> usize
+    requires { ⌜ LongRoom (now table) × AnswerRoom (now output) ⌝ }
+    ensures { λ r. ⌜ r ≤ length (now (output .entry)) ⌝ }
+{
+    let p = read_pair(words, text, table);
+    if !p.good {
+        return bad_line(output);
+    }
+    let n = p.first;
+    let m = p.second;
+    call_read(&text[..n], &mut table[..m], output)
+}
+
+fn call_read(text: &[u8], table: &mut [u8], output: &mut [u8]) -> usize
+    requires { ⌜ LongRoom (now table) × AnswerRoom (now output) ⌝ }
+    ensures { λ r. ⌜ r ≤ length (now (output .entry)) ⌝ }
+{
+    let answer = text::read::read(text, table);
+    let refusal = refusal_of_read(answer);
+    match answer {
+        TextRead::Read(n) => put_room(output, refusal, n, table),
+        _ => put_room(output, refusal, 0, table),
+    }
+}
+
+fn answer_print(words: &[u8], table: &mut [u8], text: &mut [u8], output: &mut [u8]) -> usize
+    requires { ⌜ LongRoom (now text) × AnswerRoom (now output) ⌝ }
+    ensures { λ r. ⌜ r ≤ length (now (output .entry)) ⌝ }
+{
+    let p = read_pair(words, table, text);
+    if !p.good {
+        return bad_line(output);
+    }
+    let n = p.first;
+    let m = p.second;
+    call_print(&table[..n], &mut text[..m], output)
+}
+
+fn call_print(table: &[u8], text: &mut [u8], output: &mut [u8]) -> usize
+    requires { ⌜ LongRoom (now text) × AnswerRoom (now output) ⌝ }
+    ensures { λ r. ⌜ r ≤ length (now (output .entry)) ⌝ }
+{
+    let answer = text::print::print(table, text);
+    let refusal = refusal_of_print(answer);
+    match answer {
+        TextPrinted::Printed(n) => put_room(output, refusal, n, text),
+        _ => put_room(output, refusal, 0, text),
+    }
+}
+
+// The answer line of reading and of printing: the room is the lent one that the call writes.
+fn put_room(output: &mut [u8], refusal: Refusal, long: usize, room: &[u8]) -> usize
+    requires { ⌜ LongRoom (now room) × AnswerRoom (now output) ⌝ }
+    ensures { λ r. ⌜ r ≤ length (now (output .entry)) ⌝ }
+{
+    let to = put_numbers(
+        output,
+        0,
+        &[refusal.number as u64, refusal.index as u64, long as u64],
+    );
+    put_bytes(output, to, room, 10)
+}
+
 fn bad_line(output: &mut [u8]) -> usize
-    requires { ⌜ 52000 ≤ length (now output) ⌝ }
+    requires { ⌜ AnswerRoom (now output) ⌝ }
     ensures { λ r. ⌜ r ≤ length (now (output .entry)) ⌝ }
 {
     bytes::copy(b"bad-line\n", output)

@@ -3,6 +3,7 @@
 ghost use mathlib.Core.Path.{_≡_};
 ghost use Prim.Native.Nat.{_+_, _≤_};
 ghost use lib.ListN.{length};
+ghost use Rattle.zap_calls.specs.Rooms.{Rooms};
 use blocks::TURNS;
 use blocks::keep_rest;
 use blocks::read_some;
@@ -12,27 +13,37 @@ use call::answer_call;
 
 mod call;
 
-// The rooms' limits in a line: bytes of a table, bytes of a state, numbers of a row.
+// The rooms' limits in a line: bytes of a table, bytes of a state, numbers of a row, bytes of a text.
 const TABLE: usize = 33000;
 
 const STATE: usize = 17000;
 
 const ROW: usize = 4200;
 
+const TEXT: usize = 33000;
+
 const INPUT: usize = 327680;
 
 const OUTPUT: usize = 131072;
 
 // The room that an answer line can take at most.
-const ANSWER: usize = 52000;
+const ANSWER: usize = 67000;
 
 fn main() {
     let mut table = [0u8; TABLE];
     let mut state = [0u8; STATE];
     let mut row = [0u16; ROW];
+    let mut text = [0u8; TEXT];
     let mut input = [0u8; INPUT];
     let mut output = [0u8; OUTPUT];
-    answer_lines(&mut table, &mut state, &mut row, &mut input, &mut output);
+    answer_lines(
+        &mut table,
+        &mut state,
+        &mut row,
+        &mut text,
+        &mut input,
+        &mut output,
+    );
 }
 
 // Answers the lines of standard input. All of a block's whole lines are answered before the program waits for more.
@@ -40,31 +51,40 @@ fn answer_lines(
     table: &mut [u8],
     state: &mut [u8],
     row: &mut [u16],
+    text: &mut [u8],
     input: &mut [u8],
     output: &mut [u8],
 )
-    requires { ⌜ (length (now state) ≤ 17000) × (length (now row) ≤ 4200) ⌝ }
+    requires { ⌜ Rooms (now table) (now state) (now row) (now text) ⌝ }
     requires { ⌜ (length (now input) ≡ 327680) × (length (now output) ≡ 131072) ⌝ }
 {
     let mut held = 0;
     for _ in 0..TURNS {
         let got = read_some(0, &mut input[held..]).count;
         if got == 0 {
-            answer_last(table, state, row, &input[..held], output);
+            answer_last(table, state, row, text, &input[..held], output);
             return;
         }
-        held = answer_block(table, state, row, input, held, held + got, output);
+        held = answer_block(table, state, row, text, input, held, held + got, output);
     }
 }
 
 // Answers a last line without a newline, if it has a byte.
-fn answer_last(table: &mut [u8], state: &mut [u8], row: &mut [u16], line: &[u8], output: &mut [u8])
-    requires { ⌜ (length (now state) ≤ 17000) × (length (now row) ≤ 4200) × (length (now output) ≡ 131072) ⌝ }
+fn answer_last(
+    table: &mut [u8],
+    state: &mut [u8],
+    row: &mut [u16],
+    text: &mut [u8],
+    line: &[u8],
+    output: &mut [u8],
+)
+    requires { ⌜ Rooms (now table) (now state) (now row) (now text) ⌝ }
+    requires { ⌜ length (now output) ≡ 131072 ⌝ }
 {
     if line.len() == 0 {
         return;
     }
-    let n = answer_call(line, table, state, row, output);
+    let n = answer_call(line, table, state, row, text, output);
     write_out(&output[..n]);
 }
 
@@ -73,12 +93,13 @@ fn answer_block(
     table: &mut [u8],
     state: &mut [u8],
     row: &mut [u16],
+    text: &mut [u8],
     input: &mut [u8],
     held: usize,
     to: usize,
     output: &mut [u8],
 ) -> usize
-    requires { ⌜ (length (now state) ≤ 17000) × (length (now row) ≤ 4200) ⌝ }
+    requires { ⌜ Rooms (now table) (now state) (now row) (now text) ⌝ }
     requires { ⌜ (length (now input) ≡ 327680) × (length (now output) ≡ 131072) × (held ≤ to) × (to ≤ length (now input)) ⌝ }
     ensures { λ r. ⌜ r ≤ 160001 ⌝ }
 {
@@ -87,7 +108,14 @@ fn answer_block(
     let mut end = bytes::scan::find(input, held, to, 10);
     while end < to {
         filled = room_for_answer(output, filled);
-        filled += answer_call(&input[from..end], table, state, row, &mut output[filled..]);
+        filled += answer_call(
+            &input[from..end],
+            table,
+            state,
+            row,
+            text,
+            &mut output[filled..],
+        );
         from = end + 1;
         end = bytes::scan::find(input, from, to, 10);
     }
@@ -98,7 +126,7 @@ fn answer_block(
 // Where the next answer goes: where the block has no room for it behind the answers there, these are written out.
 fn room_for_answer(output: &[u8], filled: usize) -> usize
     requires { ⌜ (filled ≤ length (now output)) × (length (now output) ≡ 131072) ⌝ }
-    ensures { λ r. ⌜ r + 52000 ≤ length (now (output .entry)) ⌝ }
+    ensures { λ r. ⌜ r + 67000 ≤ length (now (output .entry)) ⌝ }
 {
     if filled + ANSWER <= output.len() {
         return filled;

@@ -7,6 +7,8 @@ use answer::answer_line;
 use blocks::TURNS;
 use blocks::keep_rest;
 use blocks::read_some;
+use blocks::read_table;
+use blocks::tell_table_refused;
 use blocks::write_out;
 
 mod answer;
@@ -37,8 +39,7 @@ fn main() {
     let outcome = kernel::start(&table[..length], &mut state);
     let refusal = kernel::numbers::refusal_of(outcome);
     if refusal.number != 0 {
-        let n = listing::write_table_refused(&mut output, refusal.number, refusal.index);
-        write_out(&output[..n]);
+        tell_table_refused(refusal.number, refusal.index);
         return;
     }
     list_lines(
@@ -142,35 +143,4 @@ fn room_for_line(output: &[u8], filled: usize) -> usize
     }
     write_out(&output[..filled]);
     0
-}
-
-// The bytes of `table.bin` at the start of the room; none if it can't be read.
-fn read_table(room: &mut [u8]) -> usize
-    ensures { λ r. ⌜ r ≤ length (now (room .exit)) ⌝ }
-{
-    let file = os::open_read(b"table.bin");
-    if file < 0 {
-        return 0;
-    }
-    let length = read_all(file, room);
-    libc::close(file);
-    length
-}
-
-// Reads until the room is full or the file ends; none if a read fails.
-fn read_all(file: i32, room: &mut [u8]) -> usize
-    ensures { λ r. ⌜ r ≤ length (now (room .exit)) ⌝ }
-{
-    let mut done = 0;
-    while done < room.len() {
-        let got = read_some(file, &mut room[done..]);
-        if got.failed {
-            return 0;
-        }
-        if got.count == 0 {
-            break;
-        }
-        done += got.count;
-    }
-    done
 }

@@ -146,19 +146,12 @@ impl Maker {
         let mut words: Vec<String> = line.split(' ').map(str::to_string).collect();
         let place = self.r.below(words.len());
         match self.r.below(10) {
-            0 => words[place].push(' '),
-            1 => words[place].insert(0, ' '),
-            2 => words[place] = words[place].to_uppercase(),
-            3 => words[place].push('0'),
-            4 => words[place].push('\r'),
-            5 => words[place].clear(),
-            6 => drop(words.remove(place)),
-            7 => words.insert(place, "-".to_string()),
             8 => {
                 words[3] =
                     self.r.pick(&["256", "00", "1,", ",1", "1,,2", "01", "+1", "1;2", "0,0", "3,1,3"]).to_string()
             }
-            _ => words[0] = self.r.pick(&["check", "start", "Instant", "run", "instants"]).to_string(),
+            9 => words[0] = self.r.pick(&["check", "start", "Instant", "run", "instants"]).to_string(),
+            way => harm::spoil_word(&mut words, place, way),
         }
         words.join(" ")
     }

@@ -1,4 +1,4 @@
-//! Damaged tables: records with wrong numbers, flipped bits, cuts and additions.
+//! Damaged tables: records with wrong numbers, flipped bits, cuts and additions; and spoilt lines.
 
 use super::draft::Records;
 use super::random::Random;
@@ -86,5 +86,19 @@ fn in_the_bytes(r: &mut Random, bytes: &mut Vec<u8>) {
             let place = if r.chance(50) { 0 } else { length };
             bytes.splice(place..place, more);
         }
+    }
+}
+
+/// Spoils a line at one of its words, in one of eight ways; a few leave it good.
+pub fn spoil_word(words: &mut Vec<String>, place: usize, way: usize) {
+    match way {
+        0 => words[place].push(' '),
+        1 => words[place].insert(0, ' '),
+        2 => words[place] = words[place].to_uppercase(),
+        3 => words[place].push('0'),
+        4 => words[place].push('\r'),
+        5 => words[place].clear(),
+        6 => drop(words.remove(place)),
+        _ => words.insert(place, "-".to_string()),
     }
 }

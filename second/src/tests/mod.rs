@@ -1,10 +1,13 @@
-//! Tests typed in from the documents: the bench list, the readings taken, the listing, and laws over random calls.
+//! Tests typed in from the documents: the bench list, the readings taken, the listing, the written form, and laws
+//! over random calls.
 
 mod bench;
 mod laws;
 mod listings;
 mod readings;
 mod rules;
+mod text_laws;
+mod texts;
 
 use crate::env::Events;
 use crate::figures::Figures;

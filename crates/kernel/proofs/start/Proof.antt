@@ -4,7 +4,7 @@ use mathlib.Core.Path.{_≡_, refl, sym, ap, _∙_}
 use mathlib.Core.List.{_++_}
 use native.Mathlib.Omega.{arith}
 use borrow.Author.Needs.{needs}
-use lib.ListN.{length, drop, take, replicate}
+use lib.ListN.{drop}
 use lib.Seq.{length-take-le}
 use Rattle.table.specs.Records.{nodes}
 use Rattle.kernel.specs.Answer.{startedRoom}

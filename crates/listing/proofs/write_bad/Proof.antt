@@ -3,10 +3,10 @@ use mathlib.Core.Path.{_∙_}
 use mathlib.Core.List.{[]}
 use native.Mathlib.Omega.{arith}
 use borrow.Author.Needs.{needs}
-use Rattle.listing.specs.Decimal.{decimal}
-use Rattle.listing.specs.Text.{bytes}
+use Rattle.letters.specs.Decimal.{decimal}
+use Rattle.letters.specs.Text.{bytes}
+use Rattle.letters.proofs.Decimal.{decimal-length}
 use Rattle.listing.specs.Output.{badLine}
-use Rattle.listing.proofs.Decimal.{decimal-length}
 use Rattle.listing.proofs.Puts.{number-end}
 use Rattle.listing.proofs.Lines.{puts-field, puts-last, written, unwritten}
 use Rattle.listing.proofs.write_bad.Statement.{statement}

@@ -5,10 +5,10 @@ use mathlib.Core.List.{[], _∷_}
 use native.Mathlib.Omega.{arith}
 use borrow.Author.Needs.{needs}
 use Rattle.events.specs.Members.{places, members}
-use Rattle.listing.specs.Decimal.{decimal}
-use Rattle.listing.specs.Text.{bytes}
+use Rattle.letters.specs.Decimal.{decimal}
+use Rattle.letters.specs.Text.{bytes}
+use Rattle.letters.proofs.Decimal.{decimal-length}
 use Rattle.listing.specs.Output.{rising, listed, ranLine}
-use Rattle.listing.proofs.Decimal.{decimal-length}
 use Rattle.listing.proofs.Puts.{number-end}
 use Rattle.listing.proofs.Lines.{puts-field, puts-last, flag-length, written, unwritten}
 use Rattle.listing.proofs.write_ran.Statement.{statement}

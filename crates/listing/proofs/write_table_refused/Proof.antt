@@ -3,8 +3,8 @@ use mathlib.Core.Path.{_∙_}
 use mathlib.Core.List.{[], _∷_}
 use native.Mathlib.Omega.{arith}
 use borrow.Author.Needs.{needs}
-use Rattle.listing.specs.Decimal.{decimal}
-use Rattle.listing.specs.Text.{bytes}
+use Rattle.letters.specs.Decimal.{decimal}
+use Rattle.letters.specs.Text.{bytes}
 use Rattle.listing.specs.Output.{tableRefusedLine}
 use Rattle.listing.proofs.Lines.{puts-field, written, unwritten}
 use Rattle.listing.proofs.write_table_refused.Statement.{statement}

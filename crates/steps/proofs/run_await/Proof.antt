@@ -1,4 +1,5 @@
 -- `run_await` meets its contract.
+use Rattle.table.proofs.Tree.{size-pos}
 use Rattle.steps.proofs.run_await.Statement.{statement}
 use Rattle.steps.proofs.run_await.Tie as tie
 use borrow.Author.Needs.{needs}
@@ -7,7 +8,6 @@ use native.Mathlib.Omega.{arith}
 use lib.ListN.{getD}
 use borrow.Author.Tests.{lt-ltb, le-ltb}
 use Rattle.junior.specs.Term.{prog}
-use Rattle.steps.proofs.Parts.{size-pos}
 use Rattle.steps.proofs.Shape.{shape-by}
 use Rattle.steps.proofs.Leaves.{await-has, await-waits, await-fails, await-ends, await-stops}
 

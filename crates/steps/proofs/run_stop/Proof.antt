@@ -1,7 +1,7 @@
 -- `run_stop` meets its contract.
 use Rattle.junior.specs.Term.{prog}
+use Rattle.table.proofs.Tree.{size-pos}
 use Rattle.steps.proofs.Leaves.{stop-ran}
-use Rattle.steps.proofs.Parts.{size-pos}
 use Rattle.steps.proofs.Shape.{shape-by}
 use borrow.Author.Needs.{needs}
 use mathlib.Core.Path.{refl}

@@ -3,8 +3,10 @@ use Rattle.table.proofs.check.Statement.{statement}
 use Rattle.table.proofs.check.Tie as tie
 use borrow.Author.Needs.{needs}
 use mathlib.Core.Path.{sym, _∙_}
+use Rattle.table.specs.Records.{configurations}
+use Rattle.table.specs.Good.{goodConfiguration}
 use Rattle.table.proofs.Framing.{frame-counts, verdict-refused, verdict-records, records-bad, records-good}
-use Rattle.table.proofs.Framing.{none-bad}
+use Rattle.table.proofs.Lowest.{none-bad}
 
 -- let bad = first_bad(table, n, m, v);
 first-bad-requires : tie.Need-first-bad-requires
@@ -36,7 +38,7 @@ check-nodes-requires c κs =
     let if1 = c .if1 in
     let t = start .args .table .now in
     let f = frame-counts t _ _ _ (sym (frame-of .ensures) ∙ found2 .given .1) in
-    (f, none-bad t _ (first-bad .ensures) (rw (f .m-is) at (if1 .left)))
+    (f, none-bad (goodConfiguration t) (configurations t) _ (first-bad .ensures) (rw (f .m-is) at (if1 .left)))
 
 -- pub fn check
 returns-2 : tie.Need-returns-2

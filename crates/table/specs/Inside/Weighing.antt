@@ -14,7 +14,7 @@ use Rattle.table.specs.Records.{nodes, kindAt, sizeAt}
 use Rattle.table.specs.Good.{children, argumentLimit, goodNode}
 use Rattle.table.specs.Spells.{programOf}
 use Rattle.table.specs.Verdict.{endlessLoop}
-use Rattle.table.specs.Inside.{Framed, ConfigurationsGood}
+use Rattle.table.specs.Inside.{Framed, ConfigurationsGood, NodesGood}
 
 -- a program without parts, with one, with two; a is the count if it is a Repeat
 pub data Leaf : Program → Type 0 where
@@ -161,7 +161,7 @@ pub record AllGood (t : List ℕ) : Type 0 where
   pub long : 6 * nodes t + 10 ≤ length t
   pub few : nodes t ≤ 4096
   pub configurations-good : ConfigurationsGood t
-  pub good : (i : ℕ) → i < nodes t → goodNode t i ≡ true
+  pub good : NodesGood t
 
 -- before node i is placed: the table is past 4, and all nodes behind i are good and weighed
 pub record Ready (t w : List ℕ) (n i top : ℕ) : Type 0 where

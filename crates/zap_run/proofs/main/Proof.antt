@@ -3,7 +3,6 @@ use Rattle.zap_run.proofs.main.Statement.{statement}
 use Rattle.zap_run.proofs.main.Tie as tie
 use borrow.Author.Needs.{needs}
 use mathlib.Core.Path.{sym}
-use native.Mathlib.Omega.{arith}
 use lib.Seq.{length-take-le}
 
 -- let outcome = kernel::start(&table[..length], &mut state);
@@ -11,13 +10,6 @@ slice-aggregate-start : tie.Need-slice-aggregate-start
 slice-aggregate-start c =
     let read-table = c .before .before .read-table in
     sym (length-take-le (read-table .result) (read-table .last .0) (read-table .ensures))
-
--- write_out(&output[..n]);
-slice-aggregate-write-out : tie.Need-slice-aggregate-write-out
-slice-aggregate-write-out c =
-    let write-table-refused = c .before .before .write-table-refused in
-    let w = write-table-refused in
-    sym (length-take-le (w .result) (w .last .0) (omega (arith, w .ensures .within, w .kept .0)))
 
 -- &table[..length],
 slice-aggregate-list-lines : tie.Need-slice-aggregate-list-lines
@@ -35,11 +27,7 @@ main-spec =
     (λ c. search needs)  -- slice-aggregate-start-2
     (λ c κs. search needs)  -- start-requires
     (λ c κs. search needs)  -- refusal-of-requires: let refusal = kernel::numbers::refusal_of(outc..
-    (λ c. search needs)  -- slice-aggregate-write-table-refused: let n = listing::write_table_refu..
-    (λ c κs. search needs)  -- write-table-refused-requires
-    (λ c. search needs)  -- array-share-prefix-output: write_out(&output[..n]);
-    slice-aggregate-write-out
-    (λ c κs. search needs)  -- write-out-requires
+    (λ c κs. search needs)  -- tell-table-refused-requires: tell_table_refused(refusal.number, refusal.index);
     (λ c. search needs)  -- returns: return;
     (λ c. search needs)  -- array-share-prefix-table-2: &table[..length],
     slice-aggregate-list-lines

@@ -11,6 +11,7 @@ use borrow.Author.Needs.{needs}
 returns : tie.Need-returns
 unfolding numberAt
 returns c =
+    let start = c .before .before .before .before .before in
     let byte-at = c .before .before .before .byte-at in
     let byte-at2 = c .before .before .byte-at2 in
     let if1 = c .before .if1 in
@@ -21,6 +22,7 @@ returns c =
 returns-2 : tie.Need-returns-2
 unfolding numberAt
 returns-2 c =
+    let start = c .before .before .before .before .before in
     let byte-at = c .before .before .before .byte-at in
     let byte-at2 = c .before .before .byte-at2 in
     let if1 = c .before .if1 in
@@ -30,6 +32,7 @@ returns-2 c =
 returns-3 : tie.Need-returns-3
 unfolding numberAt
 returns-3 c =
+    let start = c .before .before .before .before in
     let byte-at = c .before .before .byte-at in
     let byte-at2 = c .before .byte-at2 in
     let if1 = c .if1 in

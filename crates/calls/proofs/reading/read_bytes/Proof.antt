@@ -1,14 +1,14 @@
 -- `read_bytes` meets its contract: after i turns the room begins with the first i bytes.
+use Rattle.calls.proofs.reading.read_bytes.Statement.{statement}
+use Rattle.calls.proofs.reading.read_bytes.Tie as tie
+use borrow.Author.Needs.{needs}
 use mathlib.Core.Path.{_≡_, refl, sym, _∙_}
 use mathlib.Core.List.{_++_}
 use Prim.Native.Nat.{ℕ, _*_, _-_, _/_, _≤_, _<_}
 use native.Mathlib.Omega.{arith}
 use lib.ListN.{length, drop, length-set}
 use Rattle.calls.specs.Words.{byteAt, firsts, WordRead}
-use Rattle.calls.proofs.Words.{fits-whole, unfit, firsts-more, all-more}
-use Rattle.calls.proofs.reading.read_bytes.Statement.{statement}
-use Rattle.calls.proofs.reading.read_bytes.Tie as tie
-use borrow.Author.Needs.{needs}
+use Rattle.calls.proofs.Words.{fits-whole, unfit, firsts-more, all-more, counted}
 
 abbrev Inv-loop : tie.InvT-loop
 Inv-loop text room₀ n i₀ room i =
@@ -20,28 +20,17 @@ Inv-loop text room₀ n i₀ room i =
 abbrev μ-loop : tie.MeasureT-loop
 μ-loop text room₀ n i₀ room i = n - i
 
--- if is_dash(text) {
-is-dash-requires : tie.Need-is-dash-requires Inv-loop μ-loop
-is-dash-requires c κs =
-    search needs
-
 -- return Amount {
 returns : tie.Need-returns Inv-loop μ-loop
 returns c =
     let is-dash = c .before .is-dash in
     let if1 = c .if1 in
-    WordRead.no-number (sym (is-dash .ensures) ∙ if1 .taken)
-
--- if fits(text.len(), n, 2 * n, room.len()) {
-fits-requires : tie.Need-fits-requires Inv-loop μ-loop
-fits-requires c κs =
-    search needs
+    (WordRead.no-number (sym (is-dash .ensures) ∙ if1 .taken), (omega arith, refl))
 
 -- for i in 0..n {
 loop-holds : tie.Need-loop-holds Inv-loop μ-loop
 unfolding firsts
-loop-holds c =
-    (omega arith, refl, refl, λ k h. absurd (omega arith))
+loop-holds c = (omega arith, refl, refl, λ k h. absurd (omega arith))
 
 -- let value = byte_at(text, 2 * i);
 byte-at-requires : tie.Need-byte-at-requires Inv-loop μ-loop
@@ -52,10 +41,6 @@ byte-at-requires c κs =
     omega (arith, fit)
 
 -- return unread();
-unread-requires : tie.Need-unread-requires Inv-loop μ-loop
-unread-requires c κs =
-    search needs
-
 returns-2 : tie.Need-returns-2 Inv-loop μ-loop
 returns-2 c =
     let start = c .before .before .before .before .before .before .before .before .before .before .before in
@@ -70,7 +55,7 @@ returns-2 c =
     let unread = c .unread in
     let fit = fits-whole _ _ _ _ (sym (fits2 .ensures) ∙ if2 .taken) in
     let big : 256 ≤ byteAt (start .args .text .now) (2 * loop .i) = omega (arith, byte-at .ensures .0, if3 .taken) in
-    rw (unread .ensures .0, unread .ensures .1) (WordRead.not-a-word _ (sym (is-dash .ensures) ∙ if1 .left) (λ m e p q. (loop .i, omega (arith, fit, loop-test .taken), big)))
+    rw (unread .ensures .0, unread .ensures .1) (WordRead.not-a-word _ (sym (is-dash .ensures) ∙ if1 .left) (λ m e p q. (loop .i, omega (arith, fit, loop-test .taken), big)), (omega arith, refl))
 
 -- room[i] = value as u8;
 slice-write-room : tie.Need-slice-write-room Inv-loop μ-loop
@@ -81,10 +66,6 @@ slice-write-room c =
     omega (arith, fit)
 
 -- for i in 0..n {
-loop-less : tie.Need-loop-less Inv-loop μ-loop
-loop-less c =
-    omega arith
-
 loop-again : tie.Need-loop-again Inv-loop μ-loop
 loop-again c =
     let start = c .before .before .before .before .before .before .before .before .before .before in
@@ -112,12 +93,8 @@ returns-3 c =
     let fit = fits-whole _ _ _ _ (sym (fits2 .ensures) ∙ if2 .taken) in
     let i = loop .i in
     let all : i ≡ length (start .args .text .now) / 2 = omega arith in
-    rw (loop .inv .2, all) (WordRead.numbers (length (start .args .text .now) / 2) (sym (is-dash .ensures) ∙ if1 .left) (omega (arith, fit)) (fit .0) (fit .2) (rw all at (loop .inv .3)))
-
--- unread()
-unread-requires-2 : tie.Need-unread-requires-2 Inv-loop μ-loop
-unread-requires-2 c κs =
-    search needs
+    let within = counted (length (start .args .text .now) / 2) (loop .room) (omega (arith, fit, loop .inv .1)) in
+    (rw (loop .inv .2, all) (WordRead.numbers (length (start .args .text .now) / 2) (sym (is-dash .ensures) ∙ if1 .left) (omega (arith, fit)) (fit .0) (fit .2) (rw all at (loop .inv .3))), within)
 
 -- pub fn read_bytes
 returns-4 : tie.Need-returns-4 Inv-loop μ-loop
@@ -127,29 +104,29 @@ returns-4 c =
     let fits2 = c .before .before .fits2 in
     let if2 = c .before .if2 in
     let unread2 = c .unread2 in
-    rw (unread2 .ensures .0, unread2 .ensures .1) (WordRead.not-a-word _ (sym (is-dash .ensures) ∙ if1 .left) (λ m e p q. unfit _ _ _ _ (sym (fits2 .ensures) ∙ if2 .left) (omega arith) (omega arith) (omega arith)))
+    rw (unread2 .ensures .0, unread2 .ensures .1) (WordRead.not-a-word _ (sym (is-dash .ensures) ∙ if1 .left) (λ m e p q. unfit _ _ _ _ (sym (fits2 .ensures) ∙ if2 .left) (omega arith) (omega arith) (omega arith)), (omega arith, refl))
 
 pub read-bytes-spec : {M : Type 1} → statement M
 read-bytes-spec =
     tie.close (tie.spec
     Inv-loop
     μ-loop
-    is-dash-requires
+    (λ c κs. search needs)  -- is-dash-requires: if is_dash(text) {
     returns
     (λ c. search needs)  -- mul-fits: if fits(text.len(), n, 2 * n, room.len()) {
-    fits-requires
+    (λ c κs. search needs)  -- fits-requires
     loop-holds
     (λ c. search needs)  -- mul-byte-at: let value = byte_at(text, 2 * i);
     byte-at-requires
-    unread-requires
+    (λ c κs. search needs)  -- unread-requires: return unread();
     (λ c. search needs)  -- same-length
     returns-2
     (λ c. search needs)  -- cast-room: room[i] = value as u8;
     slice-write-room
     (λ c. search needs)  -- add-i: for i in 0..n {
-    loop-less
+    (λ c. omega arith)  -- loop-less
     loop-again
     (λ c. search needs)  -- same-length-2: return Amount {
     returns-3
-    unread-requires-2
+    (λ c κs. search needs)  -- unread-requires-2: unread()
     returns-4)

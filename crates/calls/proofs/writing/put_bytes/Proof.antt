@@ -1,8 +1,8 @@
 -- `put_bytes` meets its contract: after i turns the first i bytes are put.
-use mathlib.Core.Path.{_≡_, refl, sym, _∙_}
+use mathlib.Core.Path.{_≡_, refl, _∙_}
 use Prim.Native.Nat.{_+_, _*_, _-_, _≤_}
 use native.Mathlib.Omega.{arith}
-use lib.ListN.{length, getD, take, length-set}
+use lib.ListN.{length, take, length-set}
 use Rattle.listing.specs.Inside.{Puts}
 use Rattle.calls.specs.Words.{hexByte, spelled}
 use Rattle.calls.proofs.Words.{puts-spelled, puts-word, puts-dash}
@@ -23,11 +23,15 @@ abbrev μ-loop : tie.MeasureT-loop
 -- room[at] = 45;
 slice-write-room : tie.Need-slice-write-room Inv-loop μ-loop
 slice-write-room c =
+    let start = c .before .before .before in
+    let if1 = c .if1 in
     omega arith
 
 -- room[at + 1] = end;
 slice-write-room-2 : tie.Need-slice-write-room-2 Inv-loop μ-loop
 slice-write-room-2 c =
+    let start = c .before .before .before in
+    let if1 = c .if1 in
     simp length-set (omega arith)
 
 -- return at + 2;
@@ -41,24 +45,36 @@ returns c =
 loop-holds : tie.Need-loop-holds Inv-loop μ-loop
 unfolding spelled
 loop-holds c =
+    let start = c .before .before .before in
+    let if1 = c .if1 in
     (omega arith, refl, refl, record { next = refl; room = refl; within = omega arith })
 
 -- put_byte(room, at + 2 * i, list[i] as usize);
 put-byte-requires : tie.Need-put-byte-requires Inv-loop μ-loop
 put-byte-requires c κs =
+    let start = c .before .before .before .before .before .before .before in
+    let if1 = c .before .before .before .before .if1 in
     let loop = c .before .before .before .loop in
+    let loop-test = c .before .before .loop-test in
     omega (arith, c .shared-slice-known2 .given (loop .i))
 
 -- for i in 0..list.len() {
 loop-less : tie.Need-loop-less Inv-loop μ-loop
 loop-less c =
+    let start = c .before .before .before .before .before .before .before .before .before .before in
+    let if1 = c .before .before .before .before .before .before .before .if1 in
+    let loop = c .before .before .before .before .before .before .loop in
+    let loop-test = c .before .before .before .before .before .loop-test in
+    let put-byte = c .before .before .put-byte in
     omega arith
 
 loop-again : tie.Need-loop-again Inv-loop μ-loop
 unfolding hexByte
 loop-again c =
     let start = c .before .before .before .before .before .before .before .before .before .before in
+    let if1 = c .before .before .before .before .before .before .before .if1 in
     let loop = c .before .before .before .before .before .before .loop in
+    let loop-test = c .before .before .before .before .before .loop-test in
     let put-byte = c .before .before .put-byte in (
       omega arith,
       loop .inv .1,
@@ -69,7 +85,10 @@ loop-again c =
 -- room[to] = end;
 slice-write-room-3 : tie.Need-slice-write-room-3 Inv-loop μ-loop
 slice-write-room-3 c =
+    let start = c .before .before .before .before .before in
+    let if1 = c .before .before .if1 in
     let loop = c .before .loop in
+    let loop-test = c .loop-test in
     omega (arith, loop .inv)
 
 -- pub fn put_bytes
@@ -78,6 +97,7 @@ returns-2 c =
     let start = c .before .before .before .before .before in
     let if1 = c .before .before .if1 in
     let loop = c .before .loop in
+    let loop-test = c .loop-test in
     let i = loop .i in
     let all : i ≡ length (start .args .list .now) = omega (arith, loop .inv) in
     (puts-word hexByte (start .args .list .now) (length (start .args .list .now)) (start .args .end) refl (if1 .left) (rw all at (loop .inv .3)) (omega (arith, loop .inv)), omega arith)

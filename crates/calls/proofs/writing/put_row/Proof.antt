@@ -1,5 +1,5 @@
 -- `put_row` meets its contract: after i turns the first i numbers are put.
-use Rattle.listing.proofs.Puts.{sets-append}
+use Rattle.letters.proofs.Rooms.{sets-append}
 use Prim.Native.Nat.{ℕ, _/_, _%_}
 use Rattle.calls.specs.Words.{hexByte}
 use mathlib.Core.Path.{_≡_, refl, sym, ap, _∙_}
@@ -28,11 +28,15 @@ abbrev μ-loop : tie.MeasureT-loop
 -- room[at] = 45;
 slice-write-room : tie.Need-slice-write-room Inv-loop μ-loop
 slice-write-room c =
+    let start = c .before .before .before in
+    let if1 = c .if1 in
     omega arith
 
 -- room[at + 1] = end;
 slice-write-room-2 : tie.Need-slice-write-room-2 Inv-loop μ-loop
 slice-write-room-2 c =
+    let start = c .before .before .before in
+    let if1 = c .if1 in
     simp length-set (omega arith)
 
 -- return at + 2;
@@ -46,31 +50,47 @@ returns c =
 loop-holds : tie.Need-loop-holds Inv-loop μ-loop
 unfolding spelled
 loop-holds c =
+    let start = c .before .before .before in
+    let if1 = c .if1 in
     (omega arith, refl, refl, record { next = refl; room = refl; within = omega arith })
 
 -- put_byte(room, at + 4 * i, n / 256);
 put-byte-requires : tie.Need-put-byte-requires Inv-loop μ-loop
 put-byte-requires c κs =
+    let start = c .before .before .before .before .before .before .before in
+    let if1 = c .before .before .before .before .if1 in
     let loop = c .before .before .before .loop in
+    let loop-test = c .before .before .loop-test in
     omega (arith, c .before .shared-slice-known2 .given (loop .i))
 
 -- put_byte(room, at + 4 * i + 2, n % 256);
 put-byte-requires-2 : tie.Need-put-byte-requires-2 Inv-loop μ-loop
 put-byte-requires-2 c κs =
+    let start = c .before .before .before .before .before .before .before .before .before .before .before in
+    let if1 = c .before .before .before .before .before .before .before .before .if1 in
     let loop = c .before .before .before .before .before .before .before .loop in
+    let loop-test = c .before .before .before .before .before .before .loop-test in
     let put-byte = c .before .before .before .put-byte in
     omega (arith, put-byte .kept .0, loop .inv)
 
 -- for i in 0..list.len() {
 loop-less : tie.Need-loop-less Inv-loop μ-loop
 loop-less c =
+    let start = c .before .before .before .before .before .before .before .before .before .before .before .before .before .before in
+    let if1 = c .before .before .before .before .before .before .before .before .before .before .before .if1 in
+    let loop = c .before .before .before .before .before .before .before .before .before .before .loop in
+    let loop-test = c .before .before .before .before .before .before .before .before .before .loop-test in
+    let put-byte = c .before .before .before .before .before .before .put-byte in
+    let put-byte2 = c .before .before .put-byte2 in
     omega arith
 
 loop-again : tie.Need-loop-again Inv-loop μ-loop
 unfolding hexByte hexNumber
 loop-again c =
     let start = c .before .before .before .before .before .before .before .before .before .before .before .before .before .before in
+    let if1 = c .before .before .before .before .before .before .before .before .before .before .before .if1 in
     let loop = c .before .before .before .before .before .before .before .before .before .before .loop in
+    let loop-test = c .before .before .before .before .before .before .before .before .before .loop-test in
     let put-byte = c .before .before .before .before .before .before .put-byte in
     let put-byte2 = c .before .before .put-byte2 in
     let n = getD (start .args .list .now) (loop .i) 0 in
@@ -87,7 +107,10 @@ loop-again c =
 -- room[to] = end;
 slice-write-room-3 : tie.Need-slice-write-room-3 Inv-loop μ-loop
 slice-write-room-3 c =
+    let start = c .before .before .before .before .before in
+    let if1 = c .before .before .if1 in
     let loop = c .before .loop in
+    let loop-test = c .loop-test in
     omega (arith, loop .inv)
 
 -- pub fn put_row
@@ -96,6 +119,7 @@ returns-2 c =
     let start = c .before .before .before .before .before in
     let if1 = c .before .before .if1 in
     let loop = c .before .loop in
+    let loop-test = c .loop-test in
     let i = loop .i in
     let all : i ≡ length (start .args .list .now) = omega (arith, loop .inv) in
     puts-word hexNumber (start .args .list .now) (length (start .args .list .now)) (start .args .end) refl (if1 .left) (rw all at (loop .inv .3)) (omega (arith, loop .inv))

@@ -12,7 +12,7 @@ use Rattle.junior.specs.Trace.{root}
 use Rattle.junior.specs.Figures.{G}
 use Rattle.junior.proofs.Little.{STOP≢SUSP, TERM≢SUSP}
 use Rattle.table.specs.Spells.{treeOf}
-use Rattle.steps.proofs.Parts.{size-pos}
+use Rattle.table.proofs.Tree.{size-pos}
 use Rattle.kernel.specs.Passes.{Startable}
 use Rattle.kernel.proofs.Passing.{Underway, begins, few-passes, goes, marked-ended, run-of}
 

@@ -1,6 +1,5 @@
 -- The phases of a Loop or Repeat.
 use mathlib.Core.Bool.{or-false}
-use mathlib.Core.Path.{refl}
 use borrow.Author.Tests.{ne-eqb}
 use Rattle.kernel.proofs.resting.body_rests.Statement.{statement}
 use Rattle.kernel.proofs.resting.body_rests.Tie as tie

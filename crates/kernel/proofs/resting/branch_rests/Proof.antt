@@ -1,6 +1,6 @@
 -- The phases of a When.
 use mathlib.Core.Bool.{or-false}
-use mathlib.Core.Path.{refl, ap, sym, _∙_}
+use mathlib.Core.Path.{sym, _∙_}
 use borrow.Author.Tests.{ne-eqb}
 use Rattle.table.specs.Good.{children}
 use Rattle.kernel.specs.Resting.{phaseRests}

@@ -1,5 +1,4 @@
 -- The count's test, case by case.
-use mathlib.Core.Path.{sym}
 use borrow.Author.Needs.{needs}
 use borrow.Author.Tests.{eq-eqb, ne-eqb}
 use Rattle.kernel.specs.Resting.{countRests}

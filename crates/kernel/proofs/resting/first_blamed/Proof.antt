@@ -1,8 +1,7 @@
 -- `near` has a byte other than zero or is the end, and `low` is the lowest blamed from there on.
 use Prim.Native.Nat.{_+_, _-_, _*_, _≤_, _<_}
-use mathlib.Core.Path.{_≡_, refl, sym, _∙_}
+use mathlib.Core.Path.{_≡_, _∙_}
 use native.Mathlib.Omega.{arith}
-use lib.ListN.{length}
 use borrow.Author.Needs.{needs}
 use Rattle.table.specs.Records.{nodes}
 use Rattle.kernel.specs.Resting.{zeroNode, rests}

@@ -5,7 +5,7 @@ use Prim.Native.Nat.{ℕ, _+_, _/_, _%_}
 use borrow.Author.Needs.{needs}
 use lib.Seq.{sets}
 use Rattle.listing.specs.Inside.{pair}
-use Rattle.listing.proofs.Puts.{sets-append}
+use Rattle.letters.proofs.Rooms.{sets-append}
 use Rattle.listing.proofs.number.put_four.Statement.{statement}
 use Rattle.listing.proofs.number.put_four.Tie as tie
 

@@ -4,7 +4,8 @@ use native.Mathlib.Omega.{arith}
 use native.Mathlib.Numerals.{add-one}
 use borrow.Author.Needs.{needs}
 use lib.ListN.{length, length-set}
-use Rattle.listing.proofs.Decimal.{decimal-digit, decimal-two, decimal-three, decimal-four}
+use Rattle.letters.proofs.Decimal.{decimal-digit}
+use Rattle.listing.proofs.Decimal.{decimal-two, decimal-three, decimal-four}
 use Rattle.listing.proofs.number.put_short.Statement.{statement}
 use Rattle.listing.proofs.number.put_short.Tie as tie
 

@@ -5,8 +5,8 @@ use native.Mathlib.Omega.{arith}
 use borrow.Author.Needs.{needs}
 use lib.ListN.{length, getD, take}
 use lib.Seq.{take-length}
+use Rattle.letters.proofs.Decimal.{decimal-length}
 use Rattle.listing.specs.Inside.{Puts, items}
-use Rattle.listing.proofs.Decimal.{decimal-length}
 use Rattle.listing.proofs.Puts.{puts-none, number-end}
 use Rattle.listing.proofs.Lists.{puts-item}
 use Rattle.listing.proofs.output.put_atoms.Statement.{statement}

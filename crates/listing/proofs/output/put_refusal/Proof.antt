@@ -3,9 +3,9 @@ use mathlib.Core.Path.{_∙_}
 use mathlib.Core.List.{[], _∷_}
 use native.Mathlib.Omega.{arith}
 use borrow.Author.Needs.{needs}
-use Rattle.listing.specs.Decimal.{decimal}
-use Rattle.listing.specs.Text.{bytes}
-use Rattle.listing.proofs.Decimal.{decimal-length}
+use Rattle.letters.specs.Decimal.{decimal}
+use Rattle.letters.specs.Text.{bytes}
+use Rattle.letters.proofs.Decimal.{decimal-length}
 use Rattle.listing.proofs.Puts.{number-end}
 use Rattle.listing.proofs.Lines.{puts-field, puts-last}
 use Rattle.listing.proofs.output.put_refusal.Statement.{statement}

@@ -7,9 +7,9 @@ use lib.ListN.{length}
 use lib.Count.{trailing-le, trailing-of-zero}
 use Rattle.events.specs.Members.{marks}
 use Rattle.events.proofs.Bits.{digits}
+use Rattle.letters.proofs.Decimal.{decimal-length}
 use Rattle.listing.specs.Output.{rising}
 use Rattle.listing.specs.Inside.{Puts, items}
-use Rattle.listing.proofs.Decimal.{decimal-length}
 use Rattle.listing.proofs.Puts.{puts-none, number-end}
 use Rattle.listing.proofs.Lists.{puts-event}
 use Rattle.listing.proofs.Rising.{low, one-word, low-digit, without-fits, low-rises, still-like, rising-low}

@@ -2,7 +2,7 @@
 use Rattle.table.proofs.configurations.parts_good.Statement.{statement}
 use Rattle.table.proofs.configurations.parts_good.Tie as tie
 use borrow.Author.Needs.{needs}
-use Prim.Native.Nat.{ℕ, _+_, _*_}
+use Prim.Native.Nat.{_+_, _*_}
 use mathlib.Core.Path.{_≡_, sym}
 use native.Mathlib.Omega.{arith}
 use borrow.Author.Tests.{lt-ltb, le-ltb, eq-eqb, ne-eqb}

@@ -2,7 +2,10 @@ use Rattle.table.proofs.nodes.refused.Statement.{statement}
 use Rattle.table.proofs.nodes.refused.Tie as tie
 use borrow.Author.Needs.{needs}
 use native.Mathlib.Omega.{arith}
-use Rattle.table.proofs.Answers.{all-good, none-bad, bad-answer, deep-answer}
+use Rattle.table.specs.Records.{nodes}
+use Rattle.table.specs.Good.{goodNode}
+use Rattle.table.proofs.Answers.{all-good, bad-answer, deep-answer}
+use Rattle.table.proofs.Lowest.{none-bad}
 
 -- return Checked::BadNode(bad);
 returns : tie.Need-returns
@@ -23,7 +26,8 @@ first-deep-requires c κs =
     let n = start .pre .0 .framed .n-is in
     let m = start .pre .0 .framed .n-least in
     let l = if1 .left in
-    (all-good (start .pre .0) (none-bad _ _ (first-bad .ensures) (omega arith)), (omega arith, omega arith))
+    let t = start .args .table .now in
+    (all-good (start .pre .0) (none-bad (goodNode t) (nodes t) _ (first-bad .ensures) (omega arith)), (omega arith, omega arith))
 
 -- fn refused
 returns-2 : tie.Need-returns-2
@@ -34,7 +38,8 @@ returns-2 c =
     let first-deep = c .first-deep in
     let n = start .pre .0 .framed .n-is in
     let l = if1 .left in
-    let g = all-good (start .pre .0) (none-bad _ _ (first-bad .ensures) (omega arith)) in
+    let t = start .args .table .now in
+    let g = all-good (start .pre .0) (none-bad (goodNode t) (nodes t) _ (first-bad .ensures) (omega arith)) in
     deep-answer (start .pre .0) g (start .pre .1 g) _ (first-deep .ensures)
 
 pub refused-spec : {M : Type 1} → statement M

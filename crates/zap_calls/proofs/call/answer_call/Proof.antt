@@ -9,26 +9,57 @@ use borrow.Author.Needs.{needs}
 -- if is_name(&line[..name], b"check") {
 slice-aggregate-is-name : tie.Need-slice-aggregate-is-name
 slice-aggregate-is-name c =
-    let start = c .before .before .before .before .before .before .before .before .before .before in
+    let start = c .before .before .before .before .before .before .before .before .before .before .before in
     let find = c .before .before .before .before .find in
     let if1 = c .before .before .before .if1 in
+    let if2 = c .before .before .if2 in
     sym (length-take-le (find .result) (start .args .line .now) (omega (arith, if1 .left)))
 
 -- if is_name(&line[..name], b"start") {
 slice-aggregate-is-name-3 : tie.Need-slice-aggregate-is-name-3
 slice-aggregate-is-name-3 c =
-    let start = c .before .before .before .before .before .before .before .before .before .before .before .before .before .before in
+    let start = c .before .before .before .before .before .before .before .before .before .before .before .before .before .before .before in
     let find = c .before .before .before .before .before .before .before .before .find in
     let if1 = c .before .before .before .before .before .before .before .if1 in
+    let if2 = c .before .before .before .before .before .before .if2 in
+    let is-name = c .before .before .is-name in
+    let if3 = c .before .if3 in
     sym (length-take-le (find .result) (start .args .line .now) (omega (arith, if1 .left)))
 
 -- if is_name(&line[..name], b"instant") {
 slice-aggregate-is-name-5 : tie.Need-slice-aggregate-is-name-5
 slice-aggregate-is-name-5 c =
-    let start = c .before .before .before .before .before .before .before .before .before .before .before .before .before .before .before .before .before .before in
+    let start = c .before .before .before .before .before .before .before .before .before .before .before .before .before .before .before .before .before .before .before in
     let find = c .before .before .before .before .before .before .before .before .before .before .before .before .find in
     let if1 = c .before .before .before .before .before .before .before .before .before .before .before .if1 in
+    let if2 = c .before .before .before .before .before .before .before .before .before .before .if2 in
+    let is-name = c .before .before .before .before .before .before .is-name in
+    let if3 = c .before .before .before .before .before .if3 in
+    let is-name2 = c .before .before .is-name2 in
+    let if4 = c .before .if4 in
     sym (length-take-le (find .result) (start .args .line .now) (omega (arith, if1 .left)))
+
+-- if is_name(&line[..name], b"read") {
+slice-aggregate-is-name-7 : tie.Need-slice-aggregate-is-name-7
+slice-aggregate-is-name-7 c =
+    let start = c .before .before .before .before .before .before .before .before .before .before .before .before .before .before .before .before .before .before .before .before .before .before .before in
+    let find = c .before .before .before .before .before .before .before .before .before .before .before .before .before .before .before .before .find in
+    let if1 = c .before .before .before .before .before .before .before .before .before .before .before .before .before .before .before .if1 in
+    sym (length-take-le (find .result) (start .args .line .now) (omega (arith, if1 .left)))
+
+-- if is_name(&line[..name], b"print") {
+slice-aggregate-is-name-9 : tie.Need-slice-aggregate-is-name-9
+slice-aggregate-is-name-9 c =
+    let start = c .before .before .before .before .before .before .before .before .before .before .before .before .before .before .before .before .before .before .before .before .before .before .before .before .before .before .before in
+    let find = c .before .before .before .before .before .before .before .before .before .before .before .before .before .before .before .before .before .before .before .before .find in
+    let if1 = c .before .before .before .before .before .before .before .before .before .before .before .before .before .before .before .before .before .before .before .if1 in
+    sym (length-take-le (find .result) (start .args .line .now) (omega (arith, if1 .left)))
+
+-- return answer_print(words, table, text, output);
+answer-print-requires : tie.Need-answer-print-requires
+answer-print-requires c κs =
+    let start = c .before .before .before .before .before .before .before .before .before .before .before .before .before .before .before .before .before .before .before .before .before .before .before .before .before .before .before .before .before .before .before .before .before in
+    omega (arith, start .pre)
 
 pub answer-call-spec : {M : Type 1} → statement M
 answer-call-spec =
@@ -68,6 +99,22 @@ answer-call-spec =
     (λ c. search needs)  -- same-length-10
     (λ c. search needs)  -- same-length-11
     (λ c. search needs)  -- returns-5
+    slice-aggregate-is-name-7
+    (λ c. search needs)  -- slice-aggregate-is-name-8
+    (λ c κs. search needs)  -- is-name-requires-4
+    (λ c κs. search needs)  -- answer-read-requires: return answer_read(words, text, table, output);
+    (λ c. search needs)  -- same-length-12
+    (λ c. search needs)  -- same-length-13
+    (λ c. search needs)  -- same-length-14
+    (λ c. search needs)  -- returns-6
+    slice-aggregate-is-name-9
+    (λ c. search needs)  -- slice-aggregate-is-name-10
+    (λ c κs. search needs)  -- is-name-requires-5
+    answer-print-requires
+    (λ c. search needs)  -- same-length-15
+    (λ c. search needs)  -- same-length-16
+    (λ c. search needs)  -- same-length-17
+    (λ c. search needs)  -- returns-7
     (λ c κs. search needs)  -- bad-line-requires-3: bad_line(output)
-    (λ c. search needs)  -- same-length-12: pub fn answer_call
-    (λ c. search needs))  -- returns-6
+    (λ c. search needs)  -- same-length-18: pub fn answer_call
+    (λ c. search needs))  -- returns-8

@@ -8,6 +8,8 @@ use borrow.Author.Needs.{needs}
 put-numbers-requires-2 : tie.Need-put-numbers-requires-2
 put-numbers-requires-2 c κs =
     let start = c .before .before .before .before .before .before .before .before .before .before .before .before .before .before .before .before .before .before .before .before .before .before .before .before in
+    let instant = c .before .before .before .before .before .before .before .before .before .before .before .before .before .before .before .before .before .instant in
+    let refusal-of = c .before .before .before .before .before .before .before .before .before .before .before .before .refusal-of in
     let put-numbers = c .before .before .before .before .before .before .before .before .before .put-numbers in
     let put-events = c .before .before .before .before .before .put-events in
     omega (arith, start .pre, put-numbers .ensures .1, put-numbers .kept .0, put-events .ensures .1, put-events .kept .0)
@@ -17,6 +19,7 @@ put-bytes-requires : tie.Need-put-bytes-requires
 put-bytes-requires c κs =
     let start = c .before .before .before .before .before .before .before .before .before .before .before .before .before .before .before .before .before .before .before .before .before .before .before .before .before .before .before .before .before in
     let instant = c .before .before .before .before .before .before .before .before .before .before .before .before .before .before .before .before .before .before .before .before .before .before .instant in
+    let refusal-of = c .before .before .before .before .before .before .before .before .before .before .before .before .before .before .before .before .before .refusal-of in
     let put-numbers = c .before .before .before .before .before .before .before .before .before .before .before .before .before .before .put-numbers in
     let put-events = c .before .before .before .before .before .before .before .before .before .before .put-events in
     let put-numbers2 = c .before .before .before .before .put-numbers2 in
@@ -27,6 +30,7 @@ put-row-requires : tie.Need-put-row-requires
 put-row-requires c κs =
     let start = c .before .before .before .before .before .before .before .before .before .before .before .before .before .before .before .before .before .before .before .before .before .before .before .before .before .before .before .before .before .before .before .before .before .before in
     let instant = c .before .before .before .before .before .before .before .before .before .before .before .before .before .before .before .before .before .before .before .before .before .before .before .before .before .before .before .instant in
+    let refusal-of = c .before .before .before .before .before .before .before .before .before .before .before .before .before .before .before .before .before .before .before .before .before .before .refusal-of in
     let put-numbers = c .before .before .before .before .before .before .before .before .before .before .before .before .before .before .before .before .before .before .before .put-numbers in
     let put-events = c .before .before .before .before .before .before .before .before .before .before .before .before .before .before .before .put-events in
     let put-numbers2 = c .before .before .before .before .before .before .before .before .before .put-numbers2 in
@@ -36,12 +40,26 @@ put-row-requires c κs =
 -- fn call_instant
 same-length : tie.Need-same-length
 same-length c =
+    let start = c .before .before .before .before .before .before .before .before .before .before .before .before .before .before .before .before .before .before .before .before .before .before .before .before .before .before .before .before .before .before .before .before .before .before .before .before .before in
     let instant = c .before .before .before .before .before .before .before .before .before .before .before .before .before .before .before .before .before .before .before .before .before .before .before .before .before .before .before .before .before .before .instant in
+    let refusal-of = c .before .before .before .before .before .before .before .before .before .before .before .before .before .before .before .before .before .before .before .before .before .before .before .before .before .refusal-of in
+    let put-numbers = c .before .before .before .before .before .before .before .before .before .before .before .before .before .before .before .before .before .before .before .before .before .before .put-numbers in
+    let put-events = c .before .before .before .before .before .before .before .before .before .before .before .before .before .before .before .before .before .before .put-events in
+    let put-numbers2 = c .before .before .before .before .before .before .before .before .before .before .before .before .put-numbers2 in
+    let put-bytes = c .before .before .before .before .before .before .before .put-bytes in
+    let put-row = c .before .before .put-row in
     instant .kept .1 .0
 
 same-length-2 : tie.Need-same-length-2
 same-length-2 c =
+    let start = c .before .before .before .before .before .before .before .before .before .before .before .before .before .before .before .before .before .before .before .before .before .before .before .before .before .before .before .before .before .before .before .before .before .before .before .before .before in
     let instant = c .before .before .before .before .before .before .before .before .before .before .before .before .before .before .before .before .before .before .before .before .before .before .before .before .before .before .before .before .before .before .instant in
+    let refusal-of = c .before .before .before .before .before .before .before .before .before .before .before .before .before .before .before .before .before .before .before .before .before .before .before .before .before .refusal-of in
+    let put-numbers = c .before .before .before .before .before .before .before .before .before .before .before .before .before .before .before .before .before .before .before .before .before .before .put-numbers in
+    let put-events = c .before .before .before .before .before .before .before .before .before .before .before .before .before .before .before .before .before .before .put-events in
+    let put-numbers2 = c .before .before .before .before .before .before .before .before .before .before .before .before .put-numbers2 in
+    let put-bytes = c .before .before .before .before .before .before .before .put-bytes in
+    let put-row = c .before .before .put-row in
     instant .kept .1 .1 .1 .0
 
 pub call-instant-spec : {M : Type 1} → statement M

@@ -1,6 +1,6 @@
 -- `put_check` meets its contract: five numbers have room.
 use native.Mathlib.Omega.{arith}
-use Rattle.listing.proofs.Decimal.{decimal-length}
+use Rattle.letters.proofs.Decimal.{decimal-length}
 use Rattle.zap_calls.proofs.call.put_check.Statement.{statement}
 use Rattle.zap_calls.proofs.call.put_check.Tie as tie
 use borrow.Author.Needs.{needs}

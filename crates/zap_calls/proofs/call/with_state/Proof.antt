@@ -1,11 +1,10 @@
--- `with_state` meets its contract: the row is within its room.
-use mathlib.Core.Path.{sym}
-use native.Mathlib.Omega.{arith}
-use lib.Seq.{length-take-le}
-use Rattle.calls.proofs.Words.{count-within}
+-- `with_state` meets its contract: the events are cut off within the words.
 use Rattle.zap_calls.proofs.call.with_state.Statement.{statement}
 use Rattle.zap_calls.proofs.call.with_state.Tie as tie
 use borrow.Author.Needs.{needs}
+use mathlib.Core.Path.{sym}
+use native.Mathlib.Omega.{arith}
+use lib.Seq.{length-take-le}
 
 -- let e = read_list(&words[..b]);
 slice-aggregate-read-list : tie.Need-slice-aggregate-read-list
@@ -14,24 +13,6 @@ slice-aggregate-read-list c =
     let find = c .before .before .find in
     let if1 = c .before .if1 in
     sym (length-take-le (find .result) (start .args .words .now) (omega (arith, if1 .left)))
-
--- call_instant(table, state, e.events, &mut row[..k], output)
-slice-relend-prefix-call-instant : tie.Need-slice-relend-prefix-call-instant
-slice-relend-prefix-call-instant c =
-    let read-row = c .before .before .before .before .before .read-row in
-    omega (arith, count-within (read-row .ensures), read-row .kept .1 .0)
-
-slice-aggregate-call-instant : tie.Need-slice-aggregate-call-instant
-slice-aggregate-call-instant c =
-    let read-row = c .before .before .before .before .before .before .read-row in
-    sym (length-take-le (read-row .result .count) (read-row .last .1 .0) (omega (arith, count-within (read-row .ensures), read-row .kept .1 .0)))
-
-call-instant-requires : tie.Need-call-instant-requires
-call-instant-requires c κs =
-    let start = c .before .before .before .before .before .before .before .before .before .before .before .before .before .before .before .before .before .before .before .before .before in
-    let read-row = c .before .before .before .before .before .before .before .read-row in
-    let long = length-take-le (read-row .result .count) (read-row .last .1 .0) (omega (arith, count-within (read-row .ensures), read-row .kept .1 .0)) in
-    omega (arith, long, count-within (read-row .ensures), start .pre)
 
 pub with-state-spec : {M : Type 1} → statement M
 with-state-spec =
@@ -54,9 +35,9 @@ with-state-spec =
     (λ c. search needs)  -- same-length-3
     (λ c. search needs)  -- same-length-4
     (λ c. search needs)  -- returns-3
-    slice-relend-prefix-call-instant
-    slice-aggregate-call-instant
-    call-instant-requires
+    (λ c. search needs)  -- slice-relend-prefix-call-instant: call_instant(table, state, e.events,..
+    (λ c. search needs)  -- slice-aggregate-call-instant
+    (λ c κs. search needs)  -- call-instant-requires
     (λ c. search needs)  -- same-length-5: fn with_state
     (λ c. search needs)  -- same-length-6
     (λ c. search needs)  -- same-length-7

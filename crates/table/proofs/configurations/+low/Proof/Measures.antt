@@ -3,7 +3,6 @@ use borrow.Fn.Kinds.{In, PK}
 use borrow.Fn.PlainCycle.{Measures, is, falls, and}
 use mathlib.Core.List.{List}
 use Prim.Native.Nat.{ℕ, _<_, _+_, _*_}
-use lib.ListN.{length}
 
 abbrev pub exactly : {n : ℕ} (ps : List (PK n)) → Measures n ps ℕ → In n ps → ℕ → In n ps
 exactly {n} ps μ Pre t = and n ps (is n ps μ t) Pre

@@ -1,0 +1,230 @@
+-- Building the table of a whole text.
+use Prim.Native.Nat.{ℕ, suc, _+_, _-_, _*_, _%_, _≤_, _<_}
+use mathlib.Core.Path.{_≡_, refl, sym, ap, subst, _∙_}
+use mathlib.Core.List.{List, [], _∷_, _++_, append-nil}
+use native.Mathlib.Nat.{add-zero}
+use native.Mathlib.Omega.{arith}
+use lib.ListN.{length, take, drop, length-append, length-drop, take-append-drop}
+use lib.Seq.{sets, length-take-le, take-all, take-at, drop-cons, drop-length, getD-drop}
+use Rattle.junior.specs.Program.{Program, size}
+use Rattle.table.specs.Records.{byte}
+use Rattle.builder.specs.declared.build.Front.{Front}
+use Rattle.form.specs.Form.{Says, whole}
+use Rattle.form.specs.Made.{big, tests, nodesFrom, testsOf, trailer, tableOf}
+use Rattle.form.proofs.MadeLength.{nodes-length, tests-length}
+use Rattle.builder.specs.Building.{Placed, place, relevel, levels, placed, Region, Holds, Room, Ready}
+use Rattle.builder.specs.Building.{Places, Stacked}
+use Rattle.builder.specs.Building.{LevelReady, Levels, Measured}
+use Rattle.builder.proofs.PlacedTests.{made, small-mod}
+use Rattle.builder.proofs.PlacedPieces.{piece-placed}
+use Rattle.builder.proofs.Growing.{room-at}
+use Rattle.builder.proofs.Depth.{depth-at}
+use Rattle.builder.proofs.Regions.{sets-right, sets-all}
+use Rattle.builder.proofs.NamedEvents.{named-small}
+
+-- a whole program, with nothing behind it
+whole-placed :
+    {p : Program} {text : List ℕ}
+    → Says (whole p) text
+    → size p ≤ 65535
+    → tests p ≤ 65535
+    → placed (tests p) text ≡ made (nodesFrom 0 p) (testsOf p) 0
+unfolding placed
+whole-placed {p} {text} d a b =
+    let h : placed (tests p) [] .left ≡ 0 + tests p = omega arith in
+    let e : placed (tests p) (text ++ []) ≡ made (nodesFrom 0 p ++ []) (testsOf p ++ []) 0 = piece-placed (tests p) d [] 0 a (omega arith) h in
+    rw (append-nil text, append-nil (nodesFrom 0 p), append-nil (testsOf p)) at e
+
+no-bytes : (l : List ℕ) → length l ≡ 0 → l ≡ []
+no-bytes [] e = refl
+no-bytes (x ∷ l) e = absurd (omega arith)
+
+-- where the loop stands at byte i
+pub record Under (text : List ℕ) (n m : ℕ) (t lv : List ℕ) (f : Front) (d i : ℕ) : Type 0 where
+  pub within : i ≤ length text
+  pub holds : Holds n m t f (placed m (drop i text))
+  pub stacked : Stacked lv d (levels (drop i text))
+  pub long : length lv ≡ 8192
+  pub room-is : length t ≡ 6 * n + 4 * m + 10
+
+empty-region : (t : List ℕ) (a : ℕ) → a ≤ length t → Region t a a []
+empty-region t a h =
+    record { before = take a t; behind = drop a t; parts = sym (take-append-drop a t); begins = length-take-le a t h; ends = add-zero a }
+
+module _ {text : List ℕ} {n m v room : ℕ} {p : Program} (g : Measured text n m v room p) where
+  -- before the first step
+  pub under-starts :
+      (t lv : List ℕ) (f : Front)
+      → length t ≡ room
+      → length lv ≡ 8192
+      → f ≡ record { node = 6 * n; middle = 6 * n; part = 6 * n + 4 * m; end = 6 * n + 4 * m; left = m }
+      → Under text n m t lv f 8192 (length text)
+  unfolding placed levels
+  under-starts t lv f e l is =
+      let a = g .n-is in
+      let b = g .m-is in
+      let c = g .long in
+      let s = g .small in
+      let none : drop (length text) text ≡ [] = drop-length text in
+      rw is
+      (record {
+        within = omega arith;
+        holds =
+            rw none
+            (record {
+              middle-is = refl;
+              end-is = refl;
+              nodes-there = empty-region t (6 * n) (omega arith);
+              tests-there = empty-region t (6 * n + 4 * m) (omega arith);
+              counted = refl;
+              left-is = refl;
+              small = omega arith;
+            });
+        stacked = rw none (record { within = omega arith; there = ap (λ x. drop x lv) (sym l) ∙ drop-length lv });
+        long = l;
+        room-is = omega arith;
+      })
+
+  all-placed : placed m text ≡ made (nodesFrom 0 p) (testsOf p) 0
+  all-placed =
+      let s = g .small in
+      rw (g .m-is) (whole-placed (g .says) (omega arith) (omega arith))
+
+  all-room : Room n m (placed m text)
+  all-room =
+      let a = g .n-is in
+      let b = g .m-is in
+      let c = nodes-length 0 p in
+      let d = tests-length p in
+      rw all-placed (record { for-nodes = omega arith; for-tests = omega arith })
+
+  module _ {t lv : List ℕ} {f : Front} {d k : ℕ} (u : Under text n m t lv f d k) (some : 0 < k) where
+    next : drop (k - 1) text ≡ byte text (k - 1) ∷ drop k text
+    next =
+        let w = u .within in
+        let e : suc (k - 1) ≡ k = omega arith in
+        drop-cons text (k - 1) 0 (omega arith) ∙ ap (λ x. byte text (k - 1) ∷ drop x text) e
+
+    rest : take (length text - k) (drop k text) ≡ drop k text
+    rest = take-all (length text - k) (drop k text) (simp length-drop (omega arith))
+
+    level-is : byte lv d ≡ byte (levels (drop k text)) 0
+    level-is = sym (ap (λ x. byte x 0) (sym (u .stacked .there)) ∙ (getD-drop d lv 0 0 ∙ ap (byte lv) (add-zero d)))
+
+    -- what this byte places
+    abbrev placing : Placed → Placed
+    placing = place (byte text (k - 1)) (byte lv d) (take (length text - k) (drop k text))
+
+    placing-is : placing (placed m (drop k text)) ≡ placed m (drop (k - 1) text)
+    unfolding placed
+    placing-is = rw (rest, level-is, next)
+
+    pub place-ready : Ready placing t f
+    place-ready =
+        (n, m, placed m (drop k text), u .holds, subst (λ (x : Placed). Room n m x) (sym placing-is) (room-at n m (k - 1) text all-room))
+
+    -- and what it does to the levels
+    abbrev leveling : List ℕ → List ℕ
+    leveling = relevel (byte text (k - 1)) (byte text k)
+
+    follows : byte text k ≡ byte (drop k text) 0
+    follows = sym (getD-drop k text 0 0 ∙ ap (byte text) (add-zero k))
+
+    leveling-is : leveling (levels (drop k text)) ≡ levels (drop (k - 1) text)
+    unfolding levels
+    leveling-is = rw (follows, next)
+
+    level-room : length (leveling (levels (drop k text))) ≤ length lv
+    level-room =
+        let a = g .n-is in
+        let b = g .m-is in
+        let s = g .small in
+        let l = u .long in
+        let e = depth-at (g .says) (k - 1) in
+        rw leveling-is (omega arith)
+
+    pub level-ready : LevelReady leveling lv d
+    level-ready = (levels (drop k text), u .stacked, level-room)
+
+    pub under-on :
+        {t′ lv′ : List ℕ} {f′ : Front} {d′ : ℕ}
+        → Places placing t f t′ f′
+        → Levels leveling lv d lv′ d′
+        → length lv′ ≡ length lv
+        → length t′ ≡ length t
+        → Under text n m t′ lv′ f′ d′ (k - 1)
+    under-on {t′} {lv′} {f′} {d′} a b l o =
+        let w = u .within in
+        record {
+          within = omega arith;
+          holds =
+              subst (λ (x : Placed). Holds n m t′ f′ x) placing-is
+              (a n m (placed m (drop k text)) (u .holds) (subst (λ (x : Placed). Room n m x) (sym placing-is) (room-at n m (k - 1) text all-room)));
+          stacked = subst (λ (x : List ℕ). Stacked lv′ d′ x) leveling-is (b (levels (drop k text)) (u .stacked) level-room);
+          long = l ∙ u .long;
+          room-is = o ∙ u .room-is;
+        }
+
+  -- behind the last step
+  module _ {t lv : List ℕ} {f : Front} {d : ℕ} (u : Under text n m t lv f d 0) where
+    held : Holds n m t f (made (nodesFrom 0 p) (testsOf p) 0)
+    held = subst (λ (x : Placed). Holds n m t f x) all-placed (u .holds)
+
+    nodes-first : t ≡ nodesFrom 0 p ++ held .nodes-there .behind
+    nodes-first =
+        let a = g .n-is in
+        let c = nodes-length 0 p in
+        let e = held .nodes-there .ends in
+        let b = held .nodes-there .begins in
+        let none : held .nodes-there .before ≡ [] = no-bytes (held .nodes-there .before) (omega arith) in
+        held .nodes-there .parts ∙ ap (λ x. x ++ (nodesFrom 0 p ++ held .nodes-there .behind)) none
+
+    -- its records, and what stands behind them
+    records : t ≡ nodesFrom 0 p ++ (testsOf p ++ held .tests-there .behind)
+    records =
+        let a = g .n-is in
+        let i = g .m-is in
+        let c = nodes-length 0 p in
+        let o = tests-length p in
+        let e = held .tests-there .ends in
+        let b = held .tests-there .begins in
+        let same : held .tests-there .before ≡ nodesFrom 0 p =
+        sym (take-at (held .tests-there .before) (testsOf p ++ held .tests-there .behind) (6 * n) (omega arith))
+        ∙ (ap (take (6 * n)) (sym (held .tests-there .parts))
+        ∙ (ap (take (6 * n)) nodes-first ∙ take-at (nodesFrom 0 p) (held .nodes-there .behind) (6 * n) (omega arith))) in
+        held .tests-there .parts ∙ ap (λ x. x ++ (testsOf p ++ held .tests-there .behind)) same
+
+    pub table-built :
+        (t′ : List ℕ)
+        → t′
+        ≡ sets t (6 * n + 4 * m) (big (n % 65536) ++ (big (m % 65536) ++ (big (v % 65536) ++ (big ((6 * n + 4 * m) % 65536) ++ big (4 * m % 65536)))))
+        → t′ ≡ tableOf p
+    unfolding tableOf trailer
+    table-built t′ e =
+        let a = g .n-is in
+        let b = g .m-is in
+        let c = g .v-is in
+        let s = g .small in
+        let k = named-small (g .says) in
+        let w : List ℕ = big n ++ (big m ++ (big v ++ (big (6 * n + 4 * m) ++ big (4 * m)))) in
+        let x : List ℕ = held .tests-there .behind in
+        let h = nodes-length 0 p in
+        let o = tests-length p in
+        let l : length x ≡ 10 =
+        let y = ap length records ∙ (length-append (nodesFrom 0 p) (testsOf p ++ x) ∙ ap (λ z. length (nodesFrom 0 p) + z) (length-append (testsOf p) x)) in
+        let z = u .room-is in
+        omega arith in
+        let at : 6 * n + 4 * m ≡ length (nodesFrom 0 p) + (length (testsOf p) + 0) = omega arith in
+        let put : sets t (6 * n + 4 * m) w ≡ nodesFrom 0 p ++ (testsOf p ++ w) =
+        ap (λ y. sets y (6 * n + 4 * m) w) records
+        ∙ (ap (λ y. sets (nodesFrom 0 p ++ (testsOf p ++ x)) y w) at
+        ∙ (sets-right w (nodesFrom 0 p) (testsOf p ++ x) (length (testsOf p) + 0)
+        ∙ ap (λ y. nodesFrom 0 p ++ y) (sets-right w (testsOf p) x 0 ∙ ap (λ y. testsOf p ++ y) (sets-all w x (sym l))))) in
+        rw (
+          small-mod n 65536 (omega arith),
+          small-mod m 65536 (omega arith),
+          small-mod v 65536 (omega arith),
+          small-mod (6 * n + 4 * m) 65536 (omega arith),
+          small-mod (4 * m) 65536 (omega arith),
+        ) at e
+        ∙ (put ∙ rw (a, b, c))

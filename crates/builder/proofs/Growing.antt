@@ -1,0 +1,158 @@
+-- What is placed only grows from the end of a text to its beginning, so it has room at each byte if it has at the first.
+use Prim.Native.Nat.{ℕ, zero, suc, _+_, _*_, _%_, _≤_}
+use mathlib.Core.Bool.{Bool, true, false, cond, _||_}
+use mathlib.Core.Path.{_≡_, refl, _∙_}
+use mathlib.Core.List.{List, [], _∷_, _++_}
+use native.Mathlib.Omega.{arith}
+use lib.Dec.{eqb, ltb}
+use lib.ListN.{length, set, take, drop, length-set, take-append-drop}
+use lib.Seq.{length-sets}
+use Rattle.table.specs.Records.{byte, word}
+use Rattle.form.specs.Made.{big}
+use Rattle.form.specs.Inside.Machine.{isDigit}
+use Rattle.builder.specs.Building.{Placed, withNode, withTest, number, joint, pair, negation, event}
+use Rattle.builder.specs.Building.{opening, spread, labelled, row}
+use Rattle.builder.specs.Building.{choice, await, single, kindOf, inside, form, name, comma, place, levels}
+use Rattle.builder.specs.Building.{placed, Room}
+
+pub record Grows (s t : Placed) : Type 0 where
+  pub nodes-grow : length (s .nodes) ≤ length (t .nodes)
+  pub tests-grow : length (s .tests) ≤ length (t .tests)
+
+pub grows-self : (s : Placed) → Grows s s
+grows-self s = record { nodes-grow = omega arith; tests-grow = omega arith }
+
+grows-then : {s t u : Placed} → Grows s t → Grows t u → Grows s u
+grows-then g h =
+    let a = g .nodes-grow in
+    let b = h .nodes-grow in
+    let c = g .tests-grow in
+    let d = h .tests-grow in
+    record { nodes-grow = omega arith; tests-grow = omega arith }
+
+grows-either : {s t u : Placed} (b : Bool) → Grows s t → Grows s u → Grows s (cond b t u)
+grows-either true g h = g
+grows-either false g h = h
+
+pub grows-node : (k a n : ℕ) (s : Placed) → Grows s (withNode k a n s)
+grows-node k a n s = record { nodes-grow = omega arith; tests-grow = omega arith }
+
+pub grows-test : (k a n : ℕ) (s : Placed) → Grows s (withTest k a n s)
+grows-test k a n s = record { nodes-grow = omega arith; tests-grow = omega arith }
+
+pub length-spread : (f k at : ℕ) (l : List ℕ) → length (spread f k at l) ≡ length l
+unfolding spread
+length-spread zero k at l = refl
+length-spread (suc f) k at l = go (length-spread f k (at + 6 + 6 * word l (at + 10)) (set l at k)) (eqb (byte l at) 255)
+  where
+    go :
+        length (spread f k (at + 6 + 6 * word l (at + 10)) (set l at k)) ≡ length (set l at k)
+        → (b : Bool)
+        → length (cond b (spread f k (at + 6 + 6 * word l (at + 10)) (set l at k)) l) ≡ length l
+    go e true = e ∙ length-set l at k
+    go e false = refl
+
+pub grows-event : (w : List ℕ) (s : Placed) → Grows s (event w s)
+unfolding event
+grows-event w s = grows-either (isDigit (byte w 0)) (grows-test 0 (number 0 w) 1 s) (grows-self s)
+
+grows-joint : (s : Placed) → Grows s (joint s)
+unfolding joint
+grows-joint s = grows-node 255 0 _ s
+
+pub grows-pair : (k : ℕ) (s : Placed) → Grows s (pair k s)
+unfolding pair
+grows-pair k s = grows-test k 0 _ s
+
+grows-negation : (s : Placed) → Grows s (negation s)
+unfolding negation
+grows-negation s = grows-test 1 0 _ s
+
+grows-opening : (level : ℕ) (w : List ℕ) (s : Placed) → Grows s (opening level w s)
+unfolding opening
+grows-opening level w s =
+    grows-either
+    (ltb 1 level)
+    (grows-then (grows-event w s) (grows-pair level (event w s)))
+    (grows-either (eqb (byte w 0) 110) (grows-negation s) (grows-self s))
+
+pub row-length : (k : ℕ) (s : Placed) → length (row k s .nodes) ≡ length (joint s .nodes)
+unfolding row
+row-length k s = length-spread (length (joint s .nodes)) k 0 (joint s .nodes)
+
+pub grows-row-joint : (k : ℕ) (s : Placed) → Grows (joint s) (row k s)
+unfolding row joint
+grows-row-joint k s = let e = row-length k s in record { nodes-grow = omega arith; tests-grow = omega arith }
+
+grows-row : (k : ℕ) (s : Placed) → Grows s (row k s)
+unfolding row
+grows-row k s =
+    let g = grows-joint s .nodes-grow in
+    record { nodes-grow = rw (row-length k s) g; tests-grow = omega arith }
+
+-- a choice has the records of its event
+pub choice-length : (k : ℕ) (w : List ℕ) (s : Placed) → length (choice k w s .nodes) ≡ length (event w s .nodes)
+unfolding choice
+choice-length k w s = length-sets (labelled k (event w s .nodes)) 2 (big (event w s .left % 65536)) ∙ length-spread (length (event w s .nodes)) k 0 (event w s .nodes)
+
+pub grows-choice : (k : ℕ) (w : List ℕ) (s : Placed) → Grows (event w s) (choice k w s)
+unfolding choice
+grows-choice k w s =
+    let e = choice-length k w s in
+    record { nodes-grow = omega arith; tests-grow = omega arith }
+
+pub grows-await : (w : List ℕ) (s : Placed) → Grows (event w s) (await w s)
+unfolding await
+grows-await w s = grows-node 8 _ 1 (event w s)
+
+grows-single : (k : ℕ) (w : List ℕ) (s : Placed) → Grows s (single k w s)
+unfolding single
+grows-single k w s = grows-node k _ _ s
+
+grows-form : (k : ℕ) (w : List ℕ) (s : Placed) → Grows s (form k w s)
+unfolding form
+grows-form k w s =
+    grows-either
+    (eqb k 3 || eqb k 4)
+    (grows-row k s)
+    (grows-either
+    (eqb k 8)
+    (grows-then (grows-event w s) (grows-await w s))
+    (grows-either (eqb k 9 || eqb k 10) (grows-then (grows-event w s) (grows-choice k w s)) (grows-single k w s)))
+
+grows-comma : (level : ℕ) (s : Placed) → Grows s (comma level s)
+unfolding comma
+grows-comma level s = grows-either (eqb level 1) (grows-joint s) (grows-self s)
+
+grows-place : (b level : ℕ) (w : List ℕ) (s : Placed) → Grows s (place b level w s)
+unfolding place name
+grows-place b level w s =
+    let k : ℕ = kindOf (byte w 2) (byte w 4) in
+    grows-either
+    (eqb b 32)
+    (grows-event w s)
+    (grows-either
+    (eqb b 40)
+    (grows-opening level w s)
+    (grows-either
+    (eqb b 44)
+    (grows-comma level s)
+    (grows-either (eqb b 74) (grows-form k (drop (inside k) w) s) (grows-self s))))
+
+grows-text : (m : ℕ) (w x : List ℕ) → Grows (placed m x) (placed m (w ++ x))
+unfolding placed
+grows-text m [] x = grows-self (placed m x)
+grows-text m (b ∷ w) x = grows-then (grows-text m w x) (grows-place b (byte (levels (w ++ x)) 0) (w ++ x) (placed m (w ++ x)))
+
+-- what has room when it has grown has room
+pub room-before : {n m : ℕ} {s t : Placed} → Grows s t → Room n m t → Room n m s
+room-before g r =
+    let a = g .nodes-grow in
+    let b = g .tests-grow in
+    let c = r .for-nodes in
+    let d = r .for-tests in
+    record { for-nodes = omega arith; for-tests = omega arith }
+
+pub room-at : (n m i : ℕ) (text : List ℕ) → Room n m (placed m text) → Room n m (placed m (drop i text))
+room-at n m i text r =
+    room-before (rw (take-append-drop i text) at (grows-text m (take i text) (drop i text))) r

@@ -1,0 +1,211 @@
+-- What a name or a comma places in front of what its parts have placed.
+use Prim.Native.Nat.{ℕ, _+_, _≤_, _<_}
+use mathlib.Core.Path.{_≡_, refl, ap, _∙_}
+use mathlib.Core.List.{List, _∷_, _++_, append-assoc}
+use native.Mathlib.Nat.{div-add-mod'}
+use native.Mathlib.Omega.{arith}
+use borrow.Author.Tests.{ne-eqb, le-ltb}
+use Rattle.junior.specs.Configuration.{Config}
+use Rattle.junior.specs.Program.{Program, Seq, Par, size, kind}
+use Rattle.table.specs.Records.{byte, word}
+use Rattle.letters.specs.Text.{bytes}
+use Rattle.form.specs.Made.{big, tests, nodesFrom, testRecords, testsOf}
+use Rattle.form.specs.Inside.Machine.{isDigit}
+use Rattle.builder.specs.Building.{Placed, number, joint, event, opening, labelled, row, choice}
+use Rattle.builder.specs.Building.{await, ownSize, single}
+use Rattle.builder.specs.Building.{kindOf, inside, form, name, comma, place, levels, placed}
+use Rattle.builder.proofs.LevelsKept.{levels-blank}
+use Rattle.builder.proofs.Headed.{size-there, kind-small, joined-nodes}
+use Rattle.builder.proofs.Spread.{Spine, ends, goes, labels}
+use Rattle.builder.proofs.PlacedTests.{made, small-mod, overTest, no-event}
+
+-- the records of p in front of others, its first configuration being number j
+abbrev pub over : Program → ℕ → Placed → Placed
+over p j s = made (nodesFrom j p ++ s .nodes) (testsOf p ++ s .tests) j
+
+-- the text y inside a name's bracket: the bracket is no configuration's
+pub record Enclosed (y : List ℕ) : Type 0 where
+  pub level : ℕ
+  pub outer : List ℕ
+  pub levels-are : levels y ≡ level ∷ outer
+  pub low : level ≤ 1
+  pub letter : byte y 0 < 110
+
+module _ (m : ℕ) (y : List ℕ) (g : Enclosed y) where
+  -- such a bracket places nothing
+  plain : opening (byte (levels y) 0) y (placed m y) ≡ placed m y
+  unfolding opening
+  plain = rw (g .levels-are, le-ltb 1 (g .level) (g .low), ne-eqb (byte y 0) 110 (λ e. let l = g .letter in omega arith))
+
+  pub reads-nothing : placed m (bytes "Jr.Nothing(" ++ y) ≡ form 0 y (placed m y)
+  unfolding placed place name kindOf inside
+  reads-nothing = ap (form 0 y) plain
+
+  pub reads-stop : placed m (bytes "Jr.Stop(" ++ y) ≡ form 1 y (placed m y)
+  unfolding placed place name kindOf inside
+  reads-stop = ap (form 1 y) plain
+
+  pub reads-atom : placed m (bytes "Jr.Atom(" ++ y) ≡ form 2 y (placed m y)
+  unfolding placed place name kindOf inside
+  reads-atom = ap (form 2 y) plain
+
+  pub reads-seq : placed m (bytes "Jr.Seq(" ++ y) ≡ form 3 y (placed m y)
+  unfolding placed place name kindOf inside
+  reads-seq = ap (form 3 y) plain
+
+  pub reads-par : placed m (bytes "Jr.Par(" ++ y) ≡ form 4 y (placed m y)
+  unfolding placed place name kindOf inside
+  reads-par = ap (form 4 y) plain
+
+  pub reads-loop : placed m (bytes "Jr.Loop(" ++ y) ≡ form 5 y (placed m y)
+  unfolding placed place name kindOf inside
+  reads-loop = ap (form 5 y) plain
+
+  pub reads-repeat : placed m (bytes "Jr.Repeat(" ++ y) ≡ form 6 y (placed m y)
+  unfolding placed place name kindOf inside
+  reads-repeat = ap (form 6 y) plain
+
+  pub reads-generate : placed m (bytes "Jr.Generate(" ++ y) ≡ form 7 y (placed m y)
+  unfolding placed place name kindOf inside
+  reads-generate = ap (form 7 y) plain
+
+  pub reads-await : placed m (bytes "Jr.Await(" ++ y) ≡ form 8 y (placed m y)
+  unfolding placed place name kindOf inside
+  reads-await = ap (form 8 y) plain
+
+  pub reads-when : placed m (bytes "Jr.When(" ++ y) ≡ form 9 y (placed m y)
+  unfolding placed place name kindOf inside
+  reads-when = ap (form 9 y) plain
+
+  pub reads-until : placed m (bytes "Jr.Until(" ++ y) ≡ form 10 y (placed m y)
+  unfolding placed place name kindOf inside
+  reads-until = ap (form 10 y) plain
+
+  pub reads-control : placed m (bytes "Jr.Control(" ++ y) ≡ form 11 y (placed m y)
+  unfolding placed place name kindOf inside
+  reads-control = ap (form 11 y) plain
+
+  pub reads-local : placed m (bytes "Jr.Local(" ++ y) ≡ form 12 y (placed m y)
+  unfolding placed place name kindOf inside
+  reads-local = ap (form 12 y) plain
+
+-- a comma before a program: the last of its bracket, or another
+module _ (m : ℕ) (y l : List ℕ) (b : byte y 0 ≡ 74) where
+  pub comma-last : levels y ≡ 0 ∷ l → placed m (44 ∷ 32 ∷ y) ≡ placed m y
+  unfolding placed place comma
+  comma-last e = rw (no-event y (placed m y) (ap isDigit b), levels-blank y (omega arith), e)
+
+  pub comma-more : levels y ≡ 1 ∷ l → placed m (44 ∷ 32 ∷ y) ≡ joint (placed m y)
+  unfolding placed place comma
+  comma-more e = rw (no-event y (placed m y) (ap isDigit b), levels-blank y (omega arith), e)
+
+-- a form without parts or with one
+pub singled :
+    (k a n : ℕ) (y : List ℕ) (s : Placed)
+    → number 0 y ≡ a
+    → a ≤ 65535
+    → ownSize k (s .nodes) ≡ n
+    → n ≤ 65535
+    → single k y s ≡ made (k ∷ 0 ∷ (big a ++ (big n ++ s .nodes))) (s .tests) (s .left)
+unfolding single
+singled k a n y s e h f g = rw (e, f, small-mod a 65536 (omega arith), small-mod n 65536 (omega arith))
+
+-- the parts of a row behind its first comma
+pub record Joined (k : ℕ) (q : Program) (j : ℕ) (s r : Placed) : Type 0 where
+  pub front : List ℕ
+  pub spine : Spine k front (nodesFrom j q ++ s .nodes)
+  pub size-is : word front 4 ≡ size q
+  pub placed-is : r ≡ made front (testsOf q ++ s .tests) j
+
+-- one part
+pub joined-last : (k : ℕ) (q : Program) (j : ℕ) (s : Placed) → Joined k q j s (over q j s)
+joined-last k q j s =
+    record { front = nodesFrom j q ++ s .nodes; spine = ends (kind-small j q (s .nodes)); size-is = size-there j q (s .nodes); placed-is = refl }
+
+-- the node over p and what stands in front
+pub joint-is :
+    (j n : ℕ) (p : Program) (front t : List ℕ) (l : ℕ)
+    → word front 4 ≡ n
+    → 1 + size p + n ≤ 65535
+    → joint (made (nodesFrom j p ++ front) t l) ≡ made (255 ∷ 0 ∷ 0 ∷ 0 ∷ (big (1 + size p + n) ++ (nodesFrom j p ++ front))) t l
+unfolding joint
+joint-is j n p front t l e h =
+    let f = joined-nodes j p front ∙ ap (λ x. 1 + size p + x) e in
+    rw (f, small-mod (1 + size p + n) 65536 (omega arith))
+
+-- r is a Seq or a Par of p and q, of kind k
+pub record Row (k : ℕ) (p q r : Program) : Type 0 where
+  pub size-is : size r ≡ 1 + size p + size q
+  pub nodes-are : (j : ℕ) (x : List ℕ) → nodesFrom j r ++ x ≡ k ∷ 0 ∷ 0 ∷ 0 ∷ (big (size r) ++ (nodesFrom j p ++ (nodesFrom (j + tests p) q ++ x)))
+  pub count-is : tests r ≡ tests p + tests q
+  pub tests-are : (x : List ℕ) → testsOf r ++ x ≡ testsOf p ++ (testsOf q ++ x)
+
+pub seq-row : (p q : Program) → Row 3 p q (Seq p q)
+unfolding size nodesFrom tests testsOf kind
+seq-row p q =
+    record {
+      size-is = refl;
+      nodes-are = λ j x. rw (append-assoc (nodesFrom j p) (nodesFrom (j + tests p) q) x);
+      count-is = refl;
+      tests-are = λ x. append-assoc (testsOf p) (testsOf q) x;
+    }
+
+pub par-row : (p q : Program) → Row 4 p q (Par p q)
+unfolding size nodesFrom tests testsOf kind
+par-row p q =
+    record {
+      size-is = refl;
+      nodes-are = λ j x. rw (append-assoc (nodesFrom j p) (nodesFrom (j + tests p) q) x);
+      count-is = refl;
+      tests-are = λ x. append-assoc (testsOf p) (testsOf q) x;
+    }
+
+-- one part more
+pub joined-more :
+    {k : ℕ} {p q r : Program} (o : Row k p q r) (j : ℕ) {s z : Placed}
+    → Joined k q (j + tests p) s z
+    → size r ≤ 65535
+    → Joined k r j s (joint (over p j z))
+joined-more {k} {p} {q} {r} o j {s} {z} g h =
+    let n = o .size-is in
+    let f = joint-is j (size q) p (g .front) (testsOf p ++ (testsOf q ++ s .tests)) j (g .size-is) (omega arith) in
+    record {
+      front = 255 ∷ 0 ∷ 0 ∷ 0 ∷ (big (size r) ++ (nodesFrom j p ++ g .front));
+      spine = rw (o .nodes-are j (s .nodes)) (goes (size r) j p (g .spine));
+      size-is = div-add-mod' (size r) 256;
+      placed-is = rw (g .placed-is, o .size-is, o .tests-are (s .tests)) f;
+    }
+
+-- a whole row
+pub row-placed :
+    {k : ℕ} {p q r : Program} (o : Row k p q r) (j : ℕ) {s z : Placed}
+    → Joined k q (j + tests p) s z
+    → size r ≤ 65535
+    → row k (over p j z) ≡ over r j s
+unfolding row joint
+row-placed {k} {p} {q} {r} o j {s} {z} g h =
+    let t = joined-more o j g h in
+    let a : labelled k (joint (over p j z) .nodes) ≡ nodesFrom j r ++ s .nodes = ap (λ x. labelled k (x .nodes)) (t .placed-is) ∙ labels (t .spine) in
+    let b : testsOf p ++ z .tests ≡ testsOf r ++ s .tests = ap (λ x. x .tests) (t .placed-is) in
+    rw (b) (ap (λ l. made l (testsOf r ++ s .tests) j) a)
+
+-- an Await
+pub await-placed :
+    (c : Config) (j : ℕ) (y : List ℕ) (s r : Placed)
+    → event y s ≡ overTest c j r
+    → j ≤ 65535
+    → await y s ≡ made (8 ∷ 0 ∷ (big j ++ (big 1 ++ r .nodes))) (testRecords c ++ r .tests) j
+unfolding await
+await-placed c j y s r e h = rw (e, small-mod j 65536 (omega arith))
+
+-- a When or an Until whose node is not labelled yet
+pub choice-placed :
+    (k : ℕ) (c : Config) (j n i h : ℕ) (p q : Program) (x t y : List ℕ) (l : ℕ) (s : Placed)
+    → event y s ≡ overTest c j (made (255 ∷ 0 ∷ 0 ∷ 0 ∷ (big n ++ (nodesFrom i p ++ (nodesFrom h q ++ x)))) t l)
+    → j ≤ 65535
+    → choice k y s ≡ made (k ∷ 0 ∷ (big j ++ (big n ++ (nodesFrom i p ++ (nodesFrom h q ++ x))))) (testRecords c ++ t) j
+unfolding choice
+choice-placed k c j n i h p q x t y l s e b =
+    let d : List ℕ = big n ++ (nodesFrom i p ++ (nodesFrom h q ++ x)) in
+    let f : labelled k (255 ∷ 0 ∷ 0 ∷ 0 ∷ d) ≡ k ∷ 0 ∷ 0 ∷ 0 ∷ d = labels (goes n i p (ends (kind-small h q x))) in
+    rw (e, f, small-mod j 65536 (omega arith))

@@ -1,0 +1,206 @@
+-- What each function of the builder places, by the records that it reads.
+use Prim.Native.Nat.{ℕ, _+_, _-_, _%_, _≤_, _<_}
+use mathlib.Core.Bool.{true, false}
+use mathlib.Core.Path.{_≡_, sym, ap, subst, _∙_}
+use mathlib.Core.List.{List, _++_}
+use native.Mathlib.Nat.{add-zero}
+use borrow.Author.Tests.{ne-eqb, lt-ltb, le-ltb}
+use lib.ListN.{length, take, drop}
+use lib.Seq.{sets, getD-drop}
+use Rattle.table.specs.Records.{byte, word}
+use Rattle.builder.specs.declared.build.Front.{Front}
+use Rattle.form.specs.Made.{big}
+use Rattle.form.specs.Inside.Machine.{isDigit}
+use Rattle.builder.specs.Building.{Placed, withNode, withTest, number, joinedSize, joint, pair}
+use Rattle.builder.specs.Building.{negation, event}
+use Rattle.builder.specs.Building.{opening, labelled, row, choice, await, ownSize, single, kindOf, inside}
+use Rattle.builder.specs.Building.{form, name}
+use Rattle.builder.specs.Building.{comma, place, Holds, Room, Ready, Places}
+use Rattle.builder.proofs.Growing.{room-before, length-spread, grows-row-joint, choice-length, grows-choice}
+use Rattle.builder.proofs.Growing.{grows-await}
+use Rattle.builder.proofs.Holding.{nodes-part, tests-part, nodes-anew}
+
+byte-of-drop : (text : List ℕ) (i : ℕ) → byte (drop i text) 0 ≡ byte text i
+byte-of-drop text i = getD-drop i text 0 0 ∙ ap (byte text) (add-zero i)
+
+-- an event, or none
+module _ (text : List ℕ) (i b : ℕ) (is : b ≡ byte text i) (s : Placed) where
+  pub event-here : (e : ℕ) → isDigit b ≡ true → e ≡ number 0 (drop i text) → withTest 0 e 1 s ≡ event (drop i text) s
+  unfolding event
+  event-here e h n = rw (n, byte-of-drop text i, ← is, h)
+
+  pub event-none : isDigit b ≡ false → event (drop i text) s ≡ s
+  unfolding event
+  event-none h = rw (byte-of-drop text i, ← is, h)
+
+-- records whose size is read off those in front
+module _ {n m : ℕ} {t : List ℕ} {f : Front} {s : Placed} (h : Holds n m t f s) (z : ℕ) where
+  abbrev nodes-of : List ℕ
+  nodes-of = take (f .middle - f .node) (drop (f .node) t)
+
+  abbrev tests-of : List ℕ
+  tests-of = take (f .end - f .part) (drop (f .part) t)
+
+  pub joint-here : z ≡ joinedSize 6 4 nodes-of → withNode 255 0 z s ≡ joint s
+  unfolding joint
+  joint-here e = rw (e, nodes-part h)
+
+  pub pair-here : (k : ℕ) → z ≡ joinedSize 4 2 tests-of → withTest k 0 z s ≡ pair k s
+  unfolding pair
+  pair-here k e = rw (e, tests-part h)
+
+  pub negation-here : z ≡ word tests-of 2 → withTest 1 0 (1 + z) s ≡ negation s
+  unfolding negation
+  negation-here e = rw (e, tests-part h)
+
+  pub single-here : (k a : ℕ) (w : List ℕ) → z ≡ ownSize k nodes-of → a ≡ number 0 w → withNode k a z s ≡ single k w s
+  unfolding single
+  single-here k a w e g = rw (e, g, nodes-part h)
+
+-- an Await: its event, then its node
+module _ (w : List ℕ) {t : List ℕ} {f : Front} where
+  pub await-first : Ready (await w) t f → Ready (event w) t f
+  await-first (n, m, s, h, r) = (n, m, s, h, room-before (grows-await w s) r)
+
+  pub await-second :
+      {t′ : List ℕ} {f′ : Front}
+      → Ready (await w) t f
+      → Places (event w) t f t′ f′
+      → Ready (withNode 8 (f′ .left) 1) t′ f′
+  unfolding await
+  await-second (n, m, s, h, r) p =
+      let g = p n m s h (room-before (grows-await w s) r) in
+      (n, m, event w s, g, rw (g .left-is) r)
+
+  pub await-done :
+      {t′ : List ℕ} {f′ : Front} {t″ : List ℕ} {f″ : Front}
+      → Places (event w) t f t′ f′
+      → Places (withNode 8 (f′ .left) 1) t′ f′ t″ f″
+      → Places (await w) t f t″ f″
+  unfolding await
+  await-done {t″ = t″} {f″ = f″} p q n m s h r =
+      let g = p n m s h (room-before (grows-await w s) r) in
+      let e = g .left-is in
+      subst (λ (x : ℕ). Holds n m t″ f″ (withNode 8 x 1 (event w s))) e
+      (q n m (event w s) g (subst (λ (x : ℕ). Room n m (withNode 8 x 1 (event w s))) (sym e) r))
+
+-- a row: its node, then the labels
+module _ (k : ℕ) {t : List ℕ} {f : Front} where
+  pub row-first : Ready (row k) t f → Ready joint t f
+  row-first (n, m, s, h, r) = (n, m, s, h, room-before (grows-row-joint k s) r)
+
+  pub row-held :
+      {t′ : List ℕ} {f′ : Front} (r : Ready (row k) t f) → Places joint t f t′ f′ → Holds (r .0) (r .1) t′ f′ (joint (r .2))
+  row-held (n, m, s, h, r) p = p n m s h (room-before (grows-row-joint k s) r)
+
+  pub row-done :
+      {t′ : List ℕ} {f′ : Front} (w : List ℕ)
+      → Places joint t f t′ f′
+      → w ≡ labelled k (take (f′ .middle - f′ .node) (drop (f′ .node) t′))
+      → Places (row k) t f (take (f′ .node) t′ ++ (w ++ drop (f′ .middle - f′ .node) (drop (f′ .node) t′))) f′
+  unfolding row joint
+  row-done w p e n m s h r =
+      let g = p n m s h (room-before (grows-row-joint k s) r) in
+      let i = e ∙ ap (labelled k) (nodes-part g) in
+      rw (← i) (nodes-anew g w (ap length i ∙ length-spread (length (joint s .nodes)) k 0 (joint s .nodes)))
+
+-- a choice: its event, then the labels and the argument
+module _ (k : ℕ) (y : List ℕ) {t : List ℕ} {f : Front} where
+  pub choice-first : Ready (choice k y) t f → Ready (event y) t f
+  choice-first (n, m, s, h, r) = (n, m, s, h, room-before (grows-choice k y s) r)
+
+  pub choice-held :
+      {t′ : List ℕ} {f′ : Front} (r : Ready (choice k y) t f) → Places (event y) t f t′ f′ → Holds (r .0) (r .1) t′ f′ (event y (r .2))
+  choice-held (n, m, s, h, r) p = p n m s h (room-before (grows-choice k y s) r)
+
+  pub choice-done :
+      {t′ : List ℕ} {f′ : Front} (w : List ℕ)
+      → Places (event y) t f t′ f′
+      → w ≡ sets (labelled k (take (f′ .middle - f′ .node) (drop (f′ .node) t′))) 2 (big (f′ .left % 65536))
+      → Places (choice k y) t f (take (f′ .node) t′ ++ (w ++ drop (f′ .middle - f′ .node) (drop (f′ .node) t′))) f′
+  unfolding choice
+  choice-done w p e n m s h r =
+      let g = p n m s h (room-before (grows-choice k y s) r) in
+      let i : w ≡ choice k y s .nodes = rw (nodes-part g, g .left-is) at e in
+      rw (← i) (nodes-anew g w (ap length i ∙ choice-length k y s))
+
+-- `(`
+module _ (level : ℕ) (w : List ℕ) (s : Placed) where
+  pub opening-pair : 1 < level → pair level (event w s) ≡ opening level w s
+  unfolding opening
+  opening-pair h = rw (lt-ltb 1 level h)
+
+  pub opening-not : level ≤ 1 → byte w 0 ≡ 110 → negation s ≡ opening level w s
+  unfolding opening
+  opening-not h e = rw (le-ltb 1 level h, e)
+
+  pub opening-none : level ≤ 1 → (byte w 0 ≡ 110 → ⊥) → opening level w s ≡ s
+  unfolding opening
+  opening-none h e = rw (le-ltb 1 level h, ne-eqb (byte w 0) 110 e)
+
+-- `,`
+module _ (level : ℕ) (s : Placed) where
+  pub comma-joint : level ≡ 1 → joint s ≡ comma level s
+  unfolding comma
+  comma-joint e = rw e
+
+  pub comma-none : (level ≡ 1 → ⊥) → comma level s ≡ s
+  unfolding comma
+  comma-none e = rw (ne-eqb level 1 e)
+
+-- the form of a kind
+module _ (k : ℕ) (w : List ℕ) (s : Placed) where
+  pub form-seq : k ≡ 3 → row 3 s ≡ form k w s
+  unfolding form
+  form-seq e = rw e
+
+  pub form-par : k ≡ 4 → row 4 s ≡ form k w s
+  unfolding form
+  form-par e = rw e
+
+  pub form-await : k ≡ 8 → await w s ≡ form k w s
+  unfolding form
+  form-await e = rw e
+
+  pub form-when : k ≡ 9 → choice 9 w s ≡ form k w s
+  unfolding form
+  form-when e = rw e
+
+  pub form-until : k ≡ 10 → choice 10 w s ≡ form k w s
+  unfolding form
+  form-until e = rw e
+
+  pub form-single : (k ≡ 3 → ⊥) → (k ≡ 4 → ⊥) → (k ≡ 8 → ⊥) → (k ≡ 9 → ⊥) → (k ≡ 10 → ⊥) → single k w s ≡ form k w s
+  unfolding form
+  form-single a b c d e = rw (ne-eqb k 3 a, ne-eqb k 4 b, ne-eqb k 8 c, ne-eqb k 9 d, ne-eqb k 10 e)
+
+-- `J`
+pub name-here :
+    (w : List ℕ) (k i : ℕ) (s : Placed)
+    → k ≡ kindOf (byte w 2) (byte w 4)
+    → i ≡ inside k
+    → form k (drop i w) s ≡ name w s
+unfolding name
+name-here w k i s e f = rw (f, e)
+
+-- a byte
+module _ (b level : ℕ) (w : List ℕ) (s : Placed) where
+  pub place-blank : b ≡ 32 → event w s ≡ place b level w s
+  unfolding place
+  place-blank e = rw e
+
+  pub place-opens : b ≡ 40 → opening level w s ≡ place b level w s
+  unfolding place
+  place-opens e = rw e
+
+  pub place-separates : b ≡ 44 → comma level s ≡ place b level w s
+  unfolding place
+  place-separates e = rw e
+
+  pub place-names : b ≡ 74 → name w s ≡ place b level w s
+  unfolding place
+  place-names e = rw e
+
+  pub place-none : (b ≡ 32 → ⊥) → (b ≡ 40 → ⊥) → (b ≡ 44 → ⊥) → (b ≡ 74 → ⊥) → place b level w s ≡ s
+  unfolding place
+  place-none e f g h = rw (ne-eqb b 32 e, ne-eqb b 40 f, ne-eqb b 44 g, ne-eqb b 74 h)

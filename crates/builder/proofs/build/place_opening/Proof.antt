@@ -1,0 +1,70 @@
+use Rattle.builder.proofs.build.place_opening.Statement.{statement}
+use Rattle.builder.proofs.build.place_opening.Tie as tie
+use borrow.Author.Needs.{needs}
+use mathlib.Core.Path.{sym, _∙_}
+use Rattle.builder.proofs.Holding.{ready-in, places-in, places-none, ready-first, ready-second, places-then}
+use Rattle.builder.proofs.Placing.{opening-pair, opening-not, opening-none}
+use Rattle.builder.proofs.Growing.{grows-pair}
+
+-- let next = place_event(text, 0, table, front);
+place-event-requires : tie.Need-place-event-requires
+place-event-requires c κs =
+    let start = c .before .before .before .before in
+    let if1 = c .before .if1 in
+    ready-first (grows-pair (start .args .level)) (ready-in (λ n m s h. opening-pair (start .args .level) (start .args .text .now) s (if1 .taken)) (start .pre))
+
+-- return place_pair(level, table, next);
+place-pair-requires : tie.Need-place-pair-requires
+place-pair-requires c κs =
+    let start = c .before .before .before .before .before .before .before .before in
+    let if1 = c .before .before .before .before .before .if1 in
+    let place-event = c .before .before .before .place-event in
+    ready-second (grows-pair (start .args .level)) (ready-in (λ n m s h. opening-pair (start .args .level) (start .args .text .now) s (if1 .taken)) (start .pre)) (place-event .ensures)
+
+returns : tie.Need-returns
+returns c =
+    let start = c .before .before .before .before .before .before .before .before .before .before .before in
+    let if1 = c .before .before .before .before .before .before .before .before .if1 in
+    let place-event = c .before .before .before .before .before .before .place-event in
+    let place-pair = c .before .before .place-pair in
+    places-in (λ n m s h. opening-pair (start .args .level) (start .args .text .now) s (if1 .taken)) (places-then (grows-pair (start .args .level)) (place-event .ensures) (place-pair .ensures))
+
+-- return place_not(table, front);
+place-not-requires : tie.Need-place-not-requires
+place-not-requires c κs =
+    let start = c .before .before .before .before .before .before in
+    let if1 = c .before .before .before .if1 in
+    let byte-at = c .before .before .byte-at in
+    let if2 = c .before .if2 in
+    ready-in (λ n m s h. opening-not (start .args .level) (start .args .text .now) s (if1 .left) (sym (byte-at .ensures) ∙ if2 .taken)) (start .pre)
+
+returns-2 : tie.Need-returns-2
+returns-2 c =
+    let start = c .before .before .before .before .before .before .before .before .before in
+    let if1 = c .before .before .before .before .before .before .if1 in
+    let byte-at = c .before .before .before .before .before .byte-at in
+    let if2 = c .before .before .before .before .if2 in
+    let place-not = c .before .before .place-not in
+    places-in (λ n m s h. opening-not (start .args .level) (start .args .text .now) s (if1 .left) (sym (byte-at .ensures) ∙ if2 .taken)) (place-not .ensures)
+
+-- fn place_opening
+returns-3 : tie.Need-returns-3
+returns-3 c =
+    let start = c .before .before .before .before .before in
+    let if1 = c .before .before .if1 in
+    let byte-at = c .before .byte-at in
+    let if2 = c .if2 in
+    places-none (λ s. opening-none (start .args .level) (start .args .text .now) s (if1 .left) (λ e. if2 .left (byte-at .ensures ∙ e)))
+
+pub place-opening-spec : {M : Type 1} → statement M
+place-opening-spec =
+    tie.close (tie.spec
+    place-event-requires
+    place-pair-requires
+    (λ c. search needs)  -- same-length
+    returns
+    (λ c κs. search needs)  -- byte-at-requires: if byte_at(text, 0) == 110 {
+    place-not-requires
+    (λ c. search needs)  -- same-length-2
+    returns-2
+    returns-3)

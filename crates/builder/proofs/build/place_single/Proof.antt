@@ -1,0 +1,41 @@
+use Rattle.builder.proofs.build.place_single.Statement.{statement}
+use Rattle.builder.proofs.build.place_single.Tie as tie
+use borrow.Author.Needs.{needs}
+use lib.ListN.{drop}
+use Rattle.builder.proofs.Holding.{nodes-end, ready-in, places-in}
+use Rattle.builder.proofs.Placing.{single-here}
+
+-- let size = own_size(&table[node..middle], kind);
+part-own-size-end : tie.Need-part-own-size-end
+part-own-size-end c =
+    let start = c .before .before .before in
+    nodes-end (start .pre .3)
+
+-- place_node(table, kind, argument, size, front)
+place-node-requires : tie.Need-place-node-requires
+place-node-requires c κs =
+    let start = c .before .before .before .before .before .before .before in
+    let own-size = c .before .before .own-size in
+    let number-at = c .before .number-at in
+    ready-in (λ n m s h. single-here h (own-size .result) (start .args .kind) (number-at .result) (drop (start .args .i) (start .args .text .now)) (own-size .ensures) (number-at .ensures)) (start .pre)
+
+-- fn place_single
+returns : tie.Need-returns
+returns c =
+    let start = c .before .before .before .before .before .before .before .before .before .before in
+    let own-size = c .before .before .before .before .before .own-size in
+    let number-at = c .before .before .before .before .number-at in
+    let place-node = c .before .before .place-node in
+    places-in (λ n m s h. single-here h (own-size .result) (start .args .kind) (number-at .result) (drop (start .args .i) (start .args .text .now)) (own-size .ensures) (number-at .ensures)) (place-node .ensures)
+
+pub place-single-spec : {M : Type 1} → statement M
+place-single-spec =
+    tie.close (tie.spec
+    (λ c. search needs)  -- sub-own-size: let size = own_size(&table[node..middle], kind);
+    (λ c. search needs)  -- part-own-size-start
+    part-own-size-end
+    (λ c κs. search needs)  -- own-size-requires
+    (λ c κs. search needs)  -- number-at-requires: let argument = number_at(text, i);
+    place-node-requires
+    (λ c. search needs)  -- same-length: fn place_single
+    returns)

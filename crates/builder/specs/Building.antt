@@ -1,0 +1,231 @@
+-- Building the table of a text in the form, from its last byte to its first: what is placed once an end of the text is read. A record's
+-- parts are placed before it, so its size is read off theirs.
+use Prim.Native.Nat.{ℕ, zero, suc, _+_, _-_, _*_, _%_, _≤_}
+use mathlib.Core.Bool.{cond, _||_}
+use mathlib.Core.Path.{_≡_}
+use mathlib.Core.List.{List, [], _∷_, _++_}
+use lib.Dec.{eqb, ltb}
+use lib.ListN.{length, getD, set, drop}
+use lib.Seq.{sets}
+use Rattle.junior.specs.Program.{Program, size}
+use Rattle.table.specs.Records.{byte, word}
+use Rattle.builder.specs.declared.build.Front.{Front}
+use Rattle.form.specs.Form.{Says, whole}
+use Rattle.form.specs.Inside.Machine.{isDigit}
+use Rattle.form.specs.Made.{big, named, tests, tableOf, needed}
+
+-- the records that are placed, and how many configurations are still to come
+pub record Placed : Type 0 where
+  pub nodes : List ℕ
+  pub tests : List ℕ
+  pub left : ℕ
+
+-- the records' bytes
+abbrev pub nodeBytes : ℕ → ℕ → ℕ → List ℕ
+nodeBytes k argument n = k ∷ 0 ∷ (big (argument % 65536) ++ big (n % 65536))
+
+abbrev pub testBytes : ℕ → ℕ → ℕ → List ℕ
+testBytes k s n = k ∷ (s % 256) ∷ big (n % 65536)
+
+-- a record in front of those that are placed
+abbrev pub withNode : ℕ → ℕ → ℕ → Placed → Placed
+withNode k argument n s = record { nodes = nodeBytes k argument n ++ s .nodes; tests = s .tests; left = s .left }
+
+abbrev pub withTest : ℕ → ℕ → ℕ → Placed → Placed
+withTest k e n s = record { nodes = s .nodes; tests = testBytes k e n ++ s .tests; left = s .left - 1 }
+
+-- v, with the digits behind it that the text begins with
+unfoldable pub number : ℕ → List ℕ → ℕ
+number v [] = v
+number v (b ∷ w) =
+    let more = number ((10 * v + (b - 48)) % 65536) w in
+    cond (isDigit b) more v
+
+-- the size of a record in front of two others, by the sizes written in them at a byte of each
+unfoldable pub joinedSize : ℕ → ℕ → List ℕ → ℕ
+joinedSize long at l = 1 + word l at + word l (long * word l at + at)
+
+-- a node that is not known to be a Seq or a Par yet, over the two in front
+unfoldable pub joint : Placed → Placed
+joint s = withNode 255 0 (joinedSize 6 4 (s .nodes)) s
+
+-- and: 2, or: 3, over the two in front
+unfoldable pub pair : ℕ → Placed → Placed
+pair k s = withTest k 0 (joinedSize 4 2 (s .tests)) s
+
+unfoldable pub negation : Placed → Placed
+negation s = withTest 1 0 (1 + word (s .tests) 2) s
+
+-- an event, if the text begins with its number
+unfoldable pub event : List ℕ → Placed → Placed
+event w s = cond (isDigit (byte w 0)) (withTest 0 (number 0 w) 1 s) s
+
+-- `(` at this level, before this text
+unfoldable pub opening : ℕ → List ℕ → Placed → Placed
+opening level w s =
+    let plain = cond (eqb (byte w 0) 110) (negation s) s in
+    let joined = pair level (event w s) in
+    cond (ltb 1 level) joined plain
+
+-- the node at byte `at` and those that follow it as second children get their kind, as long as they have none
+unfoldable pub spread : ℕ → ℕ → ℕ → List ℕ → List ℕ
+spread zero k at l = l
+spread (suc f) k at l =
+    let more = spread f k (at + 6 + 6 * word l (at + 10)) (set l at k) in
+    cond (eqb (byte l at) 255) more l
+
+abbrev pub labelled : ℕ → List ℕ → List ℕ
+labelled k l = spread (length l) k 0 l
+
+-- a Seq or a Par
+unfoldable pub row : ℕ → Placed → Placed
+row k s =
+    let j = joint s in
+    record { nodes = labelled k (j .nodes); tests = s .tests; left = s .left }
+
+-- a When or an Until whose node is placed and not labelled; w is the text of its test
+unfoldable pub choice : ℕ → List ℕ → Placed → Placed
+choice k w s =
+    let e = event w s in
+    record { nodes = sets (labelled k (e .nodes)) 2 (big (e .left % 65536)); tests = e .tests; left = e .left }
+
+unfoldable pub await : List ℕ → Placed → Placed
+await w s =
+    let e = event w s in
+    withNode 8 (e .left) 1 e
+
+-- 1, and the size of the child in front if there is to be one
+unfoldable pub ownSize : ℕ → List ℕ → ℕ
+ownSize k l = cond (eqb k 5 || (eqb k 6 || (eqb k 11 || eqb k 12))) (1 + word l 4) 1
+
+-- any other form; w begins with its number
+unfoldable pub single : ℕ → List ℕ → Placed → Placed
+single k w s = withNode k (number 0 w) (ownSize k (s .nodes)) s
+
+-- the kind by the first and the third letter of its name
+unfoldable pub kindOf : ℕ → ℕ → ℕ
+kindOf first third =
+    cond
+    (eqb first 78)
+    0
+    (cond
+    (eqb first 83)
+    (cond (eqb third 111) 1 3)
+    (cond
+    (eqb first 65)
+    (cond (eqb third 111) 2 8)
+    (cond
+    (eqb first 80)
+    4
+    (cond
+    (eqb first 76)
+    (cond (eqb third 111) 5 12)
+    (cond (eqb first 82) 6 (cond (eqb first 71) 7 (cond (eqb first 87) 9 (cond (eqb first 85) 10 11))))))))
+
+-- how far behind the `J` of a name the text inside its bracket begins
+unfoldable pub inside : ℕ → ℕ
+inside k = getD (10 ∷ 7 ∷ 7 ∷ 6 ∷ 6 ∷ 7 ∷ 9 ∷ 11 ∷ 8 ∷ 7 ∷ 8 ∷ 10 ∷ 8 ∷ []) k 0
+
+-- the form of kind k, the text inside its bracket being w
+unfoldable pub form : ℕ → List ℕ → Placed → Placed
+form k w s =
+    let r = row k s in
+    let a = await w s in
+    let c = choice k w s in
+    let o = single k w s in
+    cond (eqb k 3 || eqb k 4) r (cond (eqb k 8) a (cond (eqb k 9 || eqb k 10) c o))
+
+-- `J` before this text
+unfoldable pub name : List ℕ → Placed → Placed
+name w s =
+    let k = kindOf (byte w 2) (byte w 4) in
+    form k (drop (inside k) w) s
+
+-- `,` at this level
+unfoldable pub comma : ℕ → Placed → Placed
+comma level s =
+    let j = joint s in
+    cond (eqb level 1) j s
+
+-- byte b at this level, before this text
+unfoldable pub place : ℕ → ℕ → List ℕ → Placed → Placed
+place b level w s =
+    let e = event w s in
+    let o = opening level w s in
+    let c = comma level s in
+    let n = name w s in
+    cond (eqb b 32) e (cond (eqb b 40) o (cond (eqb b 44) c (cond (eqb b 74) n s)))
+
+-- The levels of the brackets that are closed and not yet opened, the innermost first: 0; 1 once a comma is read; 2 for `and`, 3 for `or`.
+-- Byte b, before c:
+unfoldable pub relevel : ℕ → ℕ → List ℕ → List ℕ
+relevel b c l =
+    cond
+    (eqb b 32)
+    (cond (eqb c 97) (set l 0 2) (cond (eqb c 111) (set l 0 3) l))
+    (cond (eqb b 40) (drop 1 l) (cond (eqb b 41) (0 ∷ l) (cond (eqb b 44) (set l 0 1) l)))
+
+unfoldable pub levels : List ℕ → List ℕ
+levels [] = []
+levels (b ∷ w) = relevel b (byte w 0) (levels w)
+
+-- what is placed once a text is read that m configurations stand in
+unfoldable pub placed : ℕ → List ℕ → Placed
+placed m [] = record { nodes = []; tests = []; left = m }
+placed m (b ∷ w) = place b (byte (levels w) 0) w (placed m w)
+
+-- bytes a to b of t are l
+pub record Region (t : List ℕ) (a b : ℕ) (l : List ℕ) : Type 0 where
+  pub before : List ℕ
+  pub behind : List ℕ
+  pub parts : t ≡ before ++ (l ++ behind)
+  pub begins : length before ≡ a
+  pub ends : a + length l ≡ b
+
+-- the table's bytes hold what is placed, n nodes and m configurations being to be placed in all
+pub record Holds (n m : ℕ) (t : List ℕ) (f : Front) (s : Placed) : Type 0 where
+  pub middle-is : f .middle ≡ 6 * n
+  pub end-is : f .end ≡ 6 * n + 4 * m
+  pub nodes-there : Region t (f .node) (6 * n) (s .nodes)
+  pub tests-there : Region t (f .part) (6 * n + 4 * m) (s .tests)
+  pub counted : f .part ≡ 6 * n + 4 * f .left
+  pub left-is : f .left ≡ s .left
+  pub small : length t ≤ 32778
+
+-- it has its place among them
+pub record Room (n m : ℕ) (s : Placed) : Type 0 where
+  pub for-nodes : length (s .nodes) ≤ 6 * n
+  pub for-tests : length (s .tests) ≤ 4 * m
+
+-- whatever the table holds, F of it can be placed; and then it holds that
+abbrev pub Ready : (Placed → Placed) → List ℕ → Front → Type 0
+Ready F t f = (n : ℕ) × (m : ℕ) × (s : Placed) × Holds n m t f s × Room n m (F s)
+
+abbrev pub Places : (Placed → Placed) → List ℕ → Front → List ℕ → Front → Type 0
+Places F t f t′ f′ = (n m : ℕ) (s : Placed) → Holds n m t f s → Room n m (F s) → Holds n m t′ f′ (F s)
+
+-- the levels stand at the end of the bytes t, from byte d on
+pub record Stacked (t : List ℕ) (d : ℕ) (l : List ℕ) : Type 0 where
+  pub within : d ≤ length t
+  pub there : drop d t ≡ l
+
+abbrev pub LevelReady : (List ℕ → List ℕ) → List ℕ → ℕ → Type 0
+LevelReady F t d = (l : List ℕ) × Stacked t d l × (length (F l) ≤ length t)
+
+abbrev pub Levels : (List ℕ → List ℕ) → List ℕ → ℕ → List ℕ → ℕ → Type 0
+Levels F t d t′ d′ = (l : List ℕ) → Stacked t d l → length (F l) ≤ length t → Stacked t′ d′ (F l)
+
+-- the text is in the form, with so many nodes, configurations and events, and a table of that length holds it
+pub record Measured (text : List ℕ) (n m v room : ℕ) (p : Program) : Type 0 where
+  pub says : Says (whole p) text
+  pub n-is : n ≡ size p
+  pub m-is : m ≡ tests p
+  pub v-is : v ≡ named p
+  pub long : room ≡ needed p
+  pub small : needed p ≤ 32778
+
+abbrev pub Buildable : List ℕ → ℕ → ℕ → ℕ → ℕ → Type 0
+Buildable text n m v room = (p : Program) × Measured text n m v room p
+
+abbrev pub Builds : List ℕ → ℕ → ℕ → ℕ → ℕ → List ℕ → Type 0
+Builds text n m v room table = (p : Program) → Measured text n m v room p → table ≡ tableOf p

@@ -1,0 +1,469 @@
+// The table of a text that is in the form: one loop from the last byte to the first, so that a record's parts are placed before it
+// and its size is read off theirs. Kind 255 marks a node that is not known to be a Seq or a Par yet.
+ghost use mathlib.Core.Path.{_≡_};
+ghost use Prim.Native.Nat.{_+_, _*_, _%_, _<_, _≤_};
+ghost use lib.ListN.{length, set, drop};
+ghost use lib.Seq.{sets};
+ghost use lib.Dec.{eqb};
+ghost use mathlib.Core.Bool.{cond, _||_};
+ghost use mathlib.Core.List.{_++_};
+ghost use Rattle.table.specs.Records.{byte, word};
+ghost use Rattle.form.specs.Made.{big};
+ghost use Rattle.builder.specs.Building.{nodeBytes, testBytes, withNode, withTest, number, joinedSize};
+ghost use Rattle.builder.specs.Building.{joint, pair, negation, event, opening, labelled, row, choice, await, ownSize, single};
+ghost use Rattle.builder.specs.Building.{kindOf, inside, form, name, comma, place as placing, relevel as leveling};
+ghost use Rattle.builder.specs.Building.{Ready, Places, LevelReady, Levels, Buildable, Builds};
+use form::is_digit;
+use table::records::wide;
+
+// The first bytes of the nodes and of the configurations that are placed, the bytes where they end, and how many configurations are
+// still to be placed.
+pub struct Front {
+    pub node: usize,
+    pub middle: usize,
+    pub part: usize,
+    pub end: usize,
+    pub left: usize,
+}
+
+// Builds the table of a text in the form that has n nodes, m configurations and v events.
+pub fn build(text: &[u8], n: usize, m: usize, v: usize, table: &mut [u8])
+    requires { ⌜ Buildable (now text) n m v (length (now table)) ⌝ }
+    ensures { λ r. ⌜ Builds (now (text .entry)) n m v (length (now (table .entry))) (now (table .exit)) ⌝ }
+{
+    let mut levels = [0u8; 8192];
+    let mut depth = 8192;
+    let mut front = Front {
+        node: 6 * n,
+        middle: 6 * n,
+        part: 6 * n + 4 * m,
+        end: 6 * n + 4 * m,
+        left: m,
+    };
+    let mut i = text.len();
+    while i > 0 {
+        let rest = i;
+        i -= 1;
+        let b = text[i];
+        let level = byte_at(&levels, depth);
+        front = place(b, level, &text[rest..], table, front);
+        let next = byte_at(text, rest);
+        depth = relevel(b, next, &mut levels, depth);
+    }
+    put_trailer(table, 6 * n + 4 * m, n, m, v);
+}
+
+// Byte i, or 0 behind the end.
+fn byte_at(s: &[u8], i: usize) -> u8
+    ensures { λ r. ⌜ r ≡ byte (now (s .entry)) i ⌝ }
+{
+    if i < s.len() {
+        return s[i];
+    }
+    0
+}
+
+// Byte i becomes b, if there is one.
+fn store(s: &mut [u8], i: usize, b: u8)
+    ensures { λ r. ⌜ now (s .exit) ≡ set (now (s .entry)) i b ⌝ }
+{
+    if i < s.len() {
+        s[i] = b;
+    }
+}
+
+// The number whose digits begin at byte i; 0 if none do.
+fn number_at(text: &[u8], i: usize) -> usize
+    ensures { λ r. ⌜ r ≡ number 0 (drop i (now (text .entry))) ⌝ }
+{
+    let mut at = i;
+    let mut v = 0;
+    while at < text.len() {
+        let b = text[at];
+        if is_digit(b) {
+            v = (10 * v + (wide(b) - 48)) % 65536;
+            at += 1;
+        } else {
+            return v;
+        }
+    }
+    v
+}
+
+// The kind by the first and the third letter of its name.
+fn kind_of(first: u8, third: u8) -> u8
+    ensures { λ r. ⌜ (r ≡ kindOf first third) × (r < 13) ⌝ }
+{
+    match first {
+        b'N' => 0,
+        b'S' => {
+            if third == b'o' {
+                return 1;
+            }
+            3
+        }
+        b'A' => {
+            if third == b'o' {
+                return 2;
+            }
+            8
+        }
+        b'P' => 4,
+        b'L' => {
+            if third == b'o' {
+                return 5;
+            }
+            12
+        }
+        b'R' => 6,
+        b'G' => 7,
+        b'W' => 9,
+        b'U' => 10,
+        _ => 11,
+    }
+}
+
+// By kind.
+const INSIDE: [usize; 13] = [10, 7, 7, 6, 6, 7, 9, 11, 8, 7, 8, 10, 8];
+
+// How far behind the `J` of a name the text inside its bracket begins.
+fn inside_of(kind: u8) -> usize
+    requires { ⌜ kind < 13 ⌝ }
+    ensures { λ r. ⌜ r ≡ inside kind ⌝ }
+{
+    let k = wide(kind);
+    INSIDE[k]
+}
+
+// The number of 16 bits at byte i; bytes behind the end are 0.
+fn word_in(s: &[u8], i: usize) -> usize
+    requires { ⌜ i < 1000000 ⌝ }
+    ensures { λ r. ⌜ (r ≡ word (now (s .entry)) i) × (r < 65536) ⌝ }
+{
+    wide(byte_at(s, i)) * 256 + wide(byte_at(s, i + 1))
+}
+
+// The size of a record in front of two others, by the sizes written in them.
+fn joined_size(records: &[u8], long: usize, at: usize) -> usize
+    requires { ⌜ long ≤ 6 ⌝ }
+    requires { ⌜ at ≤ 4 ⌝ }
+    ensures { λ r. ⌜ r ≡ joinedSize long at (now (records .entry)) ⌝ }
+{
+    let first = word_in(records, at);
+    1 + first + word_in(records, long * first + at)
+}
+
+// A Loop, a Repeat, a Control or a Local.
+fn has_part(kind: u8) -> bool
+    ensures { λ r. ⌜ r ≡ (eqb kind 5 || (eqb kind 6 || (eqb kind 11 || eqb kind 12))) ⌝ }
+{
+    kind == 5 || (kind == 6 || (kind == 11 || kind == 12))
+}
+
+// The size of a node without parts or with one in front.
+fn own_size(nodes: &[u8], kind: u8) -> usize
+    ensures { λ r. ⌜ r ≡ ownSize kind (now (nodes .entry)) ⌝ }
+{
+    if has_part(kind) {
+        return 1 + word_in(nodes, 4);
+    }
+    1
+}
+
+// The low 16 bits of x at byte i.
+fn put_word(s: &mut [u8], i: usize, x: usize)
+    requires { ⌜ i + 1 < length (now s) ⌝ }
+    ensures { λ r. ⌜ now (s .exit) ≡ sets (now (s .entry)) i (big (x % 65536)) ⌝ }
+{
+    let low = x % 65536;
+    s[i] = (low / 256) as u8;
+    s[i + 1] = (low % 256) as u8;
+}
+
+// A node's record.
+fn put_node(table: &mut [u8], at: usize, kind: u8, argument: usize, size: usize)
+    requires { ⌜ at + 5 < length (now table) ⌝ }
+    ensures { λ r. ⌜ now (table .exit) ≡ sets (now (table .entry)) at (nodeBytes kind argument size) ⌝ }
+{
+    table[at] = kind;
+    table[at + 1] = 0;
+    put_word(table, at + 2, argument);
+    put_word(table, at + 4, size);
+}
+
+// A configuration's record.
+fn put_test(table: &mut [u8], at: usize, kind: u8, s: usize, size: usize)
+    requires { ⌜ at + 3 < length (now table) ⌝ }
+    ensures { λ r. ⌜ now (table .exit) ≡ sets (now (table .entry)) at (testBytes kind s size) ⌝ }
+{
+    table[at] = kind;
+    table[at + 1] = (s % 256) as u8;
+    put_word(table, at + 2, size);
+}
+
+// The trailer: N, M, V and the distances.
+fn put_trailer(table: &mut [u8], at: usize, n: usize, m: usize, v: usize)
+    requires { ⌜ at + 9 < length (now table) ⌝ }
+    requires { ⌜ 6 * n + 4 * m < 65536 ⌝ }
+    ensures { λ r. ⌜ now (table .exit) ≡ sets (now (table .entry)) at (big (n % 65536) ++ (big (m % 65536) ++ (big (v % 65536) ++ (big ((6 * n + 4 * m) % 65536) ++ big (4 * m % 65536))))) ⌝ }
+{
+    put_word(table, at, n);
+    put_word(table, at + 2, m);
+    put_word(table, at + 4, v);
+    put_word(table, at + 6, 6 * n + 4 * m);
+    put_word(table, at + 8, 4 * m);
+}
+
+// The first node, and those that follow it as second children, get their kind, as long as they have none.
+fn spread(nodes: &mut [u8], kind: u8)
+    requires { ⌜ length (now nodes) ≤ 32778 ⌝ }
+    ensures { λ r. ⌜ now (nodes .exit) ≡ labelled kind (now (nodes .entry)) ⌝ }
+{
+    let mut at = 0;
+    while at < nodes.len() {
+        if nodes[at] == 255 {
+            let first = word_in(nodes, at + 10);
+            nodes[at] = kind;
+            at = at + 6 + 6 * first;
+        } else {
+            return;
+        }
+    }
+}
+
+// The same for a When or an Until, and the first node's argument.
+fn label(nodes: &mut [u8], kind: u8, argument: usize)
+    requires { ⌜ length (now nodes) ≤ 32778 ⌝ }
+    ensures { λ r. ⌜ now (nodes .exit) ≡ sets (labelled kind (now (nodes .entry))) 2 (big (argument % 65536)) ⌝ }
+{
+    spread(nodes, kind);
+    let low = argument % 65536;
+    store(nodes, 2, (low / 256) as u8);
+    store(nodes, 3, (low % 256) as u8);
+}
+
+// A node in front of those that are placed.
+fn place_node(table: &mut [u8], kind: u8, argument: usize, size: usize, front: Front) -> Front
+    requires { ⌜ Ready (withNode kind argument size) (now table) front ⌝ }
+    ensures { λ r. ⌜ Places (withNode kind argument size) (now (table .entry)) front (now (table .exit)) r ⌝ }
+{
+    let at = front.node - 6;
+    put_node(table, at, kind, argument, size);
+    let mut next = front;
+    next.node = at;
+    next
+}
+
+// A configuration in front of those that are placed.
+fn place_test(table: &mut [u8], kind: u8, e: usize, size: usize, front: Front) -> Front
+    requires { ⌜ Ready (withTest kind e size) (now table) front ⌝ }
+    ensures { λ r. ⌜ Places (withTest kind e size) (now (table .entry)) front (now (table .exit)) r ⌝ }
+{
+    let at = front.part - 4;
+    put_test(table, at, kind, e, size);
+    let mut next = front;
+    next.part = at;
+    next.left = front.left - 1;
+    next
+}
+
+// An event, if its number begins at byte i.
+fn place_event(text: &[u8], i: usize, table: &mut [u8], front: Front) -> Front
+    requires { ⌜ Ready (event (drop i (now text))) (now table) front ⌝ }
+    ensures { λ r. ⌜ Places (event (drop i (now (text .entry)))) (now (table .entry)) front (now (table .exit)) r ⌝ }
+{
+    if is_digit(byte_at(text, i)) {
+        let e = number_at(text, i);
+        return place_test(table, 0, e, 1, front);
+    }
+    front
+}
+
+// A node over the two in front.
+fn place_joint(table: &mut [u8], front: Front) -> Front
+    requires { ⌜ Ready joint (now table) front ⌝ }
+    ensures { λ r. ⌜ Places joint (now (table .entry)) front (now (table .exit)) r ⌝ }
+{
+    let node = front.node;
+    let middle = front.middle;
+    let size = joined_size(&table[node..middle], 6, 4);
+    place_node(table, 255, 0, size, front)
+}
+
+// An `and` or an `or` over the two in front.
+fn place_pair(kind: u8, table: &mut [u8], front: Front) -> Front
+    requires { ⌜ Ready (pair kind) (now table) front ⌝ }
+    ensures { λ r. ⌜ Places (pair kind) (now (table .entry)) front (now (table .exit)) r ⌝ }
+{
+    let part = front.part;
+    let end = front.end;
+    let size = joined_size(&table[part..end], 4, 2);
+    place_test(table, kind, 0, size, front)
+}
+
+// A `not` over the one in front.
+fn place_not(table: &mut [u8], front: Front) -> Front
+    requires { ⌜ Ready negation (now table) front ⌝ }
+    ensures { λ r. ⌜ Places negation (now (table .entry)) front (now (table .exit)) r ⌝ }
+{
+    let part = front.part;
+    let end = front.end;
+    let size = 1 + word_in(&table[part..end], 2);
+    place_test(table, 1, 0, size, front)
+}
+
+// `(` before this text.
+fn place_opening(level: u8, text: &[u8], table: &mut [u8], front: Front) -> Front
+    requires { ⌜ Ready (opening level (now text)) (now table) front ⌝ }
+    ensures { λ r. ⌜ Places (opening level (now (text .entry))) (now (table .entry)) front (now (table .exit)) r ⌝ }
+{
+    if 1 < level {
+        let next = place_event(text, 0, table, front);
+        return place_pair(level, table, next);
+    }
+    if byte_at(text, 0) == b'n' {
+        return place_not(table, front);
+    }
+    front
+}
+
+// A Seq or a Par.
+fn place_row(kind: u8, table: &mut [u8], front: Front) -> Front
+    requires { ⌜ Ready (row kind) (now table) front ⌝ }
+    ensures { λ r. ⌜ Places (row kind) (now (table .entry)) front (now (table .exit)) r ⌝ }
+{
+    let next = place_joint(table, front);
+    let node = next.node;
+    let middle = next.middle;
+    spread(&mut table[node..middle], kind);
+    next
+}
+
+// A When or an Until whose node is in front, its test beginning at byte i.
+fn place_choice(kind: u8, text: &[u8], i: usize, table: &mut [u8], front: Front) -> Front
+    requires { ⌜ Ready (choice kind (drop i (now text))) (now table) front ⌝ }
+    ensures { λ r. ⌜ Places (choice kind (drop i (now (text .entry)))) (now (table .entry)) front (now (table .exit)) r ⌝ }
+{
+    let next = place_event(text, i, table, front);
+    let node = next.node;
+    let middle = next.middle;
+    label(&mut table[node..middle], kind, next.left);
+    next
+}
+
+// An Await, its test beginning at byte i.
+fn place_await(text: &[u8], i: usize, table: &mut [u8], front: Front) -> Front
+    requires { ⌜ Ready (await (drop i (now text))) (now table) front ⌝ }
+    ensures { λ r. ⌜ Places (await (drop i (now (text .entry)))) (now (table .entry)) front (now (table .exit)) r ⌝ }
+{
+    let next = place_event(text, i, table, front);
+    place_node(table, 8, next.left, 1, next)
+}
+
+// Any other form; its number begins at byte i if it has one.
+fn place_single(kind: u8, text: &[u8], i: usize, table: &mut [u8], front: Front) -> Front
+    requires { ⌜ Ready (single kind (drop i (now text))) (now table) front ⌝ }
+    ensures { λ r. ⌜ Places (single kind (drop i (now (text .entry)))) (now (table .entry)) front (now (table .exit)) r ⌝ }
+{
+    let node = front.node;
+    let middle = front.middle;
+    let size = own_size(&table[node..middle], kind);
+    let argument = number_at(text, i);
+    place_node(table, kind, argument, size, front)
+}
+
+// The form of this kind, the text inside its bracket beginning at byte i.
+fn place_form(kind: u8, text: &[u8], i: usize, table: &mut [u8], front: Front) -> Front
+    requires { ⌜ Ready (form kind (drop i (now text))) (now table) front ⌝ }
+    ensures { λ r. ⌜ Places (form kind (drop i (now (text .entry)))) (now (table .entry)) front (now (table .exit)) r ⌝ }
+{
+    match kind {
+        3 => place_row(3, table, front),
+        4 => place_row(4, table, front),
+        8 => place_await(text, i, table, front),
+        9 => place_choice(9, text, i, table, front),
+        10 => place_choice(10, text, i, table, front),
+        _ => place_single(kind, text, i, table, front),
+    }
+}
+
+// `J` before this text.
+fn place_name(text: &[u8], table: &mut [u8], front: Front) -> Front
+    requires { ⌜ Ready (name (now text)) (now table) front ⌝ }
+    ensures { λ r. ⌜ Places (name (now (text .entry))) (now (table .entry)) front (now (table .exit)) r ⌝ }
+{
+    let kind = kind_of(byte_at(text, 2), byte_at(text, 4));
+    let i = inside_of(kind);
+    place_form(kind, text, i, table, front)
+}
+
+// `,` at this level.
+fn place_comma(level: u8, table: &mut [u8], front: Front) -> Front
+    requires { ⌜ Ready (comma level) (now table) front ⌝ }
+    ensures { λ r. ⌜ Places (comma level) (now (table .entry)) front (now (table .exit)) r ⌝ }
+{
+    if level == 1 {
+        return place_joint(table, front);
+    }
+    front
+}
+
+// What byte b places at this level, before this text.
+fn place(b: u8, level: u8, text: &[u8], table: &mut [u8], front: Front) -> Front
+    requires { ⌜ Ready (placing b level (now text)) (now table) front ⌝ }
+    ensures { λ r. ⌜ Places (placing b level (now (text .entry))) (now (table .entry)) front (now (table .exit)) r ⌝ }
+{
+    match b {
+        b' ' => place_event(text, 0, table, front),
+        b'(' => place_opening(level, text, table, front),
+        b',' => place_comma(level, table, front),
+        b'J' => place_name(text, table, front),
+        _ => front,
+    }
+}
+
+// A blank before `and` or `or`.
+fn name_level(c: u8, levels: &mut [u8], depth: usize)
+    ensures { λ r. ⌜ now (levels .exit) ≡ cond (eqb c 97) (set (now (levels .entry)) depth 2) (cond (eqb c 111) (set (now (levels .entry)) depth 3) (now (levels .entry))) ⌝ }
+{
+    match c {
+        b'a' => store(levels, depth, 2),
+        b'o' => store(levels, depth, 3),
+        _ => {}
+    }
+}
+
+// The level around that in front.
+fn outer(levels: &[u8], depth: usize) -> usize
+    requires { ⌜ depth ≤ length (now levels) ⌝ }
+    ensures { λ r. ⌜ (r ≤ length (now (levels .entry))) × (drop r (now (levels .entry)) ≡ drop 1 (drop depth (now (levels .entry)))) ⌝ }
+{
+    if depth < levels.len() {
+        return depth + 1;
+    }
+    depth
+}
+
+// The levels before byte b, which c follows.
+fn relevel(b: u8, c: u8, levels: &mut [u8], depth: usize) -> usize
+    requires { ⌜ LevelReady (leveling b c) (now levels) depth ⌝ }
+    ensures { λ r. ⌜ Levels (leveling b c) (now (levels .entry)) depth (now (levels .exit)) r ⌝ }
+{
+    match b {
+        b' ' => {
+            name_level(c, levels, depth);
+            depth
+        }
+        b'(' => outer(levels, depth),
+        b')' => {
+            let inner = depth - 1;
+            levels[inner] = 0;
+            inner
+        }
+        b',' => {
+            store(levels, depth, 1);
+            depth
+        }
+        _ => depth,
+    }
+}

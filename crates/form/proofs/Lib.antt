@@ -1,0 +1,26 @@
+-- The laws, in the order in which they lean on one another.
+pub mod Digits
+pub mod Steps
+pub mod Accepts
+pub mod Completes
+pub mod Meaning
+pub mod Sound
+pub mod FailsHere
+pub mod Making
+pub mod OneReading
+pub mod Spelled
+pub mod SaysInForm
+pub mod MadeNamed
+pub mod Counted
+pub mod Standing
+pub mod MadeLength
+pub mod Places
+pub mod MadeBytes
+pub mod Spans
+pub mod MadeRecords
+pub mod MadeSpells
+pub mod MadeGood
+pub mod MadeTests
+pub mod MadeHeights
+pub mod AcceptedForm
+pub mod RoundTrip

@@ -1,0 +1,236 @@
+-- The configurations of the table that is made from a program have height at most 16 exactly if all its tests do.
+use Prim.Native.Nat.{ℕ, zero, suc, _+_, _≤_, _<_, max}
+use mathlib.Core.Bool.{Bool, true, false, _&&_}
+use mathlib.Core.Path.{_≡_, refl, sym, ap, _∙_}
+use mathlib.Core.List.{List, _++_}
+use native.Mathlib.Omega.{arith}
+use lib.Dec.{leb}
+use borrow.Author.Tests.{le-leb, lt-leb, leb-true, leb-false}
+use Rattle.junior.specs.Configuration.{Config, Event, Not, And, Or}
+use Rattle.junior.specs.Program.{Program, Nothing, Stop, Atom, Seq, Par, Loop, Repeat, Generate, Await, When, Until}
+use Rattle.junior.specs.Program.{Control, Local}
+use Rattle.table.specs.Records.{configurationAt}
+use Rattle.table.specs.Good.{parts, goodButHeight, heightAtMost, goodConfiguration}
+use Rattle.table.specs.Spells.{weight}
+use Rattle.table.proofs.ByParts.{some-record}
+use Rattle.table.proofs.Heights.{height-good}
+use Rattle.table.proofs.Laid.{both as both-true}
+use Rattle.form.specs.Made.{tests, testRecords, testsOf, tableOf}
+use Rattle.form.proofs.Places.{Has}
+use Rattle.form.proofs.Spans.{All, both, own-and, own-and-both, first-of, second-of, behind-own, first-behind}
+use Rattle.form.proofs.Spans.{second-behind}
+use Rattle.form.proofs.Spans
+use Rattle.form.proofs.MadeRecords.{test-there, test-behind, BothTests, both-tests, tested-there}
+use Rattle.form.proofs.MadeRecords.{behind-tested}
+use Rattle.form.proofs.MadeSpells.{made-stands}
+use Rattle.form.proofs.MadeTests.{size-there, GoodTest, first-tests, second-tests, all-tests-good}
+use Rattle.form.proofs.MadeTests.{made-tests-good}
+
+-- how many levels a configuration has
+unfoldable pub tall : Config → ℕ
+tall (Event s) = 1
+tall (Not c) = 1 + tall c
+tall (And c d) = 1 + max (tall c) (tall d)
+tall (Or c d) = 1 + max (tall c) (tall d)
+
+-- all tests of a program have height at most 16
+unfoldable pub LowTests : Program → Type 0
+LowTests Nothing = Unit {0}
+LowTests Stop = Unit {0}
+LowTests (Atom a) = Unit {0}
+LowTests (Seq p q) = LowTests p × LowTests q
+LowTests (Par p q) = LowTests p × LowTests q
+LowTests (Loop p) = LowTests p
+LowTests (Repeat n p) = LowTests p
+LowTests (Generate s) = Unit {0}
+LowTests (Await c) = tall c ≤ 16
+LowTests (When c p q) = (tall c ≤ 16) × (LowTests p × LowTests q)
+LowTests (Until c p q) = (tall c ≤ 16) × (LowTests p × LowTests q)
+LowTests (Control s p) = LowTests p
+LowTests (Local s p) = LowTests p
+
+tall-least : (c : Config) → 1 ≤ tall c
+unfolding tall
+tall-least (Event s) = omega arith
+tall-least (Not c) = omega arith
+tall-least (And c d) = omega arith
+tall-least (Or c d) = omega arith
+
+one-more : (m h : ℕ) → leb m h ≡ leb (1 + m) (suc h)
+one-more m h = go (leb m h) refl
+  where
+    go : (b : Bool) → leb m h ≡ b → b ≡ leb (1 + m) (suc h)
+    go true e = let l = leb-true m h e in sym (le-leb (1 + m) (suc h) (omega arith))
+    go false e = let l = leb-false m h e in sym (lt-leb (1 + m) (suc h) (omega arith))
+
+one-more-than-both : (m n h : ℕ) → (leb m h && leb n h) ≡ leb (1 + max m n) (suc h)
+one-more-than-both m n h = go (leb m h) refl (leb n h) refl
+  where
+    go : (a : Bool) → leb m h ≡ a → (b : Bool) → leb n h ≡ b → (a && b) ≡ leb (1 + max m n) (suc h)
+    go true e true f =
+        let l = leb-true m h e in
+        let k = leb-true n h f in
+        sym (le-leb (1 + max m n) (suc h) (omega arith))
+    go true e false f = let k = leb-false n h f in sym (lt-leb (1 + max m n) (suc h) (omega arith))
+    go false e b f = let l = leb-false m h e in sym (lt-leb (1 + max m n) (suc h) (omega arith))
+
+module _ (t : List ℕ) where
+  abbrev Low : ℕ → ℕ → Type 0
+  Low h j = heightAtMost t h j ≡ true
+
+  -- d stands at configuration j, and its records are good
+  record There (d : Config) (j : ℕ) : Type 0 where
+    records : Has t (configurationAt t j) (testRecords d)
+    good : All (GoodTest t) j (weight d)
+
+  own-good : {d : Config} {j : ℕ} → There d j → GoodTest t j
+  own-good {d} {j} x = x .good j (omega arith) (omega (arith, some-record d))
+
+  -- the parts of a not, and of an and or an or
+  part-there : {d : Config} {j : ℕ} → There (Not d) j → There d (j + 1)
+  unfolding testRecords weight
+  part-there {d} {j} x =
+      record {
+        records = test-behind 1 0 (1 + weight d) (omega arith) (x .records);
+        good = behind-own (GoodTest t) j (weight d) (x .good);
+      }
+
+  record Parts (j k : ℕ) (d e : Config) : Type 0 where
+    own : BothTests t j k d e
+    first : There d (j + 1)
+    second : There e (j + 1 + weight d)
+
+  parts-there : {j k : ℕ} {d e : Config} → BothTests t j k d e → All (GoodTest t) j (1 + weight d + weight e) → Parts j k d e
+  parts-there {j} {k} {d} {e} o g =
+      record {
+        own = o;
+        first = record { records = o .first; good = first-behind (GoodTest t) j (weight d) (weight e) g };
+        second = record { records = o .second; good = second-behind (GoodTest t) j (weight d) (weight e) g };
+      }
+
+  and-there : {d e : Config} {j : ℕ} → There (And d e) j → Parts j 2 d e
+  unfolding testRecords weight
+  and-there {d} {e} {j} x = parts-there (both-tests j 2 d e (x .records)) (x .good)
+
+  or-there : {d e : Config} {j : ℕ} → There (Or d e) j → Parts j 3 d e
+  unfolding testRecords weight
+  or-there {d} {e} {j} x = parts-there (both-tests j 3 d e (x .records)) (x .good)
+
+  abbrev HeightWhere : ℕ → Config → Type 0
+  HeightWhere h d = (j : ℕ) → There d j → heightAtMost t h j ≡ leb (tall d) h
+
+  height-both : (h : ℕ) {j k : ℕ} {d e : Config} → Parts j k d e → parts k ≡ 2 → GoodTest t j → HeightWhere h d → HeightWhere h e
+      → heightAtMost t (suc h) j ≡ leb (1 + max (tall d) (tall e)) (suc h)
+  height-both h {j} {d = d} {e = e} o p g first second =
+      let s = size-there t (j + 1) d (o .first .records) in
+      height-good t h j 2 g (ap parts (o .own .own .kind-is) ∙ p)
+      ∙ rw (s, first _ (o .first), second _ (o .second)) (one-more-than-both (tall d) (tall e) h)
+
+  height-is : (h : ℕ) (d : Config) → HeightWhere h d
+  unfolding testRecords tall parts heightAtMost
+  height-is zero d j x = sym (lt-leb (tall d) 0 (tall-least d))
+  height-is (suc h) (Event s) j x =
+      let o = test-there 0 s 1 (x .records) in
+      height-good t h j 0 (own-good x) (ap parts (o .kind-is)) ∙ sym (le-leb 1 (suc h) (omega arith))
+  height-is (suc h) (Not d) j x =
+      let o = test-there 1 0 (1 + weight d) (x .records) in
+      height-good t h j 1 (own-good x) (ap parts (o .kind-is)) ∙ (height-is h d (j + 1) (part-there x) ∙ one-more (tall d) h)
+  height-is (suc h) (And d e) j x = height-both h (and-there x) refl (own-good x) (height-is h d) (height-is h e)
+  height-is (suc h) (Or d e) j x = height-both h (or-there x) refl (own-good x) (height-is h d) (height-is h e)
+
+  -- all records of a configuration are as low as it is
+  abbrev LowWhere : ℕ → Config → Type 0
+  LowWhere h d = (j : ℕ) → There d j → tall d ≤ h → All (Low h) j (weight d)
+
+  own-low : {h : ℕ} {d : Config} {j : ℕ} → There d j → tall d ≤ h → Low h j
+  own-low {h} {d} {j} x l = height-is h d j x ∙ le-leb (tall d) h l
+
+  all-low : (h : ℕ) (d : Config) → LowWhere h d
+  unfolding weight tall
+  all-low h (Event s) j x l = own-and (Low h) j 0 (own-low x l) (Spans.none (Low h) (j + 1))
+  all-low h (Not d) j x l = own-and (Low h) j (weight d) (own-low x l) (all-low h d (j + 1) (part-there x) (omega arith))
+  all-low h (And d e) j x l =
+      let o = and-there x in
+      let f = all-low h d (j + 1) (o .first) (omega arith) in
+      let g = all-low h e (j + 1 + weight d) (o .second) (omega arith) in
+      own-and-both (Low h) j (weight d) (weight e) (own-low x l) f g
+  all-low h (Or d e) j x l =
+      let o = or-there x in
+      let f = all-low h d (j + 1) (o .first) (omega arith) in
+      let g = all-low h e (j + 1 + weight d) (o .second) (omega arith) in
+      own-and-both (Low h) j (weight d) (weight e) (own-low x l) f g
+
+  -- n configurations from j on have height at most 16 exactly if A
+  record Exactly (j n : ℕ) (A : Type 0) : Type 0 where
+    only : All (Low 16) j n → A
+    enough : A → All (Low 16) j n
+
+  none-exactly : (j : ℕ) → Exactly j 0 (Unit {0})
+  none-exactly j = record { only = λ f. tt; enough = λ a. Spans.none (Low 16) j }
+
+  both-exactly : (j m n : ℕ) {A B : Type 0} → Exactly j m A → Exactly (j + m) n B → Exactly j (m + n) (A × B)
+  both-exactly j m n x y =
+      record {
+        only = λ f. (x .only (first-of (Low 16) j m n f), y .only (second-of (Low 16) j m n f));
+        enough = λ a. both (Low 16) j m n (x .enough (a .0)) (y .enough (a .1));
+      }
+
+  test-exactly : (c : Config) (j : ℕ) → There c j → Exactly j (weight c) (tall c ≤ 16)
+  test-exactly c j x =
+      record {
+        only = λ f. leb-true (tall c) 16 (sym (height-is 16 c j x) ∙ f j (omega arith) (omega (arith, some-record c)));
+        enough = λ l. all-low 16 c j x l;
+      }
+
+  abbrev ExactlyWhere : Program → Type 0
+  ExactlyWhere p =
+      (j : ℕ) → Has t (configurationAt t j) (testsOf p) → All (GoodTest t) j (tests p) → Exactly j (tests p) (LowTests p)
+
+  parts-exactly : (p q : Program) → ExactlyWhere p → ExactlyWhere q → (j : ℕ) → Has t (configurationAt t j) (testsOf p ++ testsOf q)
+      → All (GoodTest t) j (tests p + tests q) → Exactly j (tests p + tests q) (LowTests p × LowTests q)
+  parts-exactly p q first second j w g =
+      let x = first j (first-tests t j p q w) (first-of (GoodTest t) j (tests p) (tests q) g) in
+      let y = second (j + tests p) (second-tests t j p q w) (second-of (GoodTest t) j (tests p) (tests q) g) in
+      both-exactly j (tests p) (tests q) x y
+
+  test-and-parts : (c : Config) (p q : Program) → ExactlyWhere p → ExactlyWhere q → (j : ℕ)
+      → Has t (configurationAt t j) (testRecords c ++ (testsOf p ++ testsOf q)) → All (GoodTest t) j (weight c + (tests p + tests q))
+      → Exactly j (weight c + (tests p + tests q)) ((tall c ≤ 16) × (LowTests p × LowTests q))
+  test-and-parts c p q first second j w g =
+      let later = testsOf p ++ testsOf q in
+      let x : There c j = record {
+        records = tested-there j c later w;
+        good = first-of (GoodTest t) j (weight c) (tests p + tests q) g;
+      } in
+      let y =
+      parts-exactly p q first second (j + weight c) (behind-tested j c later w) (second-of (GoodTest t) j (weight c) (tests p + tests q) g) in
+      both-exactly j (weight c) (tests p + tests q) (test-exactly c j x) y
+
+  low-exactly : (p : Program) → ExactlyWhere p
+  unfolding testsOf tests LowTests
+  low-exactly Nothing j w g = none-exactly j
+  low-exactly Stop j w g = none-exactly j
+  low-exactly (Atom a) j w g = none-exactly j
+  low-exactly (Seq p q) j w g = parts-exactly p q (low-exactly p) (low-exactly q) j w g
+  low-exactly (Par p q) j w g = parts-exactly p q (low-exactly p) (low-exactly q) j w g
+  low-exactly (Loop p) j w g = low-exactly p j w g
+  low-exactly (Repeat n p) j w g = low-exactly p j w g
+  low-exactly (Generate s) j w g = none-exactly j
+  low-exactly (Await c) j w g = test-exactly c j (record { records = w; good = g })
+  low-exactly (When c p q) j w g = test-and-parts c p q (low-exactly p) (low-exactly q) j w g
+  low-exactly (Until c p q) j w g = test-and-parts c p q (low-exactly p) (low-exactly q) j w g
+  low-exactly (Control s p) j w g = low-exactly p j w g
+  low-exactly (Local s p) j w g = low-exactly p j w g
+
+made-exactly : (p : Program) → Exactly (tableOf p) 0 (tests p) (LowTests p)
+made-exactly p = low-exactly (tableOf p) p 0 (made-stands p .tests-there) (all-tests-good p)
+
+-- all configurations of the table are good exactly if all tests are low
+pub made-good : (p : Program) → LowTests p → (j : ℕ) → j < tests p → goodConfiguration (tableOf p) j ≡ true
+unfolding goodConfiguration
+made-good p a j l = rw (made-tests-good p j l, made-exactly p .enough a j (omega arith) (omega arith))
+
+pub made-low : (p : Program) → ((j : ℕ) → j < tests p → goodConfiguration (tableOf p) j ≡ true) → LowTests p
+unfolding goodConfiguration
+made-low p g =
+    made-exactly p .only (λ j h l. both-true {a = goodButHeight (tableOf p) j} (g j (omega arith)) .1)

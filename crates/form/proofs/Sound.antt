@@ -1,0 +1,267 @@
+-- What the reading machine accepts has a reading.
+use Prim.Native.Nat.{ℕ, _+_, _-_, _/_, _%_, _≤_, _<_}
+use mathlib.Core.Bool.{Bool, true, false, _&&_}
+use mathlib.Core.Path.{_≡_, refl, ap, sym, subst, _∙_}
+use mathlib.Core.List.{List, [], _∷_, _++_, append-assoc, append-nil}
+use native.Mathlib.Omega.{arith}
+use lib.Dec.{leb}
+use borrow.Author.Tests.{eqb-true, leb-true}
+use Rattle.letters.specs.Decimal.{decimal}
+use Rattle.letters.specs.Text.{bytes}
+use Rattle.letters.proofs.Decimal.{decimal-digit, decimal-more}
+use Rattle.junior.specs.Configuration.{Config, Event, Not, And, Or}
+use Rattle.junior.specs.Program.{Program, Nothing, Stop, Atom, Seq, Par, Loop, Repeat, Generate, Await, When, Until}
+use Rattle.junior.specs.Program.{Control, Local}
+use Rattle.table.proofs.Laid.{both}
+use Rattle.form.specs.Form.{SaysTest, says-event, says-not, says-and, says-or, whole, later-seq, later-par}
+use Rattle.form.specs.Form.{Says, says-nothing, says-stop, says-atom, says-seq, last-of-seq, more-of-seq}
+use Rattle.form.specs.Form.{says-par, last-of-par, more-of-par, says-loop, says-repeat, says-generate}
+use Rattle.form.specs.Form.{says-await, says-when, says-until, says-control, says-local}
+use Rattle.form.specs.Inside.Machine.{End, close, comma, space, endByte, Number, event, plain, limit, isDigit}
+use Rattle.form.specs.Inside.Machine.{grown, Sym, Stack, byte, prog, name, s-name, a-name, lo-name, parts, conf}
+use Rattle.form.specs.Inside.Machine.{inner, joint, num, tail, several, body, branches, ways, Next, dead, on}
+use Rattle.form.specs.Inside.Machine.{choose, then, run}
+use Rattle.form.proofs.Digits.{digit-is}
+use Rattle.form.proofs.Meaning.{After, Means, Reads, taken}
+
+only : (s : Sym) (u : List ℕ) → Reads (s ∷ []) u → Means s u
+only s u (v, x, e, m, r) = let k : u ≡ v = simp (e, r, append-nil) in subst (Means s) (sym k) m
+
+-- two or more programs
+abbrev Several : List ℕ → Type 0
+Several u =
+    (p : Program) × (v : List ℕ) × (w : List ℕ) × Says (whole p) v × (u ≡ v ++ (bytes ", " ++ w))
+    × ((q : Program) × Says (later-seq q) w) × ((q : Program) × Says (later-par q) w)
+
+is-several : (u : List ℕ) → Reads (several []) u → Several u
+is-several u (v, x, e, (p, d), (u1, v1, e1, m1, (u2, v2, e2, m2, (w, x3, e3, (q, d3), (t, x4, e4, m4, r))))) =
+    (p, v, w ++ t, d, simp (e, e1, m1, e2, m2, e3, e4, r, append-nil), m4 .0 q w d3, m4 .1 q w d3)
+
+-- a number and a program
+abbrev Numbered : Number → List ℕ → Type 0
+Numbered n u =
+    (a : ℕ) × (p : Program) × (v : List ℕ) × (a ≤ limit n) × Says (whole p) v
+    × (u ≡ decimal a ++ (bytes ", " ++ (v ++ bytes ")")))
+
+is-numbered : (n : Number) (u : List ℕ) → Reads (num n comma ∷ body []) u → Numbered n u
+is-numbered n u (t, x, e, (a, l, k), (u1, v1, e1, m1, (v, v2, e2, (p, d), (u3, v3, e3, m3, r)))) =
+    (a, p, v, l, d, simp (e, k, append-assoc, e1, m1, e2, e3, m3, r))
+
+-- one program
+abbrev Closed : List ℕ → Type 0
+Closed u = (p : Program) × (v : List ℕ) × Says (whole p) v × (u ≡ v ++ bytes ")")
+
+is-closed : (u : List ℕ) → Reads (prog ∷ byte 41 ∷ []) u → Closed u
+is-closed u (v, x, e, (p, d), (u1, v1, e1, m1, r)) = (p, v, d, simp (e, e1, m1, r))
+
+-- a configuration and two programs
+abbrev Branched : List ℕ → Type 0
+Branched u =
+    (c : Config) × (p : Program) × (q : Program) × (t : List ℕ) × (v : List ℕ) × (w : List ℕ)
+    × SaysTest c t × Says (whole p) v × Says (whole q) w
+    × (u ≡ t ++ (bytes ", " ++ (v ++ (bytes ", " ++ (w ++ bytes ")")))))
+
+is-branched : (u : List ℕ) → Reads (branches []) u → Branched u
+is-branched u (s, x, e, (c, t, d, k), (u1, v1, e1, m1, (v, v2, e2, (p, d2), (u3, v3, e3, m3, y)))) =
+    let (u4, v4, e4, m4, (w, v5, e5, (q, d5), (u6, v6, e6, m6, r))) = y in
+    (c, p, q, t, v, w, d, d2, d5, simp (e, k, append-assoc, e1, m1, e2, e3, m3, e4, m4, e5, e6, m6, r))
+
+-- each way on gives the goal back
+abbrev Backs : List (Bool × Stack) → List ℕ → Type 0 → Type 0
+Backs [] w R = Unit {0}
+Backs ((t, τ) ∷ l) w R = (t ≡ true → Reads τ w → R) × Backs l w R
+
+pub dead≢on : {τ : Stack} → dead ≡ on τ → ⊥
+dead≢on e = let z : _≡_ {A = ℕ} 0 1 = cc in omega arith
+
+backs : (l : List (Bool × Stack)) (w : List ℕ) (R : Type 0) → Backs l w R
+    → (τ : Stack) → choose l ≡ on τ → Reads τ w → R
+unfolding choose
+backs [] w R k τ e r = absurd (dead≢on e)
+backs ((true, σ) ∷ l) w R k τ e r = let z : τ ≡ σ = cc in k .0 refl (subst (λ ρ. Reads ρ w) z r)
+backs ((false, σ) ∷ l) w R k τ e r = backs l w R (k .1) τ e r
+
+-- a digit is within every limit
+small : (n : Number) (d : ℕ) → d < 10 → d ≤ limit n
+small event d h = omega arith
+small plain d h = omega arith
+
+-- a digit b and the rest of its number are a number
+begun : (n : Number) (e : End) (b : ℕ) (u : List ℕ) → isDigit b ≡ true
+    → Means (tail n (b - 48) e) u → Means (num n e) (b ∷ u)
+begun n e b u t m =
+    let k = digit-is b t in
+    let l = m (small n (b - 48) (omega arith)) in
+    let z : 48 + (b - 48) ≡ b = omega arith in
+    (l .0, l .1, (rw (decimal-digit (b - 48) (omega arith), z) at (l .2)))
+
+-- the same of a configuration
+of-digit : (e : End) (σ : Stack) (b : ℕ) (w : List ℕ) → isDigit b ≡ true
+    → Reads (tail event (b - 48) e ∷ σ) w → Reads (conf e ∷ σ) (b ∷ w)
+of-digit e σ b w t (u, v, k, m, r) =
+    let o = begun event e b u t m in
+    (b ∷ u, v, ap (λ x. b ∷ x) k, (Event (o .0), decimal (o .0), says-event {s = o .0} (omega (arith, o .1)), o .2), r)
+
+-- and of one that is the first part of another
+of-first-digit : (σ : Stack) (b : ℕ) (w : List ℕ) → isDigit b ≡ true
+    → Reads (tail event (b - 48) space ∷ joint ∷ σ) w → Reads (inner ∷ σ) (b ∷ w)
+of-first-digit σ b w t (u, v, k, m, (u1, v1, k1, m1, r)) =
+    let o = begun event space b u t m in
+    let f = m1 (Event (o .0)) (decimal (o .0)) (says-event {s = o .0} (omega (arith, o .1))) in
+    let z : decimal (o .0) ++ (32 ∷ u1) ≡ b ∷ (u ++ u1) =
+    sym (append-assoc (decimal (o .0)) (32 ∷ []) u1) ∙ ap (λ x. x ++ u1) (sym (o .2)) in
+    (b ∷ (u ++ u1), v1, simp (k, k1, append-assoc), (f .0, rw z at (f .1)), r)
+
+-- a number grows by a digit
+grows : (n : Number) (v : ℕ) (e : End) (b : ℕ) (u : List ℕ)
+    → (isDigit b && (leb 1 v && leb (grown v b) (limit n))) ≡ true
+    → Means (tail n (grown v b) e) u
+    → (a : ℕ) × (a ≤ limit n) × (decimal v ++ (b ∷ u) ≡ decimal a ++ (endByte e ∷ []))
+grows n v e b u t m =
+    let k = both {a = isDigit b} t in
+    let j = both {a = leb 1 v} (k .1) in
+    let d = digit-is b (k .0) in
+    let o = m (leb-true (grown v b) (limit n) (j .1)) in
+    let f = leb-true 1 v (j .0) in
+    let rest : grown v b / 10 ≡ v = omega arith in
+    let last : 48 + grown v b % 10 ≡ b = omega arith in
+    let g : decimal (grown v b) ≡ decimal v ++ (b ∷ []) = rw (rest, last) at (decimal-more (grown v b) (omega arith)) in
+    (o .0, o .1, sym (append-assoc (decimal v) (b ∷ []) u) ∙ (ap (λ x. x ++ u) (sym g) ∙ o .2))
+
+-- each form by what stands behind its name
+of-atom : (u : List ℕ) → Means (num plain close) u → After (bytes "Jr.Atom(") u
+of-atom u (a, l, e) = (Atom a, rw e (says-atom l))
+
+of-seq : (u : List ℕ) → Several u → After (bytes "Jr.Seq(") u
+of-seq u (p, v, w, d, e, (q, k), o) = (Seq p q, rw e (says-seq d k))
+
+of-par : (u : List ℕ) → Several u → After (bytes "Jr.Par(") u
+of-par u (p, v, w, d, e, o, (q, k)) = (Par p q, rw e (says-par d k))
+
+of-loop : (u : List ℕ) → Closed u → After (bytes "Jr.Loop(") u
+of-loop u (p, v, d, e) = (Loop p, rw e (says-loop d))
+
+of-repeat : (u : List ℕ) → Numbered plain u → After (bytes "Jr.Repeat(") u
+of-repeat u (a, p, v, l, d, e) = (Repeat a p, rw e (says-repeat l d))
+
+of-generate : (u : List ℕ) → Means (num event close) u → After (bytes "Jr.Generate(") u
+of-generate u (a, l, e) = (Generate a, rw e (says-generate {s = a} (omega arith)))
+
+of-await : (u : List ℕ) → Means (conf close) u → After (bytes "Jr.Await(") u
+of-await u (c, v, d, e) = (Await c, rw e (says-await d))
+
+of-when : (u : List ℕ) → Branched u → After (bytes "Jr.When(") u
+of-when u (c, p, q, t, v, w, d, d1, d2, e) = (When c p q, rw e (says-when d d1 d2))
+
+of-until : (u : List ℕ) → Branched u → After (bytes "Jr.Until(") u
+of-until u (c, p, q, t, v, w, d, d1, d2, e) = (Until c p q, rw e (says-until d d1 d2))
+
+of-control : (u : List ℕ) → Numbered event u → After (bytes "Jr.Control(") u
+of-control u (a, p, v, l, d, e) = (Control a p, rw e (says-control {s = a} (omega arith) d))
+
+of-local : (u : List ℕ) → Numbered event u → After (bytes "Jr.Local(") u
+of-local u (a, p, v, l, d, e) = (Local a p, rw e (says-local {s = a} (omega arith) d))
+
+-- the same of a configuration's bracket
+of-not : (u : List ℕ) → Means (conf close) u → Means inner (bytes "not " ++ u)
+of-not u (c, v, d, e) = (Not c, rw e (says-not d))
+
+of-and : (u : List ℕ) → Means (conf close) u → Means joint (bytes "and " ++ u)
+of-and u (d, v, k, e) c w h = (And c d, rw e (says-and h k))
+
+of-or : (u : List ℕ) → Means (conf close) u → Means joint (bytes "or " ++ u)
+of-or u (d, v, k, e) c w h = (Or c d, rw e (says-or h k))
+
+of-inner : (e : End) (u : List ℕ) → Reads (inner ∷ byte (endByte e) ∷ []) u → Means (conf e) (bytes "(" ++ u)
+of-inner e u (v, x, k, (c, d), (v1, x1, k1, m1, r)) = (c, 40 ∷ v, d, simp (k, k1, m1, r))
+
+of-first : (u : List ℕ) → Reads (inner ∷ byte 32 ∷ joint ∷ []) u → Means inner (bytes "(" ++ u)
+of-first u (v, x, k, (c, d), (v1, x1, k1, m1, (v2, x2, k2, m2, r))) =
+    let o = m2 c (40 ∷ v) d in
+    let z : u ≡ v ++ (32 ∷ v2) = simp (k, k1, m1, k2, r, append-nil) in
+    (o .0, rw z (o .1))
+
+-- and behind a later part
+of-last : (u : List ℕ) → u ≡ [] → Means parts (bytes ")" ++ u)
+of-last u e = (λ p w d. (p, rw e (last-of-seq d)), λ p w d. (p, rw e (last-of-par d)))
+
+of-more : (u : List ℕ) → Reads (prog ∷ parts ∷ []) u → Means parts (bytes ", " ++ u)
+of-more u (v, x, e, (q, k), (v1, x1, e1, m, r)) =
+    let z : u ≡ v ++ v1 = simp (e, e1, r, append-nil) in (
+      λ p w d. let o = m .0 q v k in (Seq p (o .0), rw z (more-of-seq d (o .1))),
+      λ p w d. let o = m .1 q v k in (Par p (o .0), rw z (more-of-par d (o .1))),
+    )
+
+-- one way's answer and the others'
+infixr 4 _or_
+_or_ : {A B : Type 0} → A → B → A × B
+a or b = (a, b)
+
+by-name : (σ : Stack) (b : ℕ) (w : List ℕ) → Backs (ways name σ b) w (Reads (name ∷ σ) (b ∷ w))
+unfolding ways
+by-name σ b w =
+    taken name σ b 78 (bytes "othing()") [] w (λ u e. (Nothing, rw e says-nothing))
+    or taken name σ b 83 [] (s-name ∷ []) w (only s-name)
+    or taken name σ b 65 [] (a-name ∷ []) w (only a-name)
+    or taken name σ b 80 (bytes "ar(") (several []) w (λ u r. of-par u (is-several u r))
+    or taken name σ b 76 (bytes "o") (lo-name ∷ []) w (only lo-name)
+    or taken name σ b 82 (bytes "epeat(") (num plain comma ∷ body []) w (λ u r. of-repeat u (is-numbered plain u r))
+    or taken name σ b 71 (bytes "enerate(") (num event close ∷ []) w (λ u r. of-generate u (only (num event close) u r))
+    or taken name σ b 87 (bytes "hen(") (branches []) w (λ u r. of-when u (is-branched u r))
+    or taken name σ b 85 (bytes "ntil(") (branches []) w (λ u r. of-until u (is-branched u r))
+    or taken name σ b 67 (bytes "ontrol(") (num event comma ∷ body []) w (λ u r. of-control u (is-numbered event u r))
+    or tt
+
+step-back : (s : Sym) (σ : Stack) (b : ℕ) (w : List ℕ) → Backs (ways s σ b) w (Reads (s ∷ σ) (b ∷ w))
+unfolding ways
+step-back (byte c) σ b w = (λ t r. (c ∷ [], w, ap (λ x. x ∷ w) (eqb-true b c t), refl, r)) or tt
+step-back prog σ b w = taken prog σ b 74 (bytes "r.") (name ∷ []) w (only name) or tt
+step-back name σ b w = by-name σ b w
+step-back s-name σ b w =
+    taken s-name σ b 116 (bytes "op()") [] w (λ u e. (Stop, rw e says-stop))
+    or taken s-name σ b 101 (bytes "q(") (several []) w (λ u r. of-seq u (is-several u r))
+    or tt
+step-back a-name σ b w =
+    taken a-name σ b 116 (bytes "om(") (num plain close ∷ []) w (λ u r. of-atom u (only (num plain close) u r))
+    or taken a-name σ b 119 (bytes "ait(") (conf close ∷ []) w (λ u r. of-await u (only (conf close) u r))
+    or tt
+step-back lo-name σ b w =
+    taken lo-name σ b 111 (bytes "p(") (prog ∷ byte 41 ∷ []) w (λ u r. of-loop u (is-closed u r))
+    or taken lo-name σ b 99 (bytes "al(") (num event comma ∷ body []) w (λ u r. of-local u (is-numbered event u r))
+    or tt
+step-back parts σ b w =
+    taken parts σ b 41 [] [] w of-last or taken parts σ b 44 (bytes " ") (prog ∷ parts ∷ []) w of-more or tt
+step-back (conf e) σ b w =
+    taken (conf e) σ b 40 [] (inner ∷ byte (endByte e) ∷ []) w (of-inner e) or of-digit e σ b w or tt
+step-back inner σ b w =
+    taken inner σ b 110 (bytes "ot ") (conf close ∷ []) w (λ u r. of-not u (only (conf close) u r))
+    or taken inner σ b 40 [] (inner ∷ byte 32 ∷ joint ∷ []) w of-first
+    or of-first-digit σ b w
+    or tt
+step-back joint σ b w =
+    taken joint σ b 97 (bytes "nd ") (conf close ∷ []) w (λ u r. of-and u (only (conf close) u r))
+    or taken joint σ b 111 (bytes "r ") (conf close ∷ []) w (λ u r. of-or u (only (conf close) u r))
+    or tt
+step-back (num n e) σ b w = (λ t (u, v, k, m, r). (b ∷ u, v, ap (λ x. b ∷ x) k, begun n e b u t m, r)) or tt
+step-back (tail n v e) σ b w =
+    (λ t r. (b ∷ [], w, refl, λ l. (v, l, ap (λ x. decimal v ++ (x ∷ [])) (eqb-true b (endByte e) t)), r))
+    or (λ t (u, x, k, m, r). (b ∷ u, x, ap (λ z. b ∷ z) k, λ l. grows n v e b u t m, r))
+    or tt
+
+pub cons≢nil : {s : Sym} {σ : Stack} → on (s ∷ σ) ≡ on [] → ⊥
+cons≢nil e = let z : _≡_ {A = ℕ} 0 1 = cc in omega arith
+
+reads-run : (w : List ℕ) (σ : Stack) → run σ w ≡ on [] → Reads σ w
+unfolding run
+reads-run [] [] e = refl
+reads-run [] (s ∷ σ) e = absurd (cons≢nil e)
+reads-run (b ∷ w) [] e = absurd (dead≢on e)
+reads-run (b ∷ w) (s ∷ σ) e = go (choose (ways s σ b)) refl e (λ τ k. reads-run w τ k)
+  where
+    go : (n : Next) → choose (ways s σ b) ≡ n → then n (λ τ. run τ w) ≡ on []
+        → ((τ : Stack) → run τ w ≡ on [] → Reads τ w) → Reads (s ∷ σ) (b ∷ w)
+    go dead h k f = absurd (dead≢on k)
+    go (on τ) h k f = backs (ways s σ b) w _ (step-back s σ b w) τ h (f τ k)
+
+pub has-reading : (w : List ℕ) → run (prog ∷ []) w ≡ on [] → (p : Program) × Says (whole p) w
+has-reading w e = only prog w (reads-run w (prog ∷ []) e)

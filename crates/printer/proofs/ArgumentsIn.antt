@@ -1,0 +1,158 @@
+-- Printing a node's own record: its argument by what its kind takes, and the head of its text.
+use Prim.Native.Nat.{ℕ, _+_, _≤_}
+use mathlib.Core.Bool.{Bool, true, false}
+use mathlib.Core.Path.{_≡_, refl, sym, ap, subst₂, _∙_}
+use mathlib.Core.List.{List, [], _++_}
+use native.Mathlib.Omega.{arith}
+use lib.ListN.{length}
+use Rattle.letters.specs.Decimal.{decimal}
+use Rattle.junior.specs.Configuration.{Config}
+use Rattle.junior.specs.Program.{Program, Nothing, Stop, Atom, Seq, Par, Loop, Repeat, Generate, Await, When, Until}
+use Rattle.junior.specs.Program.{Control, Local, kind}
+use Rattle.table.specs.Records.{configurations, kindAt, argumentAt}
+use Rattle.table.specs.Good.{argumentLimit}
+use Rattle.table.specs.Spells.{Spells, Configured, tested}
+use Rattle.table.specs.Inside.{Placed}
+use Rattle.table.proofs.Grown.{Kind, k0, k1, k2, k3, k4, k5, k6, k7, k8, k9, k10, k11, k12}
+use Rattle.table.proofs.Tree.{kind-is}
+use Rattle.table.proofs.TestParts.{Test, ends-inside}
+use Rattle.table.proofs.Loaded.{fine-at}
+use Rattle.form.specs.Spelling.{spellTest}
+use Rattle.printer.specs.Printing.{Fits, Puts, nameOf, link, takesTest, takesNumber, argument, head}
+use Rattle.printer.specs.Printing.{Standing, Shows, Testable, ShowsTest}
+use Rattle.printer.proofs.Puts.{puts-none, puts-then, fits-first, fits-on}
+
+-- what a kind takes, and how its argument is written
+pub data Argued (t : List ℕ) (i : ℕ) (p : Program) : Bool → Bool → Type 0 where
+  no-argument : argument p ≡ [] → Argued t i p false false
+  a-number : argument p ≡ decimal (argumentAt t i) → Argued t i p false true
+  a-test :
+      (d : Config)
+      → Configured t (tested t i) d
+      → argumentLimit t (kind p) ≡ configurations t
+      → argument p ≡ spellTest d
+      → Argued t i p true false
+
+pub argued : (t : List ℕ) (i : ℕ) (p : Program) → Spells t i p → Argued t i p (takesTest (kind p)) (takesNumber (kind p))
+unfolding Spells kind argument takesTest takesNumber argumentLimit
+argued t i Nothing h = no-argument refl
+argued t i Stop h = no-argument refl
+argued t i (Atom a) h = a-number (ap decimal (sym (h .1)))
+argued t i (Seq p q) h = no-argument refl
+argued t i (Par p q) h = no-argument refl
+argued t i (Loop p) h = no-argument refl
+argued t i (Repeat n p) h = a-number (ap decimal (sym (h .1)))
+argued t i (Generate s) h = a-number (ap decimal (sym (h .1)))
+argued t i (Await c) h = a-test c (h .1) refl refl
+argued t i (When c p q) h = a-test c (h .1) refl refl
+argued t i (Until c p q) h = a-test c (h .1) refl refl
+argued t i (Control s p) h = a-number (ap decimal (sym (h .1)))
+argued t i (Local s p) h = a-number (ap decimal (sym (h .1)))
+
+pub argued-at : {t : List ℕ} {i : ℕ} {p : Program} {a b : Bool} → Spells t i p → takesTest (kindAt t i) ≡ a
+    → takesNumber (kindAt t i) ≡ b → Argued t i p a b
+argued-at {t} {i} {p} h e f =
+    subst₂ (Argued t i p) (ap takesTest (sym (kind-is t i p h)) ∙ e) (ap takesNumber (sym (kind-is t i p h)) ∙ f) (argued t i p h)
+
+-- a test stands within the table, and its text fits
+record Tested (t : List ℕ) (i : ℕ) (p : Program) : Type 0 where
+  test : Config
+  there : Configured t (tested t i) test
+  limit : argumentLimit t (kind p) ≡ configurations t
+  text-is : argument p ≡ spellTest test
+
+test-of : {t : List ℕ} {i : ℕ} {p : Program} {b : Bool} → Argued t i p true b → Tested t i p
+test-of (a-test d c e f) = record { test = d; there = c; limit = e; text-is = f }
+
+number-of : {t : List ℕ} {i : ℕ} {p : Program} → Argued t i p false true → argument p ≡ decimal (argumentAt t i)
+number-of (a-number e) = e
+
+none-of : {t : List ℕ} {i : ℕ} {p : Program} → Argued t i p false false → argument p ≡ []
+none-of (no-argument e) = e
+
+-- the test that a node has
+pub test-at : {t : List ℕ} {i : ℕ} {p : Program} → Placed t i p → argumentLimit t (kind p) ≡ configurations t → (d : Config)
+    → Configured t (tested t i) d → Test t (argumentAt t i) d
+test-at h e d c = record { among = omega (arith, fine-at h .argument-below); there = c }
+
+module _ {t : List ℕ} {i : ℕ} where
+  module _ (e : takesTest (kindAt t i) ≡ true) where
+    pub test-part : {at : ℕ} → Standing argument t i at → Testable t (tested t i) at
+    test-part h =
+        let x = test-of (argued-at (h .placed .spelled) e refl) in
+        let y = ends-inside (h .placed .loaded .configurations-good) (x .test) (test-at (h .placed) (x .limit) (x .test) (x .there)) in
+        record {
+          test = x .test;
+          there = x .there;
+          inside = omega (arith, y, h .placed .loaded .framed .long);
+          fits = rw (x .text-is) at (h .fits);
+        }
+
+    pub puts-test : {a b : List ℕ} {at r : ℕ} → ShowsTest t (tested t i) a b at r → Shows argument t i a b at r
+    puts-test q =
+        record {
+          puts = λ p h.
+              let x = test-of (argued-at h e refl) in
+              rw (x .text-is) (q .puts (x .test) (x .there));
+        }
+
+  module _ (e : takesTest (kindAt t i) ≡ false) where
+    pub number-fits : takesNumber (kindAt t i) ≡ true → {at n : ℕ} → n ≡ argumentAt t i → Standing argument t i at → Fits at (decimal n)
+    number-fits f s h = rw s (rw (number-of (argued-at (h .placed .spelled) e f)) at (h .fits))
+
+    pub puts-number : takesNumber (kindAt t i) ≡ true → {a b : List ℕ} {at r n : ℕ} → n ≡ argumentAt t i
+        → Puts a b at (decimal n) r → Shows argument t i a b at r
+    puts-number f s q = record { puts = λ p h. rw (number-of (argued-at h e f), ← s) q }
+
+    pub puts-no-argument : takesNumber (kindAt t i) ≡ false → {a : List ℕ} {at : ℕ} → Shows argument t i a a at at
+    puts-no-argument f {a} {at} = record { puts = λ p h. rw (none-of (argued-at h e f)) (puts-none a at) }
+
+-- a known kind's name is short
+pub known-kind : {k : ℕ} → Kind k → (k ≤ 12) × (length (nameOf k) ≤ 12)
+unfolding nameOf
+known-kind k0 = (omega arith, omega arith)
+known-kind k1 = (omega arith, omega arith)
+known-kind k2 = (omega arith, omega arith)
+known-kind k3 = (omega arith, omega arith)
+known-kind k4 = (omega arith, omega arith)
+known-kind k5 = (omega arith, omega arith)
+known-kind k6 = (omega arith, omega arith)
+known-kind k7 = (omega arith, omega arith)
+known-kind k8 = (omega arith, omega arith)
+known-kind k9 = (omega arith, omega arith)
+known-kind k10 = (omega arith, omega arith)
+known-kind k11 = (omega arith, omega arith)
+known-kind k12 = (omega arith, omega arith)
+
+-- the name, the argument, and what links it to a part
+module _ {t : List ℕ} {i k : ℕ} (e : k ≡ kindAt t i) where
+  module _ {at : ℕ} (h : Standing head t i at) where
+    abbrev p : Program
+    p = h .program
+
+    k-is : kind p ≡ k
+    k-is = sym (e ∙ kind-is t i p (h .placed .spelled))
+
+    whole : Fits at (nameOf k ++ (argument p ++ link k))
+    whole = rw k-is at (h .fits)
+
+    pub kind-few : k ≤ 12
+    kind-few = omega (arith, k-is, known-kind (fine-at (h .placed) .known) .0)
+
+    pub name-fits : Fits at (nameOf k)
+    name-fits = fits-first (nameOf k) (argument p ++ link k) whole
+
+    module _ {a b : List ℕ} {x : ℕ} (u : Puts a b at (nameOf k) x) where
+      behind-name : Fits x (argument p ++ link k)
+      behind-name = fits-on (nameOf k) (argument p ++ link k) whole u
+
+      pub argument-part : Standing argument t i x
+      argument-part = record { program = p; placed = h .placed; fits = fits-first (argument p) (link k) behind-name }
+
+      pub link-fits : {c : List ℕ} {y : ℕ} → Shows argument t i b c x y → Fits y (link k)
+      link-fits v = fits-on (argument p) (link k) behind-name (v .puts p (h .placed .spelled))
+
+  pub puts-head : {a b c d : List ℕ} {at x y r : ℕ} → Puts a b at (nameOf k) x → Shows argument t i b c x y
+      → Puts c d y (link k) r → Shows head t i a d at r
+  puts-head u v w =
+      record { puts = λ p h. rw (← (e ∙ kind-is t i p h)) (puts-then u (puts-then (v .puts p h) w)) }

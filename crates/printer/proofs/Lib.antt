@@ -1,0 +1,8 @@
+-- The laws, in the order in which they lean on one another.
+pub mod Puts
+pub mod SpelledBy
+pub mod TestsIn
+pub mod Bounds
+pub mod NodesIn
+pub mod ArgumentsIn
+pub mod Short

@@ -1,0 +1,44 @@
+-- Texts that are put into a room, one behind the other.
+use mathlib.Core.Path.{_≡_, refl, sym, ap, _∙_}
+use mathlib.Core.List.{List, [], _∷_, _++_}
+use Prim.Native.Nat.{ℕ, suc, _+_, _<_}
+use native.Mathlib.Omega.{arith}
+use native.Mathlib.Nat.{add-zero}
+use native.Mathlib.Numerals.{add-one}
+use lib.ListN.{length, getD, set, take, length-append}
+use lib.Seq.{sets, length-sets, take-suc}
+use Rattle.letters.proofs.Rooms.{sets-append}
+use Rattle.printer.specs.Printing.{Fits, Puts}
+
+-- no room stays none
+pub sets-none : (i : ℕ) (w : List ℕ) → sets [] i w ≡ []
+sets-none i [] = refl
+sets-none i (a ∷ w) = sets-none (suc i) w
+
+pub puts-none : (l : List ℕ) (x : ℕ) → Puts l l x [] x
+puts-none l x = record { next = sym (add-zero x); room = refl }
+
+-- the room has as many bytes as before
+pub puts-long : {a b : List ℕ} {x r : ℕ} {u : List ℕ} → Puts a b x u r → length b ≡ length a
+puts-long {a} {x = x} {u = u} p = ap length (p .room) ∙ length-sets a x u
+
+pub puts-then : {a b c : List ℕ} {x r s : ℕ} {u v : List ℕ} → Puts a b x u r → Puts b c r v s → Puts a c x (u ++ v) s
+puts-then {a} {x = x} {u = u} {v = v} p q =
+    record {
+      next = simp length-append (omega (arith, p .next, q .next));
+      room = q .room ∙ rw (p .room, p .next) (sym (sets-append a x u v));
+    }
+
+-- one more byte of a text
+pub puts-byte : {a b c : List ℕ} {x : ℕ} (w : List ℕ) (k : ℕ) → k < length w → Puts a b x (take k w) (x + k)
+    → c ≡ set b (x + k) (getD w k 0) → Puts a c x (take (k + 1) w) (x + (k + 1))
+puts-byte w k h p e =
+    rw (add-one k, take-suc w k 0 h) (puts-then p (record { next = omega arith; room = e }))
+
+-- a text that fits, fits in parts
+module _ (u v : List ℕ) {at : ℕ} (h : Fits at (u ++ v)) where
+  pub fits-first : Fits at u
+  fits-first = record { below = omega (arith, h .below, length-append u v) }
+
+  pub fits-on : {a b : List ℕ} {r : ℕ} → Puts a b at u r → Fits r v
+  fits-on p = record { below = omega (arith, h .below, length-append u v, p .next) }

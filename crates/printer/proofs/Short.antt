@@ -1,0 +1,84 @@
+-- The text of a loaded table's program is so short that every place in it is a number of 64 bits.
+use Prim.Native.Nat.{ℕ, zero, suc, _+_, _*_, _≤_}
+use mathlib.Core.Bool.{Bool, true, false, cond, _||_}
+use mathlib.Core.List.{List, [], _++_}
+use native.Mathlib.Omega.{arith}
+use lib.ListN.{length, length-append}
+use lib.Dec.{eqb, leb}
+use Rattle.letters.specs.Text.{bytes}
+use Rattle.letters.proofs.Decimal.{decimal-few}
+use Rattle.junior.specs.Program.{Program, size, kind}
+use Rattle.table.specs.Records.{events, configurations, argumentAt, secondAt}
+use Rattle.table.specs.Good.{argumentLimit}
+use Rattle.table.specs.Inside.{Loaded, Placed}
+use Rattle.table.proofs.Tree.{written}
+use Rattle.table.proofs.TestParts.{ends-inside}
+use Rattle.table.proofs.Loaded.{fine-at}
+use Rattle.form.specs.Spelling.{spell}
+use Rattle.printer.specs.Printing.{argument, link, head, rest, Fits}
+use Rattle.printer.proofs.SpelledBy.{spelled-by, Parts, no-part, one-part, two-parts, parts-of}
+use Rattle.printer.proofs.Bounds.{test-short}
+use Rattle.printer.proofs.ArgumentsIn.{Argued, no-argument, a-number, a-test, argued, test-at}
+use Rattle.printer.proofs.ArgumentsIn.{known-kind}
+
+link-few : (k : ℕ) → length (link k) ≤ 2
+unfolding link
+link-few k = go (eqb k 6 || leb 9 k)
+  where
+    go : (b : Bool) → length (cond b (bytes ", ") []) ≤ 2
+    go true = omega arith
+    go false = omega arith
+
+limit-few : {t : List ℕ} → Loaded t → (k : ℕ) → argumentLimit t k ≤ 65536
+unfolding argumentLimit
+limit-few {t} l k = go (eqb k 2 || eqb k 6) ((eqb k 7 || eqb k 11) || eqb k 12) ((eqb k 8 || eqb k 9) || eqb k 10)
+  where
+    go : (a b c : Bool) → cond a 65536 (cond b (events t) (cond c (configurations t) 1)) ≤ 65536
+    go true b c = omega arith
+    go false true c = omega (arith, l .framed .v-most)
+    go false false true = omega (arith, l .framed .m-most)
+    go false false false = omega arith
+
+argument-few : {t : List ℕ} {i : ℕ} {p : Program} → Placed t i p → length (argument p) ≤ 614400
+argument-few {t} {i} {p} h = go (argued t i p (h .spelled))
+  where
+    go : {a b : Bool} → Argued t i p a b → length (argument p) ≤ 614400
+    go (no-argument e) = rw e (omega arith)
+    go (a-number e) =
+        rw e (omega (arith, decimal-few (argumentAt t i), fine-at h .argument-below, limit-few (h .loaded) (kind p)))
+    go (a-test d c l e) =
+        let x = test-at h l d c in
+        rw e (omega (arith, ends-inside (h .loaded .configurations-good) d x, test-short (h .loaded) d x, h .loaded .framed .m-most))
+
+head-few : {t : List ℕ} {i : ℕ} {p : Program} → Placed t i p → length (head p) ≤ 614414
+head-few {t} {i} {p} h =
+    simp length-append (omega (arith, known-kind (fine-at h .known) .1, argument-few h, link-few (kind p)))
+
+short : (n : ℕ) {t : List ℕ} {i : ℕ} {p : Program} → Placed t i p → size p ≤ n → length (spell p) ≤ 614500 * size p
+short zero {t} {i} {p} h l = go (parts-of t i p (h .spelled))
+  where
+    go : {m : ℕ} → Parts t i p m → length (spell p) ≤ 614500 * size p
+    go (no-part s e) = absurd (omega arith)
+    go (one-part q x s e) = absurd (omega arith)
+    go (two-parts q r x y s e) = absurd (omega arith)
+short (suc n) {t} {i} {p} h l =
+    rw (spelled-by p, length-append (head p) (rest p)) (go (λ j q d m. short n d m) (parts-of t i p (h .spelled)))
+  where
+    go : ((j : ℕ) (q : Program) → Placed t j q → size q ≤ n → length (spell q) ≤ 614500 * size q) → {m : ℕ} → Parts t i p m
+        → length (head p) + length (rest p) ≤ 614500 * size p
+    go below (no-part s e) = rw e (omega (arith, head-few h))
+    go below (one-part q x s e) =
+        let d : Placed t (i + 1) q = record { loaded = h .loaded; spelled = x; inside = omega (arith, h .inside) } in
+        rw e (omega (arith, length-append (spell q) (bytes ")"), head-few h, below (i + 1) q d (omega arith)))
+    go below (two-parts q r x y s e) =
+        let d : Placed t (i + 1) q = record { loaded = h .loaded; spelled = x; inside = omega (arith, h .inside) } in
+        let f : Placed t (secondAt t i) r = record { loaded = h .loaded; spelled = y; inside = omega (arith, h .inside, written t (i + 1) q x) } in
+        let first = below (i + 1) q d (omega arith) in
+        let second = below (secondAt t i) r f (omega arith) in
+        let comma = length-append (spell q) (bytes ", " ++ (spell r ++ bytes ")")) in
+        rw e (omega (arith, comma, length-append (spell r) (bytes ")"), head-few h, first, second))
+
+pub whole-fits : {t : List ℕ} {p : Program} → Placed t 0 p → Fits 0 (spell p)
+whole-fits {p = p} h =
+    let l : size p ≤ size p = omega arith in
+    record { below = omega (arith, short (size p) h l, h .inside, h .loaded .framed .n-most) }

@@ -1,0 +1,40 @@
+// Putting bytes into a lent room. A byte past the room's end goes nowhere, so a text is measured by putting it into no room.
+ghost use mathlib.Core.Path.{_≡_};
+ghost use lib.ListN.{set};
+ghost use Rattle.letters.specs.Decimal.{decimal};
+ghost use Rattle.printer.specs.Printing.{Fits, Puts};
+
+// Puts a text at `at`; the answer is the place behind it.
+pub fn put(room: &mut [u8], at: usize, w: &[u8]) -> usize
+    requires { ⌜ Fits at (now w) ⌝ }
+    ensures { λ r. ⌜ Puts (now (room .entry)) (now (room .exit)) at (now (w .entry)) r ⌝ }
+{
+    let mut k: usize = 0;
+    while k < w.len() {
+        put_byte(room, at + k, w[k]);
+        k += 1;
+    }
+    at + k
+}
+
+// Puts a number in decimal.
+pub fn put_number(room: &mut [u8], at: usize, n: usize) -> usize
+    requires { ⌜ Fits at (decimal n) ⌝ }
+    ensures { λ r. ⌜ Puts (now (room .entry)) (now (room .exit)) at (decimal n) r ⌝ }
+{
+    if n < 10 {
+        put_byte(room, at, 48 + n as u8);
+        return at + 1;
+    }
+    let last = put_number(room, at, n / 10);
+    put_byte(room, last, 48 + (n % 10) as u8);
+    last + 1
+}
+
+fn put_byte(room: &mut [u8], at: usize, b: u8)
+    ensures { λ r. ⌜ now (room .exit) ≡ set (now (room .entry)) at b ⌝ }
+{
+    if at < room.len() {
+        room[at] = b;
+    }
+}

@@ -1,0 +1,117 @@
+-- `scan` meets its contract.
+use Rattle.scanner.proofs.scan.scan.Statement.{statement}
+use Rattle.scanner.proofs.scan.scan.Tie as tie
+use Prim.Native.Nat.{ℕ, _-_}
+use mathlib.Core.Path.{_≡_, refl, sym, _∙_}
+use borrow.Author.Needs.{needs}
+use lib.ListN.{length, length-replicate}
+use Rattle.scanner.specs.Rules.{rules}
+use Rattle.scanner.proofs.Finishing.{Reading, reading-first, reading-stops, reading-goes, reading-short}
+use Rattle.scanner.proofs.Finishing.{reading-whole}
+
+abbrev Inv-loop : tie.InvT-loop
+Inv-loop text rules₀ opens₀ rests₀ at₀ k₀ i₀ opens rests at k i =
+    (length opens ≡ 4096) × (length rests ≡ 4096) × Reading text i at k opens rests
+
+abbrev μ-loop : tie.MeasureT-loop
+μ-loop text rules₀ opens₀ rests₀ at₀ k₀ i₀ opens rests at k i = length text - i
+
+loop-holds : tie.Need-loop-holds Inv-loop μ-loop
+loop-holds c =
+    let start = c .before in
+    (length-replicate {A = ℕ} 4096 0, length-replicate {A = ℕ} 4096 0, reading-first (start .args .text .now) _ _)
+
+slice-aggregate-read-byte : tie.Need-slice-aggregate-read-byte Inv-loop μ-loop
+slice-aggregate-read-byte c =
+    let loop = c .before .before .before .before .loop in
+    sym (loop .inv .0)
+
+slice-aggregate-read-byte-2 : tie.Need-slice-aggregate-read-byte-2 Inv-loop μ-loop
+slice-aggregate-read-byte-2 c =
+    let loop = c .before .before .before .before .before .loop in
+    sym (loop .inv .1)
+
+read-byte-requires : tie.Need-read-byte-requires Inv-loop μ-loop
+unfolding rules
+read-byte-requires c κs =
+    let loop = c .before .before .before .before .before .loop in
+    let loop-test = c .before .before .before .before .loop-test in
+    (refl, (loop-test .taken, ((loop .inv .2 .left-over, loop .inv .2 .lies), (loop .inv .0, loop .inv .1))))
+
+returns : tie.Need-returns Inv-loop μ-loop
+returns c =
+    let start = c .before .before .before .before .before .before .before .before .before .before .before .before in
+    let loop = c .before .before .before .before .before .before .before .before .before .before .loop in
+    let loop-test = c .before .before .before .before .before .before .before .before .before .loop-test in
+    let read-byte = c .before .before .before .before .read-byte in
+    let enum-told = c .enum-told in
+    reading-stops (start .args .text .now) (loop .i) (loop .at) (loop .k) (loop .opens) (loop .rests)
+    (loop .inv .2) _ _ _ (loop-test .taken) (enum-told .given .1) (read-byte .ensures)
+
+counted-requires : tie.Need-counted-requires Inv-loop μ-loop
+unfolding rules
+counted-requires c κs =
+    let loop = c .before .before .before .before .before .before .before .before .before .before .before .before .loop in
+    let n = loop .inv .2 .few-nodes in
+    let m = loop .inv .2 .few-tests in
+    (refl, (search needs, search needs))
+
+loop-again : tie.Need-loop-again Inv-loop μ-loop
+loop-again c =
+    let start = c .before .before .before .before .before .before .before .before .before .before .before .before .before .before .before in
+    let loop = c .before .before .before .before .before .before .before .before .before .before .before .before .before .loop in
+    let loop-test = c .before .before .before .before .before .before .before .before .before .before .before .before .loop-test in
+    let read-byte = c .before .before .before .before .before .before .before .read-byte in
+    let took = c .before .before .before .took in
+    let counted = c .counted in (
+      search needs,
+      search needs,
+      reading-goes (start .args .text .now) (loop .i) (loop .at) (loop .k) (loop .opens)
+          (loop .rests) (loop .inv .2) _ _ _ _ _ (loop-test .taken) (took .given .1) (read-byte .ensures)
+          (counted .ensures),
+    )
+
+code-requires : tie.Need-code-requires Inv-loop μ-loop
+unfolding rules
+code-requires c κs = refl
+
+returns-2 : tie.Need-returns-2 Inv-loop μ-loop
+returns-2 c =
+    let start = c .before .before .before .before .before .before in
+    let loop = c .before .before .before .before .loop in
+    let loop-test = c .before .before .before .loop-test in
+    let code = c .before .code in
+    let if1 = c .if1 in
+    reading-whole (start .args .text .now) (loop .i) (loop .at) (loop .k) (loop .opens) (loop .rests) (loop .inv .2)
+    (loop-test .left) (sym (code .ensures) ∙ if1 .taken)
+
+returns-3 : tie.Need-returns-3 Inv-loop μ-loop
+returns-3 c =
+    let start = c .before .before .before .before .before .before in
+    let loop = c .before .before .before .before .loop in
+    let loop-test = c .before .before .before .loop-test in
+    let code = c .before .code in
+    let if1 = c .if1 in
+    reading-short (start .args .text .now) (loop .i) (loop .at) (loop .k) (loop .opens) (loop .rests) (loop .inv .2)
+    (loop-test .left) (λ e. if1 .left (code .ensures ∙ e))
+
+pub scan-spec : {M : Type 1} → statement M
+scan-spec =
+    tie.close (tie.spec
+    Inv-loop
+    μ-loop
+    loop-holds
+    (λ c. search needs)
+    slice-aggregate-read-byte
+    slice-aggregate-read-byte-2
+    read-byte-requires
+    (λ c. search needs)
+    returns
+    (λ c. search needs)
+    counted-requires
+    (λ c. search needs)
+    (λ c. search needs)
+    loop-again
+    code-requires
+    returns-2
+    returns-3)
