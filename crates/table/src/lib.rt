@@ -4,13 +4,13 @@ ghost use Rattle.table.specs.Verdict.{verdictOf};
 use configurations::first_bad;
 use frame::Frame;
 
-pub mod configurations;
-pub mod frame;
+mod configurations;
+mod frame;
 pub mod nodes;
 pub mod numbers;
 pub mod reading;
 pub mod records;
-pub mod weights;
+mod weights;
 
 // What checking a table answers (01, "Refusal numbers"); specs/Verdict.antt has each case's number, index and figures.
 pub enum Checked {
