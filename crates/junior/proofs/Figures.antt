@@ -7,6 +7,7 @@ use mathlib.Core.List.{List, [], _∷_, _++_}
 use native.Mathlib.Omega.{arith}
 use native.Mathlib.Nat.{le-trans, mul-le-mul-right, zero-mul, suc-mul}
 use lib.ListN.{length, length-append}
+use Rattle.events.specs.Events.{Events, none, put}
 use Rattle.junior.specs.declared.Flag.{Flag}
 use Rattle.junior.specs.declared.Flag.the-variants.{SUSP, STOP, TERM}
 use Rattle.junior.specs.Flags.{γ, δ₁, δ₂}
@@ -28,7 +29,7 @@ use Rattle.junior.specs.Instant.{Instant, r47, r48, r49}
 use Rattle.junior.specs.Figures.{stops, LoopsStop, times, figure, per, G, A}
 use Rattle.junior.specs.AtRest.{AtRest}
 use Rattle.junior.proofs.Kept.{prog-fresh, prog-again, kept}
-use Rattle.junior.proofs.Going.{fresh-at-rest}
+use Rattle.junior.proofs.Going.{Stands, Controlled, Going, rest-going, fresh-going}
 use Rattle.junior.proofs.Held.{live, held, held-fresh, stays-held, begun, ends-unheld}
 
 -- what is left of x in this instant: nothing, unless suspended
@@ -73,7 +74,7 @@ rest-joined TERM TERM x y = omega arith
 one-more : (m n x f : ℕ) → m < n → x ≤ f → x + m * f ≤ n * f
 one-more m n x f h k = let a : suc m * f ≤ n * f = mul-le-mul-right f h in let b = suc-mul m f in omega arith
 
-due-times : (n j : ℕ) (h b : Bool) → j < n → due j h b < times n b
+pub due-times : (n j : ℕ) (h b : Bool) → j < n → due j h b < times n b
 due-times n j true true k = omega arith
 due-times n j true false k = omega arith
 due-times n j false true k = omega arith
@@ -91,6 +92,16 @@ due-kept SUSP j true false b f e = absurd (false≢true (e refl))
 due-kept SUSP j false false b f e = omega arith
 due-kept STOP j h h′ b f e = omega arith
 due-kept TERM j h h′ b f e = omega arith
+
+-- a branch in the middle of an instant, and the body of a Control
+rest-stands : {going : Type 0} (α : Flag) (t : Term) (x f : ℕ) → (going → x ≤ f) → Stands α going t → rest α x ≤ f
+rest-stands SUSP t x f h g = h g
+rest-stands STOP t x f h g = omega arith
+rest-stands TERM t x f h g = omega arith
+
+uncontrolled : (X : Events) (b : Bool) (t : Term) → Controlled b (Going X t) t → Going X t
+uncontrolled X true t g = g
+uncontrolled X false t a = rest-going X t a
 
 pub loops-fresh : (p : Program) → LoopsStop p → LoopsStop (prog (fresh p))
 loops-fresh p o = rw (prog-fresh p) o
@@ -121,7 +132,7 @@ module _ (k : Program → ℕ) where
 
   -- what the term can still run in this instant weighs at most
   unfoldable pub pot : Term → ℕ
-  pot (done p) = 0
+  pot (done p) = k p
   pot nothing = k Nothing
   pot stop = k Stop
   pot (atom a) = k (Atom a)
@@ -143,37 +154,56 @@ module _ (k : Program → ℕ) where
   pot (control s t) = k (Control s (prog t)) + pot t
   pot (local b s t) = k (Local s (prog t)) + pot t
 
-  pub pot-at-rest : (t : Term) → AtRest t → pot t ≤ figure k (prog t)
-  unfolding pot figure prog AtRest
-  pot-at-rest (done p) a = omega arith
-  pot-at-rest nothing a = omega arith
-  pot-at-rest stop a = omega arith
-  pot-at-rest (atom x) a = omega arith
-  pot-at-rest (generate s) a = omega arith
-  pot-at-rest (await c) a = omega arith
-  pot-at-rest (seq0 t q) a = omega (arith, pot-at-rest t a)
-  pot-at-rest (seq2 p t) a = omega (arith, pot-at-rest t a)
-  pot-at-rest (par α β t u) a =
-      omega (arith, rest-le α (pot t), rest-le β (pot u), pot-at-rest t (a .3), pot-at-rest u (a .4))
-  pot-at-rest (loop0 p) a = omega arith
-  pot-at-rest (loop1 t) a =
-      let m = one-more (due 1 (held t) true) 2 _ _ (due-times 2 1 (held t) true (omega arith)) (pot-at-rest t a) in omega arith
-  pot-at-rest (repeat0 n p) a = omega arith
-  pot-at-rest (repeat1 n j t) a =
+  own-least : (p : Program) → k p ≤ figure k p
+  unfolding figure
+  own-least Nothing = omega arith
+  own-least Stop = omega arith
+  own-least (Atom a) = omega arith
+  own-least (Seq p q) = omega arith
+  own-least (Par p q) = omega arith
+  own-least (Loop p) = omega arith
+  own-least (Repeat n p) = omega arith
+  own-least (Generate s) = omega arith
+  own-least (Await c) = omega arith
+  own-least (When c p q) = omega arith
+  own-least (Until c p q) = omega arith
+  own-least (Control s p) = omega arith
+  own-least (Local s p) = omega arith
+
+  pub pot-going : (X : Events) (t : Term) → Going X t → pot t ≤ figure k (prog t)
+  unfolding pot figure prog Going
+  pot-going X (done p) g = own-least p
+  pot-going X nothing g = omega arith
+  pot-going X stop g = omega arith
+  pot-going X (atom x) g = omega arith
+  pot-going X (generate s) g = omega arith
+  pot-going X (await c) g = omega arith
+  pot-going X (seq0 t q) g = omega (arith, pot-going X t g)
+  pot-going X (seq2 p t) g = omega (arith, pot-going X t g)
+  pot-going X (par α β t u) g =
+      omega (arith, rest-stands α t _ _ (pot-going X t) (g .1), rest-stands β u _ _ (pot-going X u) (g .2))
+  pot-going X (loop0 p) g = omega arith
+  pot-going X (loop1 t) g =
+      let m = one-more (due 1 (held t) true) 2 _ _ (due-times 2 1 (held t) true (omega arith)) (pot-going X t g) in omega arith
+  pot-going X (repeat0 n p) g = omega arith
+  pot-going X (repeat1 n j t) g =
       let b = stops (prog t) in
-      let m = one-more (due j (held t) b) (times n b) _ _ (due-times n j (held t) b (a .0)) (pot-at-rest t (a .1)) in
+      let m = one-more (due j (held t) b) (times n b) _ _ (due-times n j (held t) b (g .0)) (pot-going X t (g .1)) in
       omega arith
-  pot-at-rest (when0 c p q) a = omega arith
-  pot-at-rest (when1 c t q) a = omega (arith, pot-at-rest t a)
-  pot-at-rest (when2 c p t) a = omega (arith, pot-at-rest t a)
-  pot-at-rest (until0 c t q) a = omega (arith, pot-at-rest t a)
-  pot-at-rest (until* c t q) a = absurd a
-  pot-at-rest (until2 c p t) a = omega (arith, pot-at-rest t a)
-  pot-at-rest (control s t) a = omega (arith, pot-at-rest t a)
-  pot-at-rest (local b s t) a = omega (arith, pot-at-rest t (a .1))
+  pot-going X (when0 c p q) g = omega arith
+  pot-going X (when1 c t q) g = omega (arith, pot-going X t g)
+  pot-going X (when2 c p t) g = omega (arith, pot-going X t g)
+  pot-going X (until0 c t q) g = omega (arith, pot-going X t g)
+  pot-going X (until* c t q) g = omega arith
+  pot-going X (until2 c p t) g = omega (arith, pot-going X t g)
+  pot-going X (control s t) g = omega (arith, pot-going X t (uncontrolled X (X s) t g))
+  pot-going X (local b s t) g = omega (arith, pot-going (put s b X) t g)
+
+  pub pot-at-rest : (t : Term) → AtRest t → pot t ≤ figure k (prog t)
+  pot-at-rest t a = pot-going none t (rest-going none t a)
 
   pub pot-fresh : (p : Program) → pot (fresh p) ≤ figure k p
-  pot-fresh p = rw (prog-fresh p) at (pot-at-rest (fresh p) (fresh-at-rest p))
+  pot-fresh p = rw (prog-fresh p) at (pot-going none (fresh p) (fresh-going none p))
 
   rest-leave : (α : Flag) (t : Term) → rest α (pot (leave α t)) ≡ rest α (pot t)
   unfolding leave
@@ -181,7 +211,7 @@ module _ (k : Program → ℕ) where
   rest-leave STOP t = refl
   rest-leave TERM t = refl
 
-  repeat-fresh : (n j m : ℕ) (p : Program) → due j (stops p) (stops p) < m
+  pub repeat-fresh : (n j m : ℕ) (p : Program) → due j (stops p) (stops p) < m
       → pot (repeat1 n j (fresh p)) ≤ k (Repeat n p) + m * figure k p
   unfolding pot
   repeat-fresh n j m p h = simp (prog-fresh p, held-fresh p) (let a = one-more _ m _ _ h (pot-fresh p) in omega arith)

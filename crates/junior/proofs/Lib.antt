@@ -14,6 +14,8 @@ pub mod Held
 pub mod Figures
 pub mod Exists
 pub mod Instants
+pub mod Visits
+pub mod Counted
 pub mod Bench
 pub mod AsPrinted
 pub mod Demand3

@@ -13,3 +13,4 @@ pub mod Decided
 pub mod Demand3
 pub mod Printed
 pub mod Bench
+pub mod Visits

@@ -18,5 +18,6 @@ pub mod Checks
 pub mod Demand1
 pub mod Demand2
 pub mod Demand3
+pub mod Bounds
 pub mod OneAnswer
 pub mod Bench

@@ -5,5 +5,6 @@ pub mod Passes
 pub mod Demand1
 pub mod Demand2
 pub mod Demand3
+pub mod Bounds
 pub mod Bench
 pub mod Exports
