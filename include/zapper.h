@@ -25,7 +25,12 @@ extern "C" {
 /* In every answer: the refusal's number, 0 for success, and its index (a node, a configuration, an event or a place in a text, else 0). */
 enum { ZAPPER_NUMBER = 0, ZAPPER_INDEX = 1 };
 
-/* A check's answer: how many event generations, atoms and node visits one instant can make at most. They are 0 if the table is refused. */
+/*
+ * A check's answer: what bounds an instant. One instant generates at most so many events and does at most so many atoms; one pass of it runs at
+ * most ZAPPER_WEIGHT nodes, a node counted every time that it is run (a Repeat once, its body once a repetition). An instant has at most
+ * ZAPPER_GENERATIONS + 2 passes, so it runs at most (ZAPPER_GENERATIONS + 2) * ZAPPER_WEIGHT nodes. Nodes are counted as the rules run them;
+ * checking the table and the state, reading a configuration and clearing a preempted body are not counted. All three are 0 if the table is refused.
+ */
 enum { ZAPPER_GENERATIONS = 2, ZAPPER_MOST_ATOMS = 3, ZAPPER_WEIGHT = 4, ZAPPER_CHECK_PLACES = 5 };
 
 /* A start's answer. */

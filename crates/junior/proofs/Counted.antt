@@ -9,7 +9,7 @@ use Rattle.junior.specs.Rules.{r1-on, r2, r3, r4, r4-on, r5, r8, r12, r4
 use Rattle.junior.specs.Rules.{r22, r24, r25, r30, r31-on, r32, r34}
 use Rattle.junior.specs.Instant.{r47, r48}
 use Rattle.junior.specs.Bench.{set-of}
-use Rattle.junior.specs.Visits.{below, visits-by-pass, Visited, CountedSo}
+use Rattle.junior.specs.Visits.{below, visits-by-pass, next, no-more, CountedSo}
 use Rattle.junior.proofs.Little.{STOP≢SUSP, TERM≢SUSP, TERM≢STOP}
 
 SUSP≢TERM : SUSP ≢ TERM
@@ -19,20 +19,20 @@ STOP≢TERM : STOP ≢ TERM
 STOP≢TERM e = TERM≢STOP (sym e)
 
 pub counted-so : CountedSo
-unfolding Visited visits-by-pass below set-of put test fixed eval prog fresh leave
+unfolding visits-by-pass below set-of put test fixed eval prog fresh leave
 counted-so = record {
   of-P =
-      (_, _, r48 (r8 (r5 (r25 refl) SUSP≢TERM) (r25 refl)) refl refl
-        (r47 (r8 (r5 (r24 refl) STOP≢TERM) (r24 refl)) STOP≢SUSP), refl,
-      (_, _, r47 (r8 (r4 (r22 refl refl) (r4 r3 r16)) (r22 refl refl)) TERM≢SUSP, refl,
-      (_, _, r47 r1-on TERM≢SUSP, refl, tt)));
-  of-Repeat = (_, _, r47 (r15 (r4-repeat r3 (r4-repeat r3 (r4-repeat r3 r1-on)))) TERM≢SUSP, refl, tt);
+      next (r48 (r8 (r5 (r25 refl) SUSP≢TERM) (r25 refl)) refl refl
+      (r47 (r8 (r5 (r24 refl) STOP≢TERM) (r24 refl)) STOP≢SUSP)) refl
+      (next (r47 (r8 (r4 (r22 refl refl) (r4 r3 r16)) (r22 refl refl)) TERM≢SUSP) refl
+      (next (r47 r1-on TERM≢SUSP) refl no-more));
+  of-Repeat = next (r47 (r15 (r4-repeat r3 (r4-repeat r3 (r4-repeat r3 r1-on)))) TERM≢SUSP) refl no-more;
   of-Loop =
-      (_, _, r47 (r12 (r4 (r22 refl refl) r2) STOP≢TERM) STOP≢SUSP, refl,
-      (_, _, r47 (r4-loop (r4-on r1-on) (r12 (r4 (r22 refl refl) r2) STOP≢TERM)) STOP≢SUSP, refl,
-      (_, _, r48 (r4-loop (r4-on r1-on) (r12 (r5 (r25 refl) SUSP≢TERM) SUSP≢TERM)) refl refl
-        (r47 (r5-loop (r5 (r24 refl) STOP≢TERM) STOP≢TERM) STOP≢SUSP), refl, tt)));
+      next (r47 (r12 (r4 (r22 refl refl) r2) STOP≢TERM) STOP≢SUSP) refl
+      (next (r47 (r4-loop (r4-on r1-on) (r12 (r4 (r22 refl refl) r2) STOP≢TERM)) STOP≢SUSP) refl
+      (next (r48 (r4-loop (r4-on r1-on) (r12 (r5 (r25 refl) SUSP≢TERM) SUSP≢TERM)) refl refl
+      (r47 (r5-loop (r5 (r24 refl) STOP≢TERM) STOP≢TERM) STOP≢SUSP)) refl no-more));
   of-Until =
-      (_, _, r48 (r30 r2 (r34 refl)) refl refl (r47 (r32 refl refl) STOP≢SUSP), refl,
-      (_, _, r47 (r31-on r3) TERM≢SUSP, refl, tt));
+      next (r48 (r30 r2 (r34 refl)) refl refl (r47 (r32 refl refl) STOP≢SUSP)) refl
+      (next (r47 (r31-on r3) TERM≢SUSP) refl no-more);
 }

@@ -130,7 +130,7 @@ module _ (k : Program → ℕ) where
   counted f h [] = refl
   counted f h (x ∷ l) = omega (arith, h x, counted f h l, length-append (f x) (collect f l))
 
-  -- what the term can still run in this instant weighs at most
+  -- what the term can still do in this instant weighs at most, and so does what one pass of it runs (Visits)
   unfoldable pub pot : Term → ℕ
   pot (done p) = k p
   pot nothing = k Nothing

@@ -29,7 +29,7 @@ module _ (k : Program → ℕ) where
   fresh-within : (p : Program) (n : ℕ) → k (prog (fresh p)) + n ≤ pot k (fresh p) → k p + n ≤ figure k p
   fresh-within p n h = omega (arith, h, pot-fresh k p, ap k (prog-fresh p))
 
-  -- a pass runs at most what the term can still run in this instant
+  -- a pass, by what stands in the term
   pub within-pot : {free : Type 0} {P : Place} {t : Term} {E : Env} {r : Result} (d : Rewrites free P t E r)
       → LoopsStop (prog t)
       → visits k d ≤ pot k t
@@ -51,12 +51,21 @@ module _ (k : Program → ℕ) where
   within-pot (r5-loop d n) o = omega (arith, within-pot d (o .1))
   within-pot r14 o = omega arith
   within-pot (r15 {n = n} {p = p} d) o =
-      omega (arith, within-pot d (loops-fresh p o), ap (λ x. k (Repeat (suc n) x)) (prog-fresh p),
-        repeat-fresh k (suc n) n _ p (due-times (suc n) n (stops p) (stops p) (omega arith)))
+      omega (
+        arith,
+        within-pot d (loops-fresh p o),
+        ap (λ x. k (Repeat (suc n) x)) (prog-fresh p),
+        repeat-fresh k (suc n) n _ p (due-times (suc n) n (stops p) (stops p) (omega arith)),
+      )
   within-pot (r4-repeat {n = n} {k = j} {t = t} d e) o =
       simp (ends-unheld d)
-      (omega (arith, within-pot d o, within-pot e (rw (prog-again n j (prog t)) o), ap k (prog-again n j (prog t)),
-        pot-again k n j (prog t)))
+      (omega (
+        arith,
+        within-pot d o,
+        within-pot e (rw (prog-again n j (prog t)) o),
+        ap k (prog-again n j (prog t)),
+        pot-again k n j (prog t),
+      ))
   within-pot (r5-repeat d n) o = omega (arith, within-pot d o)
   within-pot r16 o = omega arith
   within-pot (r17 {p = p} s h d) o = omega (arith, fresh-within p _ (within-pot d (loops-fresh p (o .0))))

@@ -82,10 +82,13 @@ sum [] = 0
 sum (n ∷ l) = n + sum l
 
 -- from t the instants with these events handed in run so many nodes, pass by pass, each from the state that the one before left
-unfoldable pub Visited : Term → List (List ℕ × List ℕ) → Type 0
-Visited t [] = Unit {0}
-Visited t ((handed, counts) ∷ l) =
-    (n : ℕ) × (r : Result) × (i : Instant ⊥ t (handed-in (set-of handed)) n r) × (visits-by-pass every i ≡ counts) × Visited (r .to) l
+pub data Visited : Term → List (List ℕ × List ℕ) → Type 0 where
+  no-more : {t : Term} → Visited t []
+  next : {t : Term} {handed counts : List ℕ} {n : ℕ} {r : Result} {l : List (List ℕ × List ℕ)}
+      (i : Instant ⊥ t (handed-in (set-of handed)) n r)
+      → visits-by-pass every i ≡ counts
+      → Visited (r .to) l
+      → Visited t ((handed, counts) ∷ l)
 
 -- How it is counted. P (K3): Par, Seq and both Awaits, twice; all seven; then Par, in phase 3. A Repeat: itself and three Atoms. A begun
 -- Loop: itself, Seq, the Stop in phase 3, and again Seq, Await and, with the event, Stop. An Until that tests goes on as itself.

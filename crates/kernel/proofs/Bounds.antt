@@ -2,6 +2,8 @@
 use Prim.Native.Nat.{ℕ}
 use mathlib.Core.List.{List}
 use Rattle.events.specs.Events.{Events}
+use Rattle.junior.specs.Term.{prog}
+use Rattle.junior.specs.Figures.{LoopsStop}
 use Rattle.junior.proofs.Figures.{at-most-G, at-most-A}
 use Rattle.junior.proofs.Visits.{at-most-W, at-most-in-all}
 use Rattle.kernel.specs.declared.Answer.{Answer}
@@ -14,7 +16,7 @@ pub bounds : {t s : List ℕ} {X : Events} {row s′ : List ℕ} {a : Answer} {p
 bounds {t} {p = p} d =
     let accepted = admitted t (p .accepted) in
     let program = d .stands .program in
-    let loops = rw program (accepted .loops) in
+    let loops : LoopsStop (prog (d .term)) = rw program (accepted .loops) in
     let rest = d .stands .at-rest in
     record {
       few-generations = rw (accepted .G-is, ← program) (at-most-G (d .instant) loops rest);
