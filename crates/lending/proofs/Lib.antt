@@ -1,0 +1,3 @@
+-- Laws, in the order in which they lean on one another.
+pub mod Again
+pub mod Thin

@@ -1,0 +1,1 @@
+// No code: laws about lending, for functions that are walked by hand.
