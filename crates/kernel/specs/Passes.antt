@@ -4,8 +4,9 @@ use mathlib.Core.Bool.{Bool}
 use mathlib.Core.Path.{_≡_}
 use mathlib.Core.List.{List}
 use lib.ListN.{length}
+use denote.Ref.{RefT}
 use Rattle.events.specs.declared.EventSet.{EventSet}
-use Rattle.events.specs.Events.{howMany, lowest}
+use Rattle.events.specs.Events.{Events, howMany, lowest}
 use Rattle.events.specs.Members.{places, members}
 use Rattle.junior.specs.Term.{Term, prog}
 use Rattle.junior.specs.Figures.{LoopsStop, G, A}
@@ -16,6 +17,7 @@ use Rattle.table.specs.Inside.{Placed}
 use Rattle.steps.specs.StateBytes.{stateBytes}
 use Rattle.kernel.specs.declared.Outcome.the-variants.{Ran}
 use Rattle.kernel.specs.declared.Answer.{Answer}
+use Rattle.kernel.specs.Answer.{Run}
 
 -- past all refusals: a term at rest stands in the state, which is just as long, and the row has room for its atoms
 pub record Startable (t s row : List ℕ) : Type 0 where
@@ -28,6 +30,14 @@ pub record Startable (t s row : List ℕ) : Type 0 where
   pub at-rest : AtRest term
   pub few : G (prog term) ≤ 4094
   pub room : A (prog term) ≤ length row
+
+-- an instant was run behind two references to slices, of the state and of the row: from what they held, s and w, to what they hold, s′ and w′.
+-- These are the slices that were lent, and no others: they have the same names.
+pub record RanBehind (t : List ℕ) (s : RefT (List ℕ)) (X : Events) (w s′ w′ : RefT (List ℕ)) (r : Answer) : Type 0 where
+  pub outcome-is : r .outcome ≡ Ran
+  pub run : Run t (s .now) X (w .now) (s′ .now) (w′ .now) r
+  pub same-state : s′ .name ≡ s .name
+  pub same-row : w′ .name ≡ w .name
 
 -- the answer of an instant that was run
 pub record Reported (events : EventSet) (atoms : ℕ) (finished : Bool) (passes : ℕ) (r : Answer) : Type 0 where

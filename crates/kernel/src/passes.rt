@@ -1,10 +1,9 @@
 // An instant's passes, over the state's own bytes.
 ghost use mathlib.Core.Path.{_≡_};
-ghost use denote.Ref.{name};
 ghost use Rattle.events.specs.Members.{members};
 ghost use Rattle.kernel.specs.declared.Outcome.the-variants.{Ran};
 ghost use Rattle.kernel.specs.Answer.{Run};
-ghost use Rattle.kernel.specs.Passes.{Startable, Reported};
+ghost use Rattle.kernel.specs.Passes.{Startable, RanBehind, Reported};
 use crate::Answer;
 use crate::Outcome;
 use events::EventSet;
@@ -25,7 +24,7 @@ pub fn run_passes(table: &[u8], state: &mut [u8], events: EventSet, atoms: &mut 
 // The passes themselves. The slices left behind the two references have the names of those lent: they are no others.
 fn run_from(table: &[u8], state: &mut &mut [u8], events: EventSet, atoms: &mut &mut [u16]) -> Answer
     requires { ⌜ Startable (now table) (now (now state)) (now (now atoms)) ⌝ }
-    ensures { λ r. ⌜ (r .outcome ≡ Ran) × Run (now (table .entry)) (now (now (state .entry))) (members events) (now (now (atoms .entry))) (now (now (state .exit))) (now (now (atoms .exit))) r × (name (now (state .exit)) ≡ name (now (state .entry))) × (name (now (atoms .exit)) ≡ name (now (atoms .entry))) ⌝ }
+    ensures { λ r. ⌜ RanBehind (now (table .entry)) (now (state .entry)) (members events) (now (atoms .entry)) (now (state .exit)) (now (atoms .exit)) r ⌝ }
 {
     let mut words = events.words;
     let mut tally = [0usize; 3];

@@ -30,12 +30,12 @@ use denote.Ref.{RefT}
 use denote.Slice.{sliceVal, MutSlice, Holeys, heres, Room, finally, at-slice, codedHoleys}
 use denote.Lend.{Held, slice-back}
 
+-- a slice with these elements, under this name
+abbrev pub holding : {X : Type 0} → ℕ → ℕ → GName → List X → RefT (List X)
+holding b o δ xs = record { ptr = (b, o); name = δ; now = xs }
+
 -- of a slice at (b, o) under the name γ, of the lifetime κ, of whose token its holder has the share q; lent on for the lifetime `call`
 module _ (T : RattleType) (κ : Lft) (q : Share) (γ : GName) (b o : ℕ) (call : Lft) where
-  -- the slice with these elements, under its own name or the call's
-  abbrev pub holding : GName → List (T .Denot) → RefT (List (T .Denot))
-  holding δ xs = record { ptr = (b, o); name = δ; now = xs }
-
   -- the memory of so many elements, and what a name remembers of them
   abbrev Row : ℕ → SemTy
   Row n = Arr (Holey (mem T)) n
@@ -54,24 +54,24 @@ module _ (T : RattleType) (κ : Lft) (q : Share) (γ : GName) (b o : ℕ) (call 
     abbrev pair : List Val
     pair = sliceVal (b, o) (length xs) ∷ []
 
-    pub lends-on : ent 𝓤 (sep 𝓤 (sem 𝓤 H A (MutSlice ℓ κ T .own (holding γ xs) pair)) (A .lft κ q))
-        (H .⇛ (ex 𝓤 (λ (δ : GName). sep 𝓤 (sem 𝓤 H A (MutSlice ℓ′ call T .own (holding δ xs) pair)) (sem 𝓤 H A (Away δ xs)))))
+    pub lends-on : ent 𝓤 (sep 𝓤 (sem 𝓤 H A (MutSlice ℓ κ T .own (holding b o γ xs) pair)) (A .lft κ q))
+        (H .⇛ (ex 𝓤 (λ (δ : GName). sep 𝓤 (sem 𝓤 H A (MutSlice ℓ′ call T .own (holding b o δ xs) pair)) (sem 𝓤 H A (Away δ xs)))))
     lends-on =
-        qed W (‵ (MutSlice ℓ κ T .own (holding γ xs) pair) ∷ ‵ (flft κ q) ∷ []) ∵ updating ! $ fsplit ! $
-        pureL ! (at-slice T (holding γ xs) pair) (λ fits. fsplit ! $ open-ref ! tt (Row (length xs)) {x = heres T xs} {b = b} {o = o} $
+        qed W (‵ (MutSlice ℓ κ T .own (holding b o γ xs) pair) ∷ ‵ (flft κ q) ∷ []) ∵ updating ! $ fsplit ! $
+        pureL ! (at-slice T (holding b o γ xs) pair) (λ fits. fsplit ! $ open-ref ! tt (Row (length xs)) {x = heres T xs} {b = b} {o = o} $
         -- [the memory; the holder's open loan; its name's halves]: the memory gets a name for the call, and is lent
         name-new ! tt (remembered xs) (λ δ. move ! (2 ∷ 1 ∷ []) $ fjoin ! $
         fpack ! (Holeys T) (λ hs. fsep (Row (length xs) .lies hs b o) (fauth δ (codedHoleys T .code hs))) (heres T xs) $
         bor-new ! tt call $
         -- [the call's loan; the lender's end of it; the call's half of its name; the holder's open loan; its name's halves]
         at-once ! $
-        show ! (λ (δ′ : GName). sep 𝓤 (sem 𝓤 H A (MutSlice ℓ′ call T .own (holding δ′ xs) pair)) (sem 𝓤 H A (Away δ′ xs))) δ $
-        move ! (2 ∷ 0 ∷ []) $ fjoin ! $ pureI ! (at-slice T (holding δ xs) pair) (tt, (tt, tt)) fits $ fjoin ! $ frame ! $
+        show ! (λ (δ′ : GName). sep 𝓤 (sem 𝓤 H A (MutSlice ℓ′ call T .own (holding b o δ′ xs) pair)) (sem 𝓤 H A (Away δ′ xs))) δ $
+        move ! (2 ∷ 0 ∷ []) $ fjoin ! $ pureI ! (at-slice T (holding b o δ xs) pair) (tt, (tt, tt)) fits $ fjoin ! $ frame ! $
         move ! (2 ∷ 3 ∷ []) $ fjoin ! $ move ! (2 ∷ 0 ∷ []) $ fjoin ! $ move ! (1 ∷ 0 ∷ []) $ fjoin ! $ done !))
 
     pub has-again : (δ : GName) (ys : List (T .Denot)) → Room T (length xs)
         → ent 𝓤 (sep 𝓤 (A .dead call) (sep 𝓤 (sem 𝓤 H A (Away δ xs)) (sem 𝓤 H A (finally T δ ys))))
-        (H .⇛ (sep 𝓤 (sem 𝓤 H A (feq ℕ (length ys) (length xs))) (sep 𝓤 (sem 𝓤 H A (MutSlice ℓ κ T .own (holding γ ys) pair)) (A .lft κ q))))
+        (H .⇛ (sep 𝓤 (sem 𝓤 H A (feq ℕ (length ys) (length xs))) (sep 𝓤 (sem 𝓤 H A (MutSlice ℓ κ T .own (holding b o γ ys) pair)) (A .lft κ q))))
     has-again δ ys room =
         qed W (‵ (fdead call) ∷ ‵ (Away δ xs) ∷ ‵ (finally T δ ys) ∷ []) ∵ updating ! $ move ! (1 ∷ []) $ fsplit ! $ move ! (2 ∷ 0 ∷ 3 ∷ []) $
         use3 W (later (‵ (Arr (mem T) (length xs) .lies ys b o))) (slice-back 𝓤 H A W T call δ ys (length xs) b o) $ await ! tt $
@@ -83,5 +83,5 @@ module _ (T : RattleType) (κ : Lft) (q : Share) (γ : GName) (b o : ℕ) (call 
         rewrite ! 1 (λ (n : ℕ). ‵ (fbor κ (Held T n b o γ))) (sym same) refl $
         -- [the holder's half of its name; its loan; its token]: the slice again
         at-once ! $ fjoin ! $
-        pureI ! (at-slice T (holding γ ys) pair) (tt, (tt, tt)) (ap (λ (n : ℕ). sliceVal (b, o) n ∷ []) (sym same), subst (Room T) (sym same) room) $
+        pureI ! (at-slice T (holding b o γ ys) pair) (tt, (tt, tt)) (ap (λ (n : ℕ). sliceVal (b, o) n ∷ []) (sym same), subst (Room T) (sym same) room) $
         fjoin ! $ feqI ! ℕ (length ys) (length xs) same $ done !)

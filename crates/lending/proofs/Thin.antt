@@ -39,6 +39,9 @@ pub record Loan : Type 0 where
   pub slice : GName
   pub outer : GName
 
+abbrev loan : ℕ → GName → GName → Loan
+loan ν δ ε = record { life = ν; slice = δ; outer = ε }
+
 -- the call's lifetime, and the shares of its token that it gets
 abbrev pub lifetime : Loan → Lft
 lifetime n = n .life ∷ []
@@ -52,13 +55,12 @@ half₂ = PosShare·right fullShare
 abbrev pub Halves : Loan → Fml
 Halves n = fsep (flft (lifetime n) half₁) (flft (lifetime n) half₂)
 
--- what the thin reference points to, by its lifetime's name in the callee's signature
-abbrev pub Inner : RattleType → Lifetime → Loan → RattleType
-Inner T ℓ n = MutSlice ℓ (lifetime n) T
+-- the thin reference's type, and that of the slice in the local; ℓ and ℓ′ are the lifetimes' places in the callee's signature
+abbrev Inner : RattleType → Lifetime → ℕ → RattleType
+Inner T ℓ′ ν = MutSlice ℓ′ (ν ∷ []) T
 
--- the thin reference's type
 abbrev pub Thin : RattleType → Lifetime → Lifetime → Loan → RattleType
-Thin T ℓ ℓ′ n = MutRef ℓ (lifetime n) (Inner T ℓ′ n)
+Thin T ℓ ℓ′ n = MutRef ℓ (lifetime n) (Inner T ℓ′ (n .life))
 
 -- the local's type
 abbrev pub localTy : RattleType → Ty
@@ -68,55 +70,79 @@ localTy T = sliceTy (tyRef erased mut (pointee (T .written)))
 module _ (T : RattleType) (κ : Lft) (q : Share) (γ : GName) (b o l : ℕ) where
   -- the thin reference itself: the local's place, and in it the call's slice
   abbrev pub thin : Loan → List (T .Denot) → RefT (RefT (List (T .Denot)))
-  thin n xs = record { ptr = (l, 0); name = n .outer; now = holding T κ q γ b o (lifetime n) (n .slice) xs }
+  thin n xs = record { ptr = (l, 0); name = n .outer; now = holding b o (n .slice) xs }
 
+  -- the lender's end of the local's loan, and what waits for the slice
   abbrev pub Lent : Lifetime → Loan → List (T .Denot) → Fml
-  Lent ℓ′ n xs = fsep (flent (lifetime n) (Body (mem (Inner T ℓ′ n)) l 0 (n .outer))) (Away T κ q γ b o (lifetime n) (n .slice) xs)
+  Lent ℓ′ n xs =
+      fsep (flent (lifetime n) (Body (mem (Inner T ℓ′ (n .life))) l 0 (n .outer))) (Away T κ q γ b o (lifetime n) (n .slice) xs)
 
   module _ {M : Type 1} (𝓤 : URA M) (H : Heap 𝓤) (A : Atoms 𝓤) (W : Given 𝓤 H A) (ℓ ℓ₁ ℓ₂ : Lifetime) (xs : List (T .Denot)) where
-    abbrev value : Val
-    value = sliceVal (b, o) (length xs)
+    abbrev ⟦_⟧ : Fml → SProp 𝓤
+    ⟦ P ⟧ = sem 𝓤 H A P
+
+    abbrev _∗_ : SProp 𝓤 → SProp 𝓤 → SProp 𝓤
+    P ∗ Q = sep 𝓤 P Q
+
+    infixr 35 _∗_
+
+    -- what the machine holds of the slice
+    abbrev pair : Val
+    pair = sliceVal (b, o) (length xs)
+
+    -- the local, with this in it
+    abbrev Local : Val → Fml
+    Local v = fat fullShare (localTy T) l 0 v
 
     -- the holder's slice, with these elements
     abbrev Slice : List (T .Denot) → Fml
-    Slice ys = MutSlice ℓ κ T .own (record { ptr = (b, o); name = γ; now = ys }) (value ∷ [])
+    Slice ys = MutSlice ℓ κ T .own (holding b o γ ys) (pair ∷ [])
 
-    abbrev HasThin : Loan → SProp 𝓤
-    HasThin n =
-        sep 𝓤 (sem 𝓤 H A (Thin T ℓ₁ ℓ₂ n .own (thin n xs) (vptr l 0 ∷ [])))
-        (sep 𝓤 (sem 𝓤 H A (Halves n)) (sem 𝓤 H A (Lent ℓ₂ n xs)))
+    -- the call's slice in the local, and the reference to it
+    abbrev Held : ℕ → GName → List Val → Fml
+    Held ν δ vs = Inner T ℓ₂ ν .own (holding b o δ xs) vs
 
-    pub lends-thin : ent 𝓤 (sep 𝓤 (sem 𝓤 H A (fat fullShare (localTy T) l 0 value)) (sep 𝓤 (sem 𝓤 H A (Slice xs)) (A .lft κ q))) (H .⇛ (ex 𝓤 HasThin))
+    abbrev Reference : Loan → Fml
+    Reference n = Thin T ℓ₁ ℓ₂ n .own (thin n xs) (vptr l 0 ∷ [])
+
+    pub lends-thin : ent 𝓤 (⟦ Local pair ⟧ ∗ ⟦ Slice xs ⟧ ∗ A .lft κ q)
+        (H .⇛ (ex 𝓤 (λ (n : Loan). ⟦ Reference n ⟧ ∗ ⟦ Halves n ⟧ ∗ ⟦ Lent ℓ₂ n xs ⟧)))
     unfolding partOf
     lends-thin =
-        qed W (‵ (fat fullShare (localTy T) l 0 value) ∷ ‵ (Slice xs) ∷ ‵ (flft κ q) ∷ []) ∵ updating ! $ lft-new ! tt (λ ν. move ! (2 ∷ 3 ∷ []) $
-        use2 W (later (some (λ (δ : GName). ‵ (MutSlice ℓ₂ (ν ∷ []) T .own (holding T κ q γ b o (ν ∷ []) δ xs) (value ∷ [])) ⊛ ‵ (Away T κ q γ b o (ν ∷ []) δ xs))))
+        qed W (‵ (Local pair) ∷ ‵ (Slice xs) ∷ ‵ (flft κ q) ∷ []) ∵ updating ! $ lft-new ! tt (λ ν. move ! (2 ∷ 3 ∷ []) $
+        use2 W (later (some (λ (δ : GName). ‵ (Held ν δ (pair ∷ [])) ⊛ ‵ (Away T κ q γ b o (ν ∷ []) δ xs))))
         (lends-on T κ q γ b o (ν ∷ []) 𝓤 H A W ℓ ℓ₂ xs) $ await ! tt $ pick ! (λ δ. split ! $
         -- [the call's slice; what waits for it; the lifetime's token; the local]: the local with that slice in it is lent
-        move ! (3 ∷ []) $ use1 W (‵ (cellAt fullShare (MutSlice ℓ₂ (ν ∷ []) T .mir) (value ∷ []) l 0)) (W .laws .at-raw fullShare (localTy T) l 0 value) $ fjoin ! $
-        fpack ! (List Val) (λ vs. fsep (cellAt fullShare (MutSlice ℓ₂ (ν ∷ []) T .mir) vs l 0) (MutSlice ℓ₂ (ν ∷ []) T .own (holding T κ q γ b o (ν ∷ []) δ xs) vs)) (value ∷ []) $
-        use1 W (later (some (λ (ε : GName). ‵ (MutRef ℓ₁ (ν ∷ []) (MutSlice ℓ₂ (ν ∷ []) T) .own (record { ptr = (l, 0); name = ε; now = holding T κ q γ b o (ν ∷ []) δ xs }) (vptr l 0 ∷ [])) ⊛ ‵ (flent (ν ∷ []) (Body (mem (MutSlice ℓ₂ (ν ∷ []) T)) l 0 ε)))))
-        (lends-ref 𝓤 H A W (MutSlice ℓ₂ (ν ∷ []) T) ℓ₁ (ν ∷ []) (holding T κ q γ b o (ν ∷ []) δ xs) l 0) $ await ! tt $ pick ! (λ ε. split ! $
-        -- [the thin reference; the lender's end of the local; what waits for the slice; the lifetime's token]
-        at-once ! $ show ! HasThin (record { life = ν; slice = δ; outer = ε }) $ frame ! $
-        move ! (2 ∷ []) $ use1 W (‵ (flft (ν ∷ []) half₁) ⊛ ‵ (flft (ν ∷ []) half₂)) (W .lfts .lft-split (ν ∷ []) fullShare) $ split ! $ fjoin ! $ frame ! $ fjoin ! $ done !)))
+        move ! (3 ∷ []) $ use1 W (‵ (cellAt fullShare (Inner T ℓ₂ ν .mir) (pair ∷ []) l 0)) (W .laws .at-raw fullShare (localTy T) l 0 pair) $
+        fjoin ! $ fpack ! (List Val) (λ vs. fsep (cellAt fullShare (Inner T ℓ₂ ν .mir) vs l 0) (Held ν δ vs)) (pair ∷ []) $
+        use1 W (later (some (λ (ε : GName). ‵ (Reference (loan ν δ ε)) ⊛ ‵ (flent (ν ∷ []) (Body (mem (Inner T ℓ₂ ν)) l 0 ε)))))
+        (lends-ref 𝓤 H A W (Inner T ℓ₂ ν) ℓ₁ (ν ∷ []) (holding b o δ xs) l 0) $ await ! tt $ pick ! (λ ε. split ! $
+        -- [the reference; the lender's end of the local; what waits for the slice; the lifetime's token]: the token is cut
+        at-once ! $ show ! (λ (n : Loan). ⟦ Reference n ⟧ ∗ ⟦ Halves n ⟧ ∗ ⟦ Lent ℓ₂ n xs ⟧) (loan ν δ ε) $ frame ! $ move ! (2 ∷ []) $
+        use1 W (‵ (flft (ν ∷ []) half₁) ⊛ ‵ (flft (ν ∷ []) half₂)) (W .lfts .lft-split (ν ∷ []) fullShare) $ split ! $ fjoin ! $ frame ! $
+        fjoin ! $ done !)))
 
     pub ends-thin : (n : Loan) (w : RefT (List (T .Denot))) → w .name ≡ n .slice → Room T (length xs)
-        → ent 𝓤 (sep 𝓤 (sem 𝓤 H A (Halves n)) (sep 𝓤 (sem 𝓤 H A (Lent ℓ₂ n xs)) (A .res (n .outer) (Inner T ℓ₂ n .coded .code w))))
-        (H .⇛ (sep 𝓤 (sem 𝓤 H A (fat fullShare (localTy T) l 0 (sliceVal (w .ptr) (length (w .now)))))
-        (sep 𝓤 (sem 𝓤 H A (feq ℕ (length (w .now)) (length xs))) (sep 𝓤 (sem 𝓤 H A (Slice (w .now))) (A .lft κ q)))))
+        → ent 𝓤 (⟦ Halves n ⟧ ∗ ⟦ Lent ℓ₂ n xs ⟧ ∗ A .res (n .outer) (Inner T ℓ₂ (n .life) .coded .code w))
+        (H .⇛ (⟦ Local (sliceVal (w .ptr) (length (w .now))) ⟧ ∗ ⟦ feq ℕ (length (w .now)) (length xs) ⟧ ∗ ⟦ Slice (w .now) ⟧ ∗ A .lft κ q))
     unfolding partOf
     ends-thin n w same room =
-        qed W (‵ (Halves n) ∷ ‵ (Lent ℓ₂ n xs) ∷ ‵ (fres (n .outer) (Inner T ℓ₂ n .coded .code w)) ∷ []) ∵ updating ! $ fsplit ! $
+        qed W (‵ (Halves n) ∷ ‵ (Lent ℓ₂ n xs) ∷ ‵ (fres (n .outer) (Inner T ℓ₂ (n .life) .coded .code w)) ∷ []) ∵ updating ! $ fsplit ! $
         use2 W (‵ (flft (lifetime n) fullShare)) (W .lfts .lft-join (lifetime n) fullShare) $ lft-end ! tt $
         use1 W (‵ (fdead (lifetime n)) ⊛ ‵ (fdead (lifetime n))) (W .lfts .dead-dup (lifetime n)) $ split ! $ move ! (2 ∷ []) $ fsplit ! $
-        -- [the lender's end of the local; what waits for the slice; it is over; it is over; the local ended with w]
-        move ! (2 ∷ 0 ∷ 4 ∷ []) $ use3 W (later (‵ (mem (Inner T ℓ₂ n) .lies w l 0))) (ref-back 𝓤 H A W (Inner T ℓ₂ n) (lifetime n) (n .outer) w l 0) $ await ! tt $ fpick ! (λ vs. fsplit ! $
-        spelt ! (Inner T ℓ₂ n) (Is (Inner T ℓ₂ n)) (shows 𝓤 H A (Inner T ℓ₂ n)) slice-vals (mut-slice-tells ℓ₂ (lifetime n) T) fullShare w vs l 0 $
-        use1 W (‵ (fat fullShare (localTy T) l 0 (sliceVal (w .ptr) (length (w .now))))) (W .laws .raw-at fullShare (localTy T) l 0 (sliceVal (w .ptr) (length (w .now)))) $
+        -- [the lender's end of the local; what waits for the slice; it is over; it is over; the local ended with w]: the local is back
+        move ! (2 ∷ 0 ∷ 4 ∷ []) $ use3 W (later (‵ (mem (Inner T ℓ₂ (n .life)) .lies w l 0)))
+        (ref-back 𝓤 H A W (Inner T ℓ₂ (n .life)) (lifetime n) (n .outer) w l 0) $ await ! tt $ fpick ! (λ vs. fsplit ! $
+        spelt ! (Inner T ℓ₂ (n .life)) (Is (Inner T ℓ₂ (n .life))) (shows 𝓤 H A (Inner T ℓ₂ (n .life))) slice-vals
+        (mut-slice-tells ℓ₂ (lifetime n) T) fullShare w vs l 0 $
+        use1 W (‵ (Local (sliceVal (w .ptr) (length (w .now)))))
+        (W .laws .raw-at fullShare (localTy T) l 0 (sliceVal (w .ptr) (length (w .now)))) $
         -- [the local; what w owns; what waits for the slice; it is over]: w ended with its elements, and w is the call's slice
-        move ! (1 ∷ []) $ fsplit ! $ drop ! $ fsplit ! $ name-done ! tt $ use1 W (‵ (finally T (w .name) (w .now))) (res-finally 𝓤 H A W ℓ₂ (lifetime n) T (w .name) (w .now)) $
+        move ! (1 ∷ []) $ fsplit ! $ drop ! $ fsplit ! $ name-done ! tt $
+        use1 W (‵ (finally T (w .name) (w .now))) (res-finally 𝓤 H A W ℓ₂ (lifetime n) T (w .name) (w .now)) $
         rewrite ! 0 (λ (δ : GName). ‵ (finally T δ (w .now))) same refl $
-        -- [what the call's slice ended with; w's loan; the local; what waits for the slice; it is over]
-        move ! (4 ∷ 3 ∷ 0 ∷ []) $ use3 W (later (‵ (feq ℕ (length (w .now)) (length xs)) ⊛ (‵ (Slice (w .now)) ⊛ ‵ (flft κ q))))
-        (has-again T κ q γ b o (lifetime n) 𝓤 H A W ℓ ℓ₂ xs (n .slice) (w .now) room) $ await ! tt $ at-once ! $ move ! (2 ∷ 0 ∷ []) $ keep ! (0 ∷ 1 ∷ []) $ done !)
+        -- [what the call's slice ended with; w's loan; the local; what waits for the slice; it is over]: the slice is back
+        move ! (4 ∷ 3 ∷ 0 ∷ []) $
+        use3 W (later (‵ (feq ℕ (length (w .now)) (length xs)) ⊛ (‵ (Slice (w .now)) ⊛ ‵ (flft κ q))))
+        (has-again T κ q γ b o (lifetime n) 𝓤 H A W ℓ ℓ₂ xs (n .slice) (w .now) room) $ await ! tt $
+        at-once ! $ move ! (2 ∷ 0 ∷ []) $ keep ! (0 ∷ 1 ∷ []) $ done !)

@@ -72,7 +72,12 @@ returns c =
     let report = c .report in
     let u = loop .inv .1 in
     let ran = rw (enum-told2 .given .1) at (run-node .ensures (u .term) tt (u .ready) root refl) in
-    (report .ensures .outcome-is, run-of (loop .inv .0) u ran STOP≢SUSP (ran .bytes) (report .ensures), loop .inv .2, loop .inv .3)
+    record {
+      outcome-is = report .ensures .outcome-is;
+      run = run-of (loop .inv .0) u ran STOP≢SUSP (ran .bytes) (report .ensures);
+      same-state = loop .inv .2;
+      same-row = loop .inv .3;
+    }
 
 -- state[0] = 3;
 index-1-state : tie.Need-index-1-state Inv-loop μ-loop
@@ -91,7 +96,12 @@ returns-2 c =
     let report2 = c .report2 in
     let u = loop .inv .1 in
     let ran = rw (enum-told3 .given .1) at (run-node .ensures (u .term) tt (u .ready) root refl) in
-    (report2 .ensures .outcome-is, run-of (loop .inv .0) u ran TERM≢SUSP (marked-ended u ran) (report2 .ensures), loop .inv .2, loop .inv .3)
+    record {
+      outcome-is = report2 .ensures .outcome-is;
+      run = run-of (loop .inv .0) u ran TERM≢SUSP (marked-ended u ran) (report2 .ensures);
+      same-state = loop .inv .2;
+      same-row = loop .inv .3;
+    }
 
 pub run-from-spec : {M : Type 1} → statement M
 run-from-spec =

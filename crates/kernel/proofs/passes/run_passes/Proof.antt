@@ -52,7 +52,7 @@ use Rattle.lending.proofs.Thin.{Loan, lifetime, half₁, half₂, Halves, Thin,
 use Rattle.kernel.specs.declared.Outcome.the-variants.{Ran}
 use Rattle.kernel.specs.declared.Answer.{Answer}
 use Rattle.kernel.specs.Answer.{Run}
-use Rattle.kernel.specs.Passes.{Startable}
+use Rattle.kernel.specs.Passes.{Startable, RanBehind}
 use Rattle.kernel.proofs.Answer as An
 use Rattle.kernel.proofs.Answer.Laws as An′
 use Rattle.kernel.proofs.passes.run_from as run-from
@@ -173,8 +173,7 @@ module _ {M : Type 1} (𝓤 : URA M) (H : Heap 𝓤) (A : Atoms 𝓤) (W : Given
 
     -- what is heard of it: x and y are what it left in s and in w
     abbrev Heard : Slice → Slice → Answer → Type 0
-    Heard x y r =
-        (r .outcome ≡ Ran) × Run (t .now) state (members events) atoms (x .now) (y .now) r × (x .name ≡ n .slice) × (y .name ≡ k .slice)
+    Heard x y r = RanBehind (t .now) (s-thin .now) (members events) (w-thin .now) x y r
 
   -- what lending gives, and what the end of the loan gives back, where x was left in the local at block l
   abbrev S-lent : ℕ → Loan → Item 𝓤
@@ -263,12 +262,12 @@ module _ {M : Type 1} (𝓤 : URA M) (H : Heap 𝓤) (A : Atoms 𝓤) (W : Given
         -- _10 .. _0 from 14]: w's loan is ended
         move ! (2 ∷ 0 ∷ []) $ fjoin ! $ move ! (0 ∷ 9 ∷ 6 ∷ []) $
         use3 W (later (W-back l₆ (z .1 .1 .1 .0)))
-        (ends-thin u16 κw qw wγ wb wo l₆ 𝓤 H A W (named 2) (named 3) (named 4) atoms k (z .1 .1 .1 .0) (e .3) w-room) $
+        (ends-thin u16 κw qw wγ wb wo l₆ 𝓤 H A W (named 2) (named 3) (named 4) atoms k (z .1 .1 .1 .0) (e .same-row) w-room) $
         await ! tt $ split ! $ move ! (1 ∷ []) $ split ! $ feqL ! (λ w-long. split ! $
         -- [the atoms; κw; _6; …; n's second half; n's first; κt; the answer; …; the last s; what waits for s; …; …; _10 .. _0 from 13]: and s's
         move ! (5 ∷ 4 ∷ []) $ fjoin ! $ move ! (0 ∷ 9 ∷ 8 ∷ []) $
         use3 W (later (S-back l₅ (z .1 .0)))
-        (ends-thin u8 κs qs sγ sb so l₅ 𝓤 H A W (named 1) (named 1) (named 2) state n (z .1 .0) (e .2) s-room) $
+        (ends-thin u8 κs qs sγ sb so l₅ 𝓤 H A W (named 1) (named 1) (named 2) state n (z .1 .0) (e .same-state) s-room) $
         await ! tt $ split ! $ move ! (1 ∷ []) $ split ! $ feqL ! (λ s-long. split ! $
         -- [the state; κs; _5; the atoms; κw; _6; …; κt; the answer; …; …; …; _10 .. _0 from 12, of _6 and _5 the second item]
         -- return; what the locals hold is forgotten, and they are freed, _0 first
@@ -277,7 +276,7 @@ module _ {M : Type 1} (𝓤 : URA M) (H : Heap 𝓤) (A : Atoms 𝓤) (W : Given
         move ! (30 ∷ 31 ∷ []) $ free1 ! $ move ! (28 ∷ 29 ∷ []) $ free1 ! $ move ! (26 ∷ 27 ∷ []) $ free1 ! $ move ! (24 ∷ 25 ∷ []) $ free1 ! $
         move ! (22 ∷ 23 ∷ []) $ free1 ! $ move ! (2 ∷ 21 ∷ []) $ free1 ! $ move ! (4 ∷ 19 ∷ []) $ free1 ! $ move ! (16 ∷ 17 ∷ []) $ free1 ! $
         move ! (14 ∷ 15 ∷ []) $ free1 ! $ move ! (12 ∷ 13 ∷ []) $ free1 ! $ move ! (10 ∷ 11 ∷ []) $ free1 ! $ free0 ! $
-        keep ! (0 ∷ 1 ∷ 2 ∷ 3 ∷ 5 ∷ 6 ∷ []) $ by ! (exits r v (z .1 .0 .now) (z .1 .1 .1 .0 .now) (e .0, e .1) s-long w-long)))))))))))))))))))))
+        keep ! (0 ∷ 1 ∷ 2 ∷ 3 ∷ 5 ∷ 6 ∷ []) $ by ! (exits r v (z .1 .0 .now) (z .1 .1 .1 .0 .now) (e .outcome-is, e .run) s-long w-long)))))))))))))))))))))
 
 module _ {M : Type 1} (𝓤 : URA M) (H : Heap 𝓤) (A : Atoms 𝓤) (W : Given 𝓤 H A) (memory : Memory → SProp 𝓤) (run : Routine → Fun 𝓤) where
   -- the walk, at whatever is passed
