@@ -5,7 +5,7 @@
 --     Away         what the holder keeps while the call has the slice
 --     lends-on     the holder's slice and a share of its lifetime's token give the call's slice, of the same elements, and Away
 --     has-again    the call's lifetime is over, and its slice ended with ys: the holder's slice with ys, as many as before, and the token
-use mathlib.Core.Path.{_≡_, refl, sym, ap, subst, _∙_}
+use mathlib.Core.Path.{refl, sym, ap, subst, _∙_}
 use Prim.Native.Nat.{ℕ}
 use mathlib.Core.List.{List, [], _∷_}
 use lib.ListN.{length, length-map}

@@ -6,6 +6,7 @@
 --     Loan          the lifetime that is made for the call, the name of the call's slice and that of its reference to the local
 --     Lent          what the holder keeps while the call has the thin reference
 --     Halves        the lifetime's token, cut in two: one half for each of the reference's two lifetimes
+--     OnLoan, Back  what a walk has while the slice is lent, and when it is back
 --     lends-thin    the local with the slice in it, the slice and a share of its lifetime's token give the thin reference, Halves and Lent
 --     ends-thin     the halves are back, and the local's slice at the end has the name it got: the local, the holder's slice with what the
 --                   call left, as many elements as before, and the share of the token
@@ -21,7 +22,7 @@ use base.Logic.{SProp, ent, sep, ex}
 use base.Fml.{Lft, GName, Share, Fml, fsep, fat, feq, flft, fdead, fres, flent}
 use prog.Wp.{Heap}
 use ghost.Atoms.{Atoms, sem}
-use types.Kit.{Given, ‵, _⊛_, some, later, _$_, _∵_, !, qed, move, keep, use1, use2, use3, drop, split, pick, rewrite, fsplit, fjoin}
+use types.Kit.{Given, Item, ‵, _⊛_, some, later, _$_, _∵_, !, qed, move, keep, use1, use2, use3, drop, split, pick, rewrite, fsplit, fjoin}
 use types.Kit.{fpick, fpack, frame, await, updating, now as at-once, show, done}
 use types.Tokens.{lft-new, lft-end, name-done}
 use types.SemTy.{Body}
@@ -85,7 +86,6 @@ module _ (T : RattleType) (κ : Lft) (q : Share) (γ : GName) (b o l : ℕ) wher
     P ∗ Q = sep 𝓤 P Q
 
     infixr 35 _∗_
-
     -- what the machine holds of the slice
     abbrev pair : Val
     pair = sliceVal (b, o) (length xs)
@@ -104,6 +104,15 @@ module _ (T : RattleType) (κ : Lft) (q : Share) (γ : GName) (b o l : ℕ) wher
 
     abbrev Reference : Loan → Fml
     Reference n = Thin T ℓ₁ ℓ₂ n .own (thin n xs) (vptr l 0 ∷ [])
+
+    -- what a walk has while the slice is lent, and behind the call that left w in the local
+    abbrev pub OnLoan : Loan → Item 𝓤
+    OnLoan n = ‵ (Reference n) ⊛ (‵ (Halves n) ⊛ ‵ (Lent ℓ₂ n xs))
+
+    abbrev pub Back : RefT (List (T .Denot)) → Item 𝓤
+    Back w =
+        ‵ (Local (sliceVal (w .ptr) (length (w .now))))
+        ⊛ (‵ (feq ℕ (length (w .now)) (length xs)) ⊛ (‵ (Slice (w .now)) ⊛ ‵ (flft κ q)))
 
     pub lends-thin : ent 𝓤 (⟦ Local pair ⟧ ∗ ⟦ Slice xs ⟧ ∗ A .lft κ q)
         (H .⇛ (ex 𝓤 (λ (n : Loan). ⟦ Reference n ⟧ ∗ ⟦ Halves n ⟧ ∗ ⟦ Lent ℓ₂ n xs ⟧)))

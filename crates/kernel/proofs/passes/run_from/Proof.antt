@@ -3,9 +3,9 @@ use Rattle.kernel.proofs.passes.run_from.Statement.{statement}
 use Rattle.kernel.proofs.passes.run_from.Tie as tie
 use borrow.Author.Needs.{needs}
 use Prim.Native.Nat.{_+_, _-_, _/_}
-use mathlib.Core.Path.{_≡_, refl, _∙_}
+use mathlib.Core.Path.{_≡_, refl}
 use native.Mathlib.Omega.{arith}
-use lib.ListN.{length, length-set}
+use lib.ListN.{length}
 use Rattle.events.specs.Members.{places, marks}
 use Rattle.junior.specs.Term.{prog}
 use Rattle.junior.specs.Trace.{root}
