@@ -75,8 +75,8 @@ returns c =
     record {
       outcome-is = report .ensures .outcome-is;
       run = run-of (loop .inv .0) u ran STOP≢SUSP (ran .bytes) (report .ensures);
-      same-state = loop .inv .2;
-      same-row = loop .inv .3;
+      same-state = search needs;
+      same-row = search needs;
     }
 
 -- state[0] = 3;
@@ -99,8 +99,8 @@ returns-2 c =
     record {
       outcome-is = report2 .ensures .outcome-is;
       run = run-of (loop .inv .0) u ran TERM≢SUSP (marked-ended u ran) (report2 .ensures);
-      same-state = loop .inv .2;
-      same-row = loop .inv .3;
+      same-state = search needs;
+      same-row = search needs;
     }
 
 pub run-from-spec : {M : Type 1} → statement M
