@@ -1,23 +1,27 @@
--- Read as 000 writes terms, a rewriting is one by the printed rules, and an instant an instant by them.
+-- Read as 000 writes terms, a rewriting is one by the printed rules that does the same in the same order, and an instant an
+-- instant by them.
 use Prim.Native.Nat.{ℕ, zero, suc, _-_}
 use native.Mathlib.Numerals.{sub-one}
 use native.Mathlib.Omega.{arith}
 use mathlib.Core.Bool.{Bool, true, false}
-use mathlib.Core.Path.{_≡_, refl, ap, ap₂}
+use mathlib.Core.Path.{_≡_, refl, ap, ap₂, _∙_}
 use mathlib.Core.Logic.{_≢_, inl, inr}
+use mathlib.Core.List.{List, [], _∷_, _++_, append-nil}
 use Rattle.junior.specs.declared.Flag.{Flag}
 use Rattle.junior.specs.declared.Flag.the-variants.{SUSP, STOP, TERM}
-use Rattle.junior.specs.Configuration.{Env, with-event}
+use Rattle.junior.specs.declared.Verdict.the-variants.{Unknown}
+use Rattle.junior.specs.Configuration.{Env, with-event, verdict}
 use Rattle.junior.specs.Program.{Program}
 use Rattle.junior.specs.Term.{Term, local, prog, fresh, leave}
-use Rattle.junior.specs.Trace.{Place}
+use Rattle.junior.specs.Trace.{Place, Act, did-atom, did-generate, decided, waits, scope-answered}
 use Rattle.junior.specs.Rules.{Result, again, sign, Rewrites, r1, r1-on, r2, r3, r4, r4-on, r5, r8, r10, r11}
 use Rattle.junior.specs.Rules.{r12, r13, r4-loop, r5-loop, r14, r15, r4-repeat, r5-repeat, r16, r17, r17-on}
 use Rattle.junior.specs.Rules.{r18, r19, r19-on, r20, r21, r22, r23, r24, r25, r26, r27, r28, r29, r30, r31}
 use Rattle.junior.specs.Rules.{r31-on, r32, r33, r34, r35-39}
 use Rattle.junior.specs.Instant.{Instant, r47, r48, r49}
-use Rattle.junior.specs.Printed.{Abstract, Seq, Par, Repeat, Until, Control, Local-, leaves, tr, reads}
-use Rattle.junior.specs.Printed.{_∣_—[_]→_∣_, _∣_—[_]—_passes→_∣_, rule1, rule2, rule3, rule4, rule5, rule8}
+use Rattle.junior.specs.Printed.{Abstract, Seq, Par, Repeat, Until, Control, Local-, leaves, tr, reads, Deed}
+use Rattle.junior.specs.Printed.{does, generates, finds, deeds}
+use Rattle.junior.specs.Printed.{_∣_—[_doing_]→_∣_, _∣_—[_doing_]—_passes→_∣_, rule1, rule2, rule3, rule4, rule5, rule8}
 use Rattle.junior.specs.Printed.{rule10, rule11, rule12, rule13, rule14, rule15, rule16, rule17, rule18, rule19}
 use Rattle.junior.specs.Printed.{rule20, rule21, rule22, rule23, rule24, rule25, rule26, rule27, rule28, rule29}
 use Rattle.junior.specs.Printed.{rule30, rule31, rule32, rule33, rule34, rule35, rule36, rule37, rule38, rule39}
@@ -59,7 +63,8 @@ leaves-twice STOP t = refl
 leaves-twice TERM t = refl
 
 -- by the printed rules too, what answers TERM leaves Nothing
-pub leaves-nothing : {t t′ : Abstract} {E E′ : Env} {α : Flag} → t ∣ E —[ α ]→ t′ ∣ E′ → leaves α t′ ≡ t′
+pub leaves-nothing : {t t′ : Abstract} {E E′ : Env} {α : Flag} {l : List Deed} → t ∣ E —[ α doing l ]→ t′ ∣ E′
+    → leaves α t′ ≡ t′
 unfolding leaves
 leaves-nothing rule1 = refl
 leaves-nothing rule2 = refl
@@ -98,22 +103,36 @@ leaves-nothing (rule37 d) = refl
 leaves-nothing (rule38 d h) = rw leaves-twice
 leaves-nothing (rule39 d h) = rw leaves-twice
 
+deeds-++ : (l m : List Act) → deeds (l ++ m) ≡ deeds l ++ deeds m
+unfolding deeds
+deeds-++ [] m = refl
+deeds-++ (did-atom a ∷ l) m = ap (λ k. does a ∷ k) (deeds-++ l m)
+deeds-++ (did-generate s ∷ l) m = ap (λ k. generates s ∷ k) (deeds-++ l m)
+deeds-++ (decided P c b E ∷ l) m = ap (λ k. finds c (verdict true b) ∷ k) (deeds-++ l m)
+deeds-++ (waits P c E ∷ l) m = ap (λ k. finds c Unknown ∷ k) (deeds-++ l m)
+deeds-++ (scope-answered n α b ∷ l) m = deeds-++ l m
+
+-- that a scope answered is no deed
+deeds-scope : (l : List Act) (n : ℕ) (α : Flag) (b : Bool) → deeds (l ++ (scope-answered n α b ∷ [])) ≡ deeds l
+unfolding deeds
+deeds-scope l n α b = deeds-++ l _ ∙ append-nil (deeds l)
+
 -- what is left of a Repeat when k more runs are due answers as Repeat(k)
-runs-due : (n k : ℕ) (p : Program) {x : Abstract} {E F : Env} {α : Flag}
-    → reads (again n k p) ∣ E —[ α ]→ x ∣ F
-    → Repeat k (tr p) ∣ E —[ α ]→ x ∣ F
+runs-due : (n k : ℕ) (p : Program) {x : Abstract} {E F : Env} {α : Flag} {l : List Deed}
+    → reads (again n k p) ∣ E —[ α doing l ]→ x ∣ F
+    → Repeat k (tr p) ∣ E —[ α doing l ]→ x ∣ F
 unfolding reads
 runs-due n zero p rule1 = rule14 {n = 0} (omega arith)
-runs-due n (suc k) p {x} {E} {F} {α} d =
+runs-due n (suc k) p {x} {E} {F} {α} {l} d =
     let e = simp (reads-fresh p, prog-fresh p) at d in
-    let e′ : Seq (tr p) (Repeat (suc k - 1) (tr p)) ∣ E —[ α ]→ x ∣ F = rw sub-one e in
+    let e′ : Seq (tr p) (Repeat (suc k - 1) (tr p)) ∣ E —[ α doing l ]→ x ∣ F = rw sub-one e in
     rule15 {n = suc k} (omega arith) e′
 
 -- rules 35 to 39, by sign, flag and whether the event is present
-scope-as-printed : (b : Bool) (α : Flag) (present : Bool) (s : ℕ) (t t′ : Term) {E F : Env}
+scope-as-printed : (b : Bool) (α : Flag) (present : Bool) (s : ℕ) (t t′ : Term) {E F : Env} {l : List Deed}
     → F .now s ≡ present
-    → reads t ∣ with-event s b E —[ α ]→ reads t′ ∣ F
-    → reads (local b s t) ∣ E —[ α ]→ reads (leave α (local (sign b α present) s t′)) ∣ with-event s (E .now s) F
+    → reads t ∣ with-event s b E —[ α doing l ]→ reads t′ ∣ F
+    → reads (local b s t) ∣ E —[ α doing l ]→ reads (leave α (local (sign b α present) s t′)) ∣ with-event s (E .now s) F
 unfolding reads leave leaves
 scope-as-printed false SUSP false s t t′ h d = rule35 d h
 scope-as-printed false SUSP true s t t′ h d = rule36 d h
@@ -125,27 +144,28 @@ scope-as-printed true TERM present s t t′ h d = rule39 d (inl refl)
 
 pub as-printed : {P : Place} {t : Term} {E : Env} {r : Result}
     → Rewrites ⊥ P t E r
-    → reads t ∣ E —[ r .flag ]→ reads (r .to) ∣ r .env
-unfolding reads
+    → reads t ∣ E —[ r .flag doing deeds (r .acts) ]→ reads (r .to) ∣ r .env
+unfolding reads deeds
 as-printed r1 = rule1
 as-printed r1-on = rule1
 as-printed r2 = rule2
 as-printed r3 = rule3
 as-printed (r4 d e) =
-    rw (reads-leave, leaves-nothing (as-printed e)) (rule4 (as-printed d) (rw reads-fresh at (as-printed e)))
+    rw (deeds-++, reads-leave, leaves-nothing (as-printed e)) (rule4 (as-printed d) (rw reads-fresh at (as-printed e)))
 as-printed (r4-on d) = rw (reads-leave, leaves-nothing (as-printed d)) (as-printed d)
 as-printed (r5 d h) = rw (reads-leave, leaves-on) (rule5 (as-printed d) h)
-as-printed (r8 d e) = rw reads-leave (rule8 (as-printed d) (as-printed e))
+as-printed (r8 d e) = rw (deeds-++, reads-leave) (rule8 (as-printed d) (as-printed e))
 as-printed (r10 h d) = rw reads-leave (rule10 h (as-printed d))
 as-printed (r11 h d) = rw reads-leave (rule11 h (as-printed d))
 as-printed (r12 d h) =
     rw (reads-leave, leaves-on, kept d, prog-fresh) (rule12 (rw reads-fresh at (as-printed d)) h)
-as-printed (r13 d e) = rule13 (rw reads-fresh at (as-printed d)) (as-printed e)
-as-printed (r4-loop d e) = rule4 (as-printed d) (as-printed e)
+as-printed (r13 d e) = rw deeds-++ (rule13 (rw reads-fresh at (as-printed d)) (as-printed e))
+as-printed (r4-loop d e) = rw deeds-++ (rule4 (as-printed d) (as-printed e))
 as-printed (r5-loop d h) = rw (reads-leave, leaves-on, kept d) (rule5 (as-printed d) h)
 as-printed r14 = rule14 {n = 0} (omega arith)
 as-printed (r15 {n = n} {p = p} d) = runs-due (suc n) (suc n) p (as-printed d)
-as-printed (r4-repeat {n = n} {k = k} {t = t} d e) = rule4 (as-printed d) (runs-due n k (prog t) (as-printed e))
+as-printed (r4-repeat {n = n} {k = k} {t = t} d e) =
+    rw deeds-++ (rule4 (as-printed d) (runs-due n k (prog t) (as-printed e)))
 as-printed (r5-repeat d h) = rw (reads-leave, leaves-on, kept d) (rule5 (as-printed d) h)
 as-printed r16 = rule16
 as-printed (r17 s h d) =
@@ -165,7 +185,7 @@ as-printed (r26 s d) = rw reads-leave (rule26 s (as-printed d))
 as-printed (r27 s) = rule27 s
 as-printed (r28 s) = rule28 s
 as-printed (r29 d h) = rw reads-leave (rule29 (as-printed d) h)
-as-printed (r30 d e) = rule30 (as-printed d) (as-printed e)
+as-printed (r30 d e) = rw deeds-++ (rule30 (as-printed d) (as-printed e))
 as-printed (r31 s h d) =
     rw (reads-leave, leaves-nothing (as-printed d)) (rule31 s h (rw reads-fresh at (as-printed d)))
 as-printed (r31-on d) = rw (reads-leave, leaves-nothing (as-printed d)) (as-printed d)
@@ -173,11 +193,11 @@ as-printed (r32 s h) = rw reads-fresh (rule32 s h)
 as-printed (r33 s) = rule33 s
 as-printed (r34 s) = rule34 s
 as-printed (r35-39 {b = b} {s = s} {t = t} {r = r} d) =
-    scope-as-printed b (r .flag) (r .env .now s) s t (r .to) refl (as-printed d)
+    rw deeds-scope (scope-as-printed b (r .flag) (r .env .now s) s t (r .to) refl (as-printed d))
 
 pub instant-as-printed : {t : Term} {E : Env} {n : ℕ} {r : Result}
     → Instant ⊥ t E n r
-    → reads t ∣ E —[ r .flag ]— n passes→ reads (r .to) ∣ r .env
+    → reads t ∣ E —[ r .flag doing deeds (r .acts) ]— n passes→ reads (r .to) ∣ r .env
 instant-as-printed (r47 d h) = rule47 (as-printed d) h
-instant-as-printed (r48 d f m i) = rule48 (rw f at (as-printed d)) m (instant-as-printed i)
-instant-as-printed (r49 d f m i) = rule49 (rw f at (as-printed d)) m (instant-as-printed i)
+instant-as-printed (r48 d f m i) = rw deeds-++ (rule48 (rw f at (as-printed d)) m (instant-as-printed i))
+instant-as-printed (r49 d f m i) = rw deeds-++ (rule49 (rw f at (as-printed d)) m (instant-as-printed i))

@@ -1,18 +1,23 @@
 -- 000's own terms and rules, to be held beside 000: as printed, but where a comment tells what 01, "Rules of a pass",
--- settles. Below them, how a program translates (000, 2.2) and how a state reads (01, "State").
+-- settles. Below them, how a program translates (000, 2.2), how a state reads (01, "State") and what a trace does.
+-- Not here: Freezable, which 01 leaves for later (its terms, its table in E, rules 40 to 45).
 use Prim.Native.Nat.{ℕ, suc, _-_, _≤_, _<_}
 use mathlib.Core.Bool.{true, false}
 use mathlib.Core.Path.{_≡_}
 use mathlib.Core.Logic.{_≢_, _⊎_}
+use mathlib.Core.List.{List, [], _∷_, _++_}
 use Rattle.junior.specs.declared.Flag.{Flag}
 use Rattle.junior.specs.declared.Flag.the-variants.{SUSP, STOP, TERM}
+use Rattle.junior.specs.declared.Verdict.{Verdict}
+use Rattle.junior.specs.declared.Verdict.the-variants.{Sat, Unsat, Unknown}
 use Rattle.junior.specs.Flags.{γ, δ₁, δ₂}
 use Rattle.junior.specs.Configuration.{Config, Event, Env, with-event, generated, declared-end, unmoved}
-use Rattle.junior.specs.Configuration.{sat, unsat, unknown}
+use Rattle.junior.specs.Configuration.{verdict, sat, unsat, unknown}
 use Rattle.junior.specs.Program.{Program}
 use Rattle.junior.specs.Term.{Term, done, nothing, stop, atom, generate, await, seq0, seq2, par, loop0, loop1}
 use Rattle.junior.specs.Term.{repeat0, repeat1, when0, when1, when2, until0, until*, until2, control, local}
 use Rattle.junior.specs.Term.{prog}
+use Rattle.junior.specs.Trace.{Act, did-atom, did-generate, decided, waits, scope-answered}
 
 -- terms (2.1)
 pub data Abstract : Type 0 where
@@ -33,88 +38,120 @@ leaves SUSP t = t
 leaves STOP t = t
 leaves TERM t = Nothing
 
--- t, E —α→ t′, E′ (2.3)
-infix 4 _∣_—[_]→_∣_
-pub data _∣_—[_]→_∣_ : Abstract → Env → Flag → Abstract → Env → Type 0 where
-  rule1 : {E : Env} → Nothing ∣ E —[ TERM ]→ Nothing ∣ E
-  rule2 : {E : Env} → Stop ∣ E —[ STOP ]→ Nothing ∣ E
-  rule3 : {E : Env} {a : ℕ} → Atom a ∣ E —[ TERM ]→ Nothing ∣ E
-  rule4 : {t t′ u u′ : Abstract} {E E′ E″ : Env} {α : Flag}
-      → t ∣ E —[ TERM ]→ t′ ∣ E′ → u ∣ E′ —[ α ]→ u′ ∣ E″ → Seq t u ∣ E —[ α ]→ u′ ∣ E″
-  rule5 : {t t′ u : Abstract} {E E′ : Env} {α : Flag}
-      → t ∣ E —[ α ]→ t′ ∣ E′ → α ≢ TERM → Seq t u ∣ E —[ α ]→ Seq t′ u ∣ E′
-  -- 01: with both flags SUSP this rule only, not 6, 7 or 9
-  rule8 : {t t′ u u′ : Abstract} {E E′ E″ : Env} {α β : Flag}
-      → t ∣ E —[ α ]→ t′ ∣ E′ → u ∣ E′ —[ β ]→ u′ ∣ E″
-      → Par SUSP SUSP t u ∣ E —[ γ α β ]→ leaves (γ α β) (Par (δ₁ α β) (δ₂ α β) t′ u′) ∣ E″
-  rule10 : {t t′ u : Abstract} {E E′ : Env} {α β : Flag}
-      → β ≢ SUSP → t ∣ E —[ α ]→ t′ ∣ E′
-      → Par SUSP β t u ∣ E —[ γ α β ]→ leaves (γ α β) (Par (δ₁ α β) (δ₂ α β) t′ u) ∣ E′
-  rule11 : {t u u′ : Abstract} {E E′ : Env} {α β : Flag}
-      → α ≢ SUSP → u ∣ E —[ β ]→ u′ ∣ E′
-      → Par α SUSP t u ∣ E —[ γ α β ]→ leaves (γ α β) (Par (δ₁ α β) (δ₂ α β) t u′) ∣ E′
-  rule12 : {t t′ : Abstract} {E E′ : Env} {α : Flag}
-      → t ∣ E —[ α ]→ t′ ∣ E′ → α ≢ TERM → Loop t ∣ E —[ α ]→ Seq t′ (Loop t) ∣ E′
-  -- its second premise is in E′ (001; 000 prints E)
-  rule13 : {t t′ u : Abstract} {E E′ E″ : Env} {α : Flag}
-      → t ∣ E —[ TERM ]→ t′ ∣ E′ → Loop t ∣ E′ —[ α ]→ u ∣ E″ → Loop t ∣ E —[ α ]→ u ∣ E″
-  rule14 : {t : Abstract} {E : Env} {n : ℕ} → n ≤ 0 → Repeat n t ∣ E —[ TERM ]→ Nothing ∣ E
-  rule15 : {t u : Abstract} {E E′ : Env} {n : ℕ} {α : Flag}
-      → 0 < n → Seq t (Repeat (n - 1) t) ∣ E —[ α ]→ u ∣ E′ → Repeat n t ∣ E —[ α ]→ u ∣ E′
-  rule16 : {E : Env} {s : ℕ} → Generate s ∣ E —[ TERM ]→ Nothing ∣ generated s E
-  rule17 : {c : Config} {t t′ u : Abstract} {E E′ : Env} {α : Flag}
-      → sat c E → E .eoi ≡ false → t ∣ E —[ α ]→ t′ ∣ E′ → When c t u ∣ E —[ α ]→ t′ ∣ E′
-  rule18 : {c : Config} {t u : Abstract} {E : Env} → sat c E → E .eoi ≡ true → When c t u ∣ E —[ STOP ]→ t ∣ E
-  rule19 : {c : Config} {t u u′ : Abstract} {E E′ : Env} {α : Flag}
-      → unsat c E → E .eoi ≡ false → u ∣ E —[ α ]→ u′ ∣ E′ → When c t u ∣ E —[ α ]→ u′ ∣ E′
-  rule20 : {c : Config} {t u : Abstract} {E : Env} → unsat c E → E .eoi ≡ true → When c t u ∣ E —[ STOP ]→ u ∣ E
-  rule21 : {c : Config} {t u : Abstract} {E : Env} → unknown c E → When c t u ∣ E —[ SUSP ]→ When c t u ∣ E
-  rule22 : {c : Config} {E : Env} → sat c E → E .eoi ≡ false → Await c ∣ E —[ TERM ]→ Nothing ∣ E
-  rule23 : {c : Config} {E : Env} → sat c E → E .eoi ≡ true → Await c ∣ E —[ STOP ]→ Nothing ∣ E
-  rule24 : {c : Config} {E : Env} → unsat c E → Await c ∣ E —[ STOP ]→ Await c ∣ E
-  rule25 : {c : Config} {E : Env} → unknown c E → Await c ∣ E —[ SUSP ]→ Await c ∣ E
-  -- 01: it keeps the body's environment (001; 000 prints E)
-  rule26 : {s : ℕ} {t t′ : Abstract} {E E′ : Env} {α : Flag}
-      → sat (Event s) E → t ∣ E —[ α ]→ t′ ∣ E′ → Control s t ∣ E —[ α ]→ leaves α (Control s t′) ∣ E′
-  rule27 : {s : ℕ} {t : Abstract} {E : Env} → unsat (Event s) E → Control s t ∣ E —[ STOP ]→ Control s t ∣ E
-  rule28 : {s : ℕ} {t : Abstract} {E : Env} → unknown (Event s) E → Control s t ∣ E —[ SUSP ]→ Control s t ∣ E
-  rule29 : {c : Config} {t t′ u : Abstract} {E E′ : Env} {α : Flag}
-      → t ∣ E —[ α ]→ t′ ∣ E′ → α ≢ STOP → Until c t u ∣ E —[ α ]→ leaves α (Until c t′ u) ∣ E′
-  rule30 : {c : Config} {t t′ u v : Abstract} {E E′ E″ : Env} {α : Flag}
-      → t ∣ E —[ STOP ]→ t′ ∣ E′ → Until* c t′ u ∣ E′ —[ α ]→ v ∣ E″ → Until c t u ∣ E —[ α ]→ v ∣ E″
-  rule31 : {c : Config} {t u u′ : Abstract} {E E′ : Env} {α : Flag}
-      → sat c E → E .eoi ≡ false → u ∣ E —[ α ]→ u′ ∣ E′ → Until* c t u ∣ E —[ α ]→ u′ ∣ E′
-  rule32 : {c : Config} {t u : Abstract} {E : Env} → sat c E → E .eoi ≡ true → Until* c t u ∣ E —[ STOP ]→ u ∣ E
-  -- 01: whether or not the end is declared (001; 000 adds eoi(E) = true)
-  rule33 : {c : Config} {t u : Abstract} {E : Env} → unsat c E → Until* c t u ∣ E —[ STOP ]→ Until c t u ∣ E
-  rule34 : {c : Config} {t u : Abstract} {E : Env} → unknown c E → Until* c t u ∣ E —[ SUSP ]→ Until* c t u ∣ E
-  rule35 : {s : ℕ} {t t′ : Abstract} {E E′ : Env}
-      → t ∣ with-event s false E —[ SUSP ]→ t′ ∣ E′ → E′ .now s ≡ false
-      → Local- s t ∣ E —[ SUSP ]→ Local- s t′ ∣ with-event s (E .now s) E′
-  rule36 : {s : ℕ} {t t′ : Abstract} {E E′ : Env}
-      → t ∣ with-event s false E —[ SUSP ]→ t′ ∣ E′ → E′ .now s ≡ true
-      → Local- s t ∣ E —[ SUSP ]→ Local+ s t′ ∣ with-event s (E .now s) E′
-  rule37 : {s : ℕ} {t t′ : Abstract} {E E′ : Env}
-      → t ∣ with-event s true E —[ SUSP ]→ t′ ∣ E′
-      → Local+ s t ∣ E —[ SUSP ]→ Local+ s t′ ∣ with-event s (E .now s) E′
-  rule38 : {s : ℕ} {t t′ : Abstract} {E E′ : Env} {α : Flag}
-      → t ∣ with-event s false E —[ α ]→ t′ ∣ E′ → (α ≡ TERM) ⊎ (α ≡ STOP)
-      → Local- s t ∣ E —[ α ]→ leaves α (Local- s t′) ∣ with-event s (E .now s) E′
-  rule39 : {s : ℕ} {t t′ : Abstract} {E E′ : Env} {α : Flag}
-      → t ∣ with-event s true E —[ α ]→ t′ ∣ E′ → (α ≡ TERM) ⊎ (α ≡ STOP)
-      → Local+ s t ∣ E —[ α ]→ leaves α (Local- s t′) ∣ with-event s (E .now s) E′
+-- what a rule does: it executes an action (rule 3, "with the side-effect of executing atomically action a"), generates an
+-- event (rule 16), or reads a configuration and finds it sat, unsat or unknown (every rule with such a premise)
+pub data Deed : Type 0 where
+  does generates : ℕ → Deed
+  finds : Config → Verdict → Deed
 
--- Instant(t), E —α→ Instant(t′), E′ (5.2), with the number of its passes
-infix 4 _∣_—[_]—_passes→_∣_
-pub data _∣_—[_]—_passes→_∣_ : Abstract → Env → Flag → ℕ → Abstract → Env → Type 0 where
-  rule47 : {t t′ : Abstract} {E E′ : Env} {α : Flag}
-      → t ∣ E —[ α ]→ t′ ∣ E′ → α ≢ SUSP → t ∣ E —[ α ]— 1 passes→ t′ ∣ E′
-  rule48 : {t t′ u : Abstract} {E E′ E″ : Env} {α : Flag} {n : ℕ}
-      → t ∣ E —[ SUSP ]→ t′ ∣ E′ → E′ .move ≡ false → t′ ∣ declared-end E′ —[ α ]— n passes→ u ∣ E″
-      → t ∣ E —[ α ]— suc n passes→ u ∣ E″
-  rule49 : {t t′ u : Abstract} {E E′ E″ : Env} {α : Flag} {n : ℕ}
-      → t ∣ E —[ SUSP ]→ t′ ∣ E′ → E′ .move ≡ true → t′ ∣ unmoved E′ —[ α ]— n passes→ u ∣ E″
-      → t ∣ E —[ α ]— suc n passes→ u ∣ E″
+-- t, E —α→ t′, E′ (2.3), doing l, in order
+infix 4 _∣_—[_doing_]→_∣_
+pub data _∣_—[_doing_]→_∣_ : Abstract → Env → Flag → List Deed → Abstract → Env → Type 0 where
+  rule1 : {E : Env} → Nothing ∣ E —[ TERM doing [] ]→ Nothing ∣ E
+  rule2 : {E : Env} → Stop ∣ E —[ STOP doing [] ]→ Nothing ∣ E
+  rule3 : {E : Env} {a : ℕ} → Atom a ∣ E —[ TERM doing does a ∷ [] ]→ Nothing ∣ E
+  rule4 : {t t′ u u′ : Abstract} {E E′ E″ : Env} {α : Flag} {k l : List Deed}
+      → t ∣ E —[ TERM doing k ]→ t′ ∣ E′ → u ∣ E′ —[ α doing l ]→ u′ ∣ E″
+      → Seq t u ∣ E —[ α doing k ++ l ]→ u′ ∣ E″
+  rule5 : {t t′ u : Abstract} {E E′ : Env} {α : Flag} {l : List Deed}
+      → t ∣ E —[ α doing l ]→ t′ ∣ E′ → α ≢ TERM → Seq t u ∣ E —[ α doing l ]→ Seq t′ u ∣ E′
+  -- 01: with both flags SUSP this rule only. Rules 6 and 7, which run one branch, are never taken; rule 9, the second
+  -- branch first, isn't either (`Rewrites` has it as a parameter, for a later request)
+  rule8 : {t t′ u u′ : Abstract} {E E′ E″ : Env} {α β : Flag} {k l : List Deed}
+      → t ∣ E —[ α doing k ]→ t′ ∣ E′ → u ∣ E′ —[ β doing l ]→ u′ ∣ E″
+      → Par SUSP SUSP t u ∣ E —[ γ α β doing k ++ l ]→ leaves (γ α β) (Par (δ₁ α β) (δ₂ α β) t′ u′) ∣ E″
+  rule10 : {t t′ u : Abstract} {E E′ : Env} {α β : Flag} {l : List Deed}
+      → β ≢ SUSP → t ∣ E —[ α doing l ]→ t′ ∣ E′
+      → Par SUSP β t u ∣ E —[ γ α β doing l ]→ leaves (γ α β) (Par (δ₁ α β) (δ₂ α β) t′ u) ∣ E′
+  rule11 : {t u u′ : Abstract} {E E′ : Env} {α β : Flag} {l : List Deed}
+      → α ≢ SUSP → u ∣ E —[ β doing l ]→ u′ ∣ E′
+      → Par α SUSP t u ∣ E —[ γ α β doing l ]→ leaves (γ α β) (Par (δ₁ α β) (δ₂ α β) t u′) ∣ E′
+  rule12 : {t t′ : Abstract} {E E′ : Env} {α : Flag} {l : List Deed}
+      → t ∣ E —[ α doing l ]→ t′ ∣ E′ → α ≢ TERM → Loop t ∣ E —[ α doing l ]→ Seq t′ (Loop t) ∣ E′
+  -- its second premise is in E′ (001; 000 prints E)
+  rule13 : {t t′ u : Abstract} {E E′ E″ : Env} {α : Flag} {k l : List Deed}
+      → t ∣ E —[ TERM doing k ]→ t′ ∣ E′ → Loop t ∣ E′ —[ α doing l ]→ u ∣ E″
+      → Loop t ∣ E —[ α doing k ++ l ]→ u ∣ E″
+  rule14 : {t : Abstract} {E : Env} {n : ℕ} → n ≤ 0 → Repeat n t ∣ E —[ TERM doing [] ]→ Nothing ∣ E
+  rule15 : {t u : Abstract} {E E′ : Env} {n : ℕ} {α : Flag} {l : List Deed}
+      → 0 < n → Seq t (Repeat (n - 1) t) ∣ E —[ α doing l ]→ u ∣ E′ → Repeat n t ∣ E —[ α doing l ]→ u ∣ E′
+  rule16 : {E : Env} {s : ℕ} → Generate s ∣ E —[ TERM doing generates s ∷ [] ]→ Nothing ∣ generated s E
+  rule17 : {c : Config} {t t′ u : Abstract} {E E′ : Env} {α : Flag} {l : List Deed}
+      → sat c E → E .eoi ≡ false → t ∣ E —[ α doing l ]→ t′ ∣ E′
+      → When c t u ∣ E —[ α doing finds c Sat ∷ l ]→ t′ ∣ E′
+  rule18 : {c : Config} {t u : Abstract} {E : Env}
+      → sat c E → E .eoi ≡ true → When c t u ∣ E —[ STOP doing finds c Sat ∷ [] ]→ t ∣ E
+  rule19 : {c : Config} {t u u′ : Abstract} {E E′ : Env} {α : Flag} {l : List Deed}
+      → unsat c E → E .eoi ≡ false → u ∣ E —[ α doing l ]→ u′ ∣ E′
+      → When c t u ∣ E —[ α doing finds c Unsat ∷ l ]→ u′ ∣ E′
+  rule20 : {c : Config} {t u : Abstract} {E : Env}
+      → unsat c E → E .eoi ≡ true → When c t u ∣ E —[ STOP doing finds c Unsat ∷ [] ]→ u ∣ E
+  rule21 : {c : Config} {t u : Abstract} {E : Env}
+      → unknown c E → When c t u ∣ E —[ SUSP doing finds c Unknown ∷ [] ]→ When c t u ∣ E
+  rule22 : {c : Config} {E : Env}
+      → sat c E → E .eoi ≡ false → Await c ∣ E —[ TERM doing finds c Sat ∷ [] ]→ Nothing ∣ E
+  rule23 : {c : Config} {E : Env}
+      → sat c E → E .eoi ≡ true → Await c ∣ E —[ STOP doing finds c Sat ∷ [] ]→ Nothing ∣ E
+  rule24 : {c : Config} {E : Env} → unsat c E → Await c ∣ E —[ STOP doing finds c Unsat ∷ [] ]→ Await c ∣ E
+  rule25 : {c : Config} {E : Env} → unknown c E → Await c ∣ E —[ SUSP doing finds c Unknown ∷ [] ]→ Await c ∣ E
+  -- 01: it keeps the body's environment (001; 000 prints E)
+  rule26 : {s : ℕ} {t t′ : Abstract} {E E′ : Env} {α : Flag} {l : List Deed}
+      → sat (Event s) E → t ∣ E —[ α doing l ]→ t′ ∣ E′
+      → Control s t ∣ E —[ α doing finds (Event s) Sat ∷ l ]→ leaves α (Control s t′) ∣ E′
+  rule27 : {s : ℕ} {t : Abstract} {E : Env}
+      → unsat (Event s) E → Control s t ∣ E —[ STOP doing finds (Event s) Unsat ∷ [] ]→ Control s t ∣ E
+  rule28 : {s : ℕ} {t : Abstract} {E : Env}
+      → unknown (Event s) E → Control s t ∣ E —[ SUSP doing finds (Event s) Unknown ∷ [] ]→ Control s t ∣ E
+  rule29 : {c : Config} {t t′ u : Abstract} {E E′ : Env} {α : Flag} {l : List Deed}
+      → t ∣ E —[ α doing l ]→ t′ ∣ E′ → α ≢ STOP → Until c t u ∣ E —[ α doing l ]→ leaves α (Until c t′ u) ∣ E′
+  rule30 : {c : Config} {t t′ u v : Abstract} {E E′ E″ : Env} {α : Flag} {k l : List Deed}
+      → t ∣ E —[ STOP doing k ]→ t′ ∣ E′ → Until* c t′ u ∣ E′ —[ α doing l ]→ v ∣ E″
+      → Until c t u ∣ E —[ α doing k ++ l ]→ v ∣ E″
+  rule31 : {c : Config} {t u u′ : Abstract} {E E′ : Env} {α : Flag} {l : List Deed}
+      → sat c E → E .eoi ≡ false → u ∣ E —[ α doing l ]→ u′ ∣ E′
+      → Until* c t u ∣ E —[ α doing finds c Sat ∷ l ]→ u′ ∣ E′
+  rule32 : {c : Config} {t u : Abstract} {E : Env}
+      → sat c E → E .eoi ≡ true → Until* c t u ∣ E —[ STOP doing finds c Sat ∷ [] ]→ u ∣ E
+  -- 01: whether or not the end is declared (001; 000 adds eoi(E) = true)
+  rule33 : {c : Config} {t u : Abstract} {E : Env}
+      → unsat c E → Until* c t u ∣ E —[ STOP doing finds c Unsat ∷ [] ]→ Until c t u ∣ E
+  rule34 : {c : Config} {t u : Abstract} {E : Env}
+      → unknown c E → Until* c t u ∣ E —[ SUSP doing finds c Unknown ∷ [] ]→ Until* c t u ∣ E
+  rule35 : {s : ℕ} {t t′ : Abstract} {E E′ : Env} {l : List Deed}
+      → t ∣ with-event s false E —[ SUSP doing l ]→ t′ ∣ E′ → E′ .now s ≡ false
+      → Local- s t ∣ E —[ SUSP doing l ]→ Local- s t′ ∣ with-event s (E .now s) E′
+  rule36 : {s : ℕ} {t t′ : Abstract} {E E′ : Env} {l : List Deed}
+      → t ∣ with-event s false E —[ SUSP doing l ]→ t′ ∣ E′ → E′ .now s ≡ true
+      → Local- s t ∣ E —[ SUSP doing l ]→ Local+ s t′ ∣ with-event s (E .now s) E′
+  rule37 : {s : ℕ} {t t′ : Abstract} {E E′ : Env} {l : List Deed}
+      → t ∣ with-event s true E —[ SUSP doing l ]→ t′ ∣ E′
+      → Local+ s t ∣ E —[ SUSP doing l ]→ Local+ s t′ ∣ with-event s (E .now s) E′
+  rule38 : {s : ℕ} {t t′ : Abstract} {E E′ : Env} {α : Flag} {l : List Deed}
+      → t ∣ with-event s false E —[ α doing l ]→ t′ ∣ E′ → (α ≡ TERM) ⊎ (α ≡ STOP)
+      → Local- s t ∣ E —[ α doing l ]→ leaves α (Local- s t′) ∣ with-event s (E .now s) E′
+  rule39 : {s : ℕ} {t t′ : Abstract} {E E′ : Env} {α : Flag} {l : List Deed}
+      → t ∣ with-event s true E —[ α doing l ]→ t′ ∣ E′ → (α ≡ TERM) ⊎ (α ≡ STOP)
+      → Local+ s t ∣ E —[ α doing l ]→ leaves α (Local- s t′) ∣ with-event s (E .now s) E′
+
+-- Instant(t), E —α→ Instant(t′), E′ (5.2; 000 leaves out E before the arrow), doing what all its passes do, with their
+-- number. Rule 46 runs it from an environment without events: 01 hands events in, and b is its `finished`.
+infix 4 _∣_—[_doing_]—_passes→_∣_
+pub data _∣_—[_doing_]—_passes→_∣_ : Abstract → Env → Flag → List Deed → ℕ → Abstract → Env → Type 0 where
+  rule47 : {t t′ : Abstract} {E E′ : Env} {α : Flag} {l : List Deed}
+      → t ∣ E —[ α doing l ]→ t′ ∣ E′ → α ≢ SUSP → t ∣ E —[ α doing l ]— 1 passes→ t′ ∣ E′
+  rule48 : {t t′ u : Abstract} {E E′ E″ : Env} {α : Flag} {n : ℕ} {k l : List Deed}
+      → t ∣ E —[ SUSP doing k ]→ t′ ∣ E′ → E′ .move ≡ false → t′ ∣ declared-end E′ —[ α doing l ]— n passes→ u ∣ E″
+      → t ∣ E —[ α doing k ++ l ]— suc n passes→ u ∣ E″
+  rule49 : {t t′ u : Abstract} {E E′ E″ : Env} {α : Flag} {n : ℕ} {k l : List Deed}
+      → t ∣ E —[ SUSP doing k ]→ t′ ∣ E′ → E′ .move ≡ true → t′ ∣ unmoved E′ —[ α doing l ]— n passes→ u ∣ E″
+      → t ∣ E —[ α doing k ++ l ]— suc n passes→ u ∣ E″
+
+-- the actions among the deeds
+unfoldable pub actions : List Deed → List ℕ
+actions [] = []
+actions (does a ∷ l) = a ∷ actions l
+actions (generates s ∷ l) = actions l
+actions (finds c v ∷ l) = actions l
 
 -- translation (2.2)
 unfoldable pub tr : Program → Abstract
@@ -156,3 +193,12 @@ reads (until2 c p t) = reads t
 reads (control s t) = Control s (reads t)
 reads (local false s t) = Local- s (reads t)
 reads (local true s t) = Local+ s (reads t)
+
+-- what a trace does: places, environments and the answers of scopes are not 000's
+unfoldable pub deeds : List Act → List Deed
+deeds [] = []
+deeds (did-atom a ∷ l) = does a ∷ deeds l
+deeds (did-generate s ∷ l) = generates s ∷ deeds l
+deeds (decided P c b E ∷ l) = finds c (verdict true b) ∷ deeds l
+deeds (waits P c E ∷ l) = finds c Unknown ∷ deeds l
+deeds (scope-answered n α b ∷ l) = deeds l
