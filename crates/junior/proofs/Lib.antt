@@ -18,4 +18,5 @@ pub mod Visits
 pub mod Counted
 pub mod Bench
 pub mod AsPrinted
+pub mod PrintedOnce
 pub mod Demand3
