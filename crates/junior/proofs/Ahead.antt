@@ -19,7 +19,7 @@ use Rattle.junior.specs.Course.{_⊆_}
 use Rattle.junior.specs.Decided.{last-status, last-answers, by-scope, finished}
 use Rattle.junior.proofs.Verdicts.{CanCome, lasts, larger, as-it-is}
 use Rattle.junior.proofs.Grows.{grows, end-kept, quiet-unchanged}
-use Rattle.junior.proofs.Scopes.{status-own, status-elsewhere, between}
+use Rattle.junior.proofs.Scopes.{status-own, status-elsewhere, between, elsewhere}
 
 -- the scopes that a place names stand around it
 pub record Around (P : Place) : Type 0 where
@@ -83,7 +83,7 @@ pub earlier : {free : Type 0} {P : Place} {t : Term} {E : Env} {r : Result} (F :
     → Ahead (r .env) (finished F (last-answers k) P)
     → Ahead E (finished F (last-answers (r .acts ++ k)) P)
 earlier {r = r} F k d c a =
-    let e = finished-same F _ (last-answers (r .acts ++ k)) c (λ n h. between d .elsewhere k n (omega arith)) in
+    let e = finished-same F _ (last-answers (r .acts ++ k)) c (λ n h. elsewhere (between d) k n (omega arith)) in
     rw e (back d a)
 
 -- in the Local at P of s whose body answered α in G: from what is ahead outside, what was ahead inside

@@ -25,7 +25,7 @@ use Rattle.junior.proofs.Grows.{grows, end-kept, unchanged}
 use Rattle.junior.proofs.End.{ended, idle-once-ended}
 use Rattle.junior.proofs.Going.{Going, Stand, stands, rest-going, fresh-going, going-more, again-going}
 use Rattle.junior.proofs.Going.{over-rest, stand-more, Controlled, stopped-rest}
-use Rattle.junior.proofs.Scopes.{between, Open, rest-open, open-apart, part-open, branches-open, body-open}
+use Rattle.junior.proofs.Scopes.{between, elsewhere, Open, rest-open, open-apart, part-open, branches-open, body-open}
 use Rattle.junior.proofs.Ahead.{Around, around-root, further, around-body, Ahead, told, back, earlier}
 use Rattle.junior.proofs.Ahead.{ahead-inside}
 
@@ -164,7 +164,7 @@ module _ (F : Events) where
       let (p, o) = body-open (r .flag) (r .env .now) b (r .env .now s) s (r .to) (P .node) _ (stands d g) (h .1) in
       let a′ = ahead-inside F (r .flag) (r .env) s (E .now s) _ c (λ e. ended d (sym (end-kept d) ∙ e)) p a in
       let y = pass-right (m ++ k) d (around-body s c) g a′ (h .0, o) in
-      let own = between d .elsewhere (m ++ k) (P .node) (omega arith) in
+      let own = elsewhere (between d) (m ++ k) (P .node) (omega arith) in
       rw (append-assoc (r .acts) m k) (y .0, (λ e. own ∙ p (grows d s (put-at s b (E .now) ∙ e)), y .1))
 
   pass-back : {free : Type 0} {t : Term} {E : Env} {r : Result} (k : List Act) → Rewrites free root t E r

@@ -135,7 +135,7 @@ pub fresh-going : (X : Events) (p : Program) → Going X (fresh p)
 fresh-going X p = rest-going X (fresh p) (fresh-at-rest p)
 
 -- what stands with some events present stands with more
-put-grows : {X Y : Events} (s : ℕ) (b : Bool) → X ⊆ Y → put s b X ⊆ put s b Y
+pub put-grows : {X Y : Events} (s : ℕ) (b : Bool) → X ⊆ Y → put s b X ⊆ put s b Y
 unfolding put
 put-grows {X} {Y} s b h e = go (eqb e s)
   where
@@ -216,7 +216,7 @@ joined-stands TERM STOP X t u g h = (tt, g, tt, over-rest t g, h)
 joined-stands TERM TERM X t u g h = (prog (par TERM TERM t u), refl)
 
 -- a Local's sign covers what its body found present
-signed : (X : Events) (s : ℕ) (b x : Bool) → X ⊆ put s (sign b SUSP (X s)) (put s x X)
+pub signed : (X : Events) (s : ℕ) (b x : Bool) → X ⊆ put s (sign b SUSP (X s)) (put s x X)
 unfolding put
 signed X s b x e = go (eqb e s) refl
   where

@@ -10,6 +10,7 @@ pub mod Going
 pub mod Scopes
 pub mod Ahead
 pub mod Decided
+pub mod Activations
 pub mod Held
 pub mod Figures
 pub mod Exists

@@ -3,7 +3,7 @@ use Prim.Native.Nat.{ℕ, suc, _+_, _≤_, _<_}
 use mathlib.Core.Bool.{Bool, true, false, false≢true}
 use mathlib.Core.Path.{_≡_, refl, sym, ap, _∙_}
 use mathlib.Core.Logic.{_≢_}
-use mathlib.Core.List.{List, [], _∷_, _++_, append-assoc}
+use mathlib.Core.List.{List, [], _∷_, _++_}
 use native.Mathlib.Omega.{arith}
 use borrow.Author.Tests.{ne-eqb}
 use Rattle.events.specs.Events.{Events, put}
@@ -14,7 +14,7 @@ use Rattle.junior.specs.Program.{size}
 use Rattle.junior.specs.Term.{Term, done, nothing, stop, atom, generate, await, seq0, seq2, par, loop0, loop1}
 use Rattle.junior.specs.Term.{repeat0, repeat1, when0, when1, when2, until0, until*, until2, control, local}
 use Rattle.junior.specs.Term.{prog, leave}
-use Rattle.junior.specs.Trace.{Place, Act, decided, scope-answered}
+use Rattle.junior.specs.Trace.{Place, Act, did-atom, did-generate, decided, waits, scope-answered}
 use Rattle.junior.specs.Rules.{Result, sign, Rewrites, r1, r1-on, r2, r3, r4, r4-on, r5, r8, r9, r10, r11, r12}
 use Rattle.junior.specs.Rules.{r13, r4-loop, r5-loop, r14, r15, r4-repeat, r5-repeat, r16, r17, r17-on, r18}
 use Rattle.junior.specs.Rules.{r19, r19-on, r20, r21, r22, r23, r24, r25, r26, r27, r28, r29, r30, r31, r31-on}
@@ -38,37 +38,71 @@ status-elsewhere SUSP n m b σ h = refl
 status-elsewhere STOP n m b σ h = rw (ne-eqb m n h)
 status-elsewhere TERM n m b σ h = rw (ne-eqb m n h)
 
--- only Locals at the nodes from i up to j answer in l: the status of any other is what comes later
+-- only Locals at the nodes from i up to j answer in l
+unfoldable pub Inside : ℕ → ℕ → List Act → Type 0
+Inside i j [] = Unit {0}
+Inside i j (did-atom a ∷ l) = Inside i j l
+Inside i j (did-generate s ∷ l) = Inside i j l
+Inside i j (decided P c b E ∷ l) = Inside i j l
+Inside i j (waits P c E ∷ l) = Inside i j l
+Inside i j (scope-answered n α b ∷ l) = ((i ≤ n) × (n < j)) × Inside i j l
+
 pub record Between (i j : ℕ) (l : List Act) : Type 0 where
-  pub elsewhere : (k : List Act) (n : ℕ) → (i ≤ n → n < j → ⊥) → last-answers (l ++ k) n ≡ last-answers k n
+  pub inside : Inside i j l
 
 widen : {i i′ j j′ : ℕ} {l : List Act} → (i ≤ i′) × (j′ ≤ j) → Between i′ j′ l → Between i j l
-widen h b = record { elsewhere = λ k n o. b .elsewhere k n (λ a c. o (omega arith) (omega arith)) }
+unfolding Inside
+widen {i} {i′} {j} {j′} {l} h b = record { inside = go l (b .inside) }
+  where
+    go : (l : List Act) → Inside i′ j′ l → Inside i j l
+    go [] b = tt
+    go (did-atom a ∷ l) b = go l b
+    go (did-generate s ∷ l) b = go l b
+    go (decided P c x E ∷ l) b = go l b
+    go (waits P c E ∷ l) b = go l b
+    go (scope-answered n α x ∷ l) b = let (lo, hi) = b .0 in ((omega arith, omega arith), go l (b .1))
 
 chain : {i j : ℕ} {l m : List Act} → Between i j l → Between i j m → Between i j (l ++ m)
-chain {l = l} {m = m} a b =
-    record { elsewhere = λ k n o. rw (append-assoc l m k) (a .elsewhere (m ++ k) n o ∙ b .elsewhere k n o) }
+unfolding Inside
+chain {i} {j} {l} {m} a b = record { inside = go l (a .inside) }
+  where
+    go : (l : List Act) → Inside i j l → Inside i j (l ++ m)
+    go [] a = b .inside
+    go (did-atom n ∷ l) a = go l a
+    go (did-generate s ∷ l) a = go l a
+    go (decided P c x E ∷ l) a = go l a
+    go (waits P c E ∷ l) a = go l a
+    go (scope-answered n α x ∷ l) a = (a .0, go l (a .1))
 
-nobody : {i j : ℕ} {l : List Act} → ((k : List Act) → last-answers (l ++ k) ≡ last-answers k) → Between i j l
-nobody h = record { elsewhere = λ k n o. ap (λ σ. σ n) (h k) }
+-- the status of any other Local is what comes later
+pub elsewhere : {i j : ℕ} {l : List Act} → Between i j l → (k : List Act) (n : ℕ) → (i ≤ n → n < j → ⊥)
+    → last-answers (l ++ k) n ≡ last-answers k n
+unfolding Inside last-answers
+elsewhere {i} {j} {l} a k n o = go l (a .inside)
+  where
+    go : (l : List Act) → Inside i j l → last-answers (l ++ k) n ≡ last-answers k n
+    go [] a = refl
+    go (did-atom m ∷ l) a = go l a
+    go (did-generate s ∷ l) a = go l a
+    go (decided P c x E ∷ l) a = go l a
+    go (waits P c E ∷ l) a = go l a
+    go (scope-answered m α x ∷ l) a =
+        let (lo, hi) = a .0 in
+        let apart : (n ≢ m) = λ e. o (omega arith) (omega arith) in
+        status-elsewhere α m n x (last-answers (l ++ k)) apart ∙ go l (a .1)
 
 tested : {i j : ℕ} {P : Place} {c : Config} {b : Bool} {E : Env} {l : List Act} → Between i j l
     → Between i j (decided P c b E ∷ l)
-unfolding last-answers
-tested b = record { elsewhere = b .elsewhere }
-
-one : (n : ℕ) (α : Flag) (b : Bool) → Between n (suc n) (scope-answered n α b ∷ [])
-unfolding last-answers
-one n α b =
-    record { elsewhere = λ k m o. status-elsewhere α n m b (last-answers k) (λ e. o (omega arith) (omega arith)) }
+unfolding Inside
+tested b = record { inside = b .inside }
 
 pub between : {free : Type 0} {P : Place} {t : Term} {E : Env} {r : Result} → Rewrites free P t E r
     → Between (P .node) (P .node + size (prog t)) (r .acts)
-unfolding size prog last-answers
-between r1 = nobody (λ k. refl)
-between r1-on = nobody (λ k. refl)
-between r2 = nobody (λ k. refl)
-between r3 = nobody (λ k. refl)
+unfolding size prog Inside
+between r1 = record { inside = tt }
+between r1-on = record { inside = tt }
+between r2 = record { inside = tt }
+between r3 = record { inside = tt }
 between (r4 {q = q} d e) =
     chain (widen (omega arith) (between d)) (widen (omega (arith, ap size (prog-fresh q))) (between e))
 between (r4-on d) = widen (omega arith) (between d)
@@ -81,35 +115,35 @@ between (r12 {p = p} d h) = widen (omega (arith, ap size (prog-fresh p))) (betwe
 between (r13 {p = p} d e) = chain (widen (omega (arith, ap size (prog-fresh p))) (between d)) (between e)
 between (r4-loop d e) = chain (widen (omega arith) (between d)) (between e)
 between (r5-loop d h) = widen (omega arith) (between d)
-between r14 = nobody (λ k. refl)
+between r14 = record { inside = tt }
 between (r15 {p = p} d) = widen (omega (arith, ap size (prog-fresh p))) (between d)
 between (r4-repeat {n = n} {k = k} {t = t} d e) =
     chain (widen (omega arith) (between d)) (widen (omega (arith, ap size (prog-again n k (prog t)))) (between e))
 between (r5-repeat d h) = widen (omega arith) (between d)
-between r16 = nobody (λ k. refl)
+between r16 = record { inside = tt }
 between (r17 {p = p} s h d) = tested (widen (omega (arith, ap size (prog-fresh p))) (between d))
 between (r17-on d) = widen (omega arith) (between d)
-between (r18 s h) = nobody (λ k. refl)
+between (r18 s h) = record { inside = tt }
 between (r19 {q = q} s h d) = tested (widen (omega (arith, ap size (prog-fresh q))) (between d))
 between (r19-on d) = widen (omega arith) (between d)
-between (r20 s h) = nobody (λ k. refl)
-between (r21 s) = nobody (λ k. refl)
-between (r22 s h) = nobody (λ k. refl)
-between (r23 s h) = nobody (λ k. refl)
-between (r24 s) = nobody (λ k. refl)
-between (r25 s) = nobody (λ k. refl)
+between (r20 s h) = record { inside = tt }
+between (r21 s) = record { inside = tt }
+between (r22 s h) = record { inside = tt }
+between (r23 s h) = record { inside = tt }
+between (r24 s) = record { inside = tt }
+between (r25 s) = record { inside = tt }
 between (r26 h d) = tested (widen (omega arith) (between d))
-between (r27 h) = nobody (λ k. refl)
-between (r28 h) = nobody (λ k. refl)
+between (r27 h) = record { inside = tt }
+between (r28 h) = record { inside = tt }
 between (r29 d h) = widen (omega arith) (between d)
 between (r30 d e) = chain (widen (omega arith) (between d)) (widen (omega (arith, ap size (kept d))) (between e))
 between (r31 {q = q} s h d) = tested (widen (omega (arith, ap size (prog-fresh q))) (between d))
 between (r31-on d) = widen (omega arith) (between d)
-between (r32 s h) = nobody (λ k. refl)
-between (r33 s) = nobody (λ k. refl)
-between (r34 s) = nobody (λ k. refl)
+between (r32 s h) = record { inside = tt }
+between (r33 s) = record { inside = tt }
+between (r34 s) = record { inside = tt }
 between (r35-39 {P = P} {r = r} d) =
-    chain (widen (omega arith) (between d)) (widen (omega arith) (one (P .node) (r .flag) _))
+    chain (widen (omega arith) (between d)) (record { inside = ((omega arith, omega arith), tt) })
 
 -- in the state of node i, each Local plus has its event present by the statuses σ; an Until* has left its body
 unfoldable pub Open : Term → ℕ → (ℕ → Bool) → Type 0
@@ -198,7 +232,7 @@ pub open-apart : {i j : ℕ} {l : List Act} (t : Term) (n : ℕ) (k : List Act) 
     → ((m : ℕ) → n ≤ m → m < n + size (prog t) → i ≤ m → m < j → ⊥)
     → Open t n (last-answers k)
     → Open t n (last-answers (l ++ k))
-open-apart t n k b h = open-same t n (record { same = λ m x y. b .elsewhere k m (h m x y) })
+open-apart t n k b h = open-same t n (record { same = λ m x y. elsewhere b k m (h m x y) })
 
 -- a part of the node u is open as u is; one that answered TERM holds no Local
 pub part-open : (r : Result) (u : Term) (i j : ℕ) (σ : ℕ → Bool) → Stand (r .flag) (r .env .now) (r .to)

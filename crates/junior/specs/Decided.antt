@@ -10,8 +10,9 @@ use Rattle.junior.specs.declared.Flag.the-variants.{SUSP, STOP, TERM}
 use Rattle.junior.specs.Configuration.{eval}
 use Rattle.junior.specs.Trace.{Place, Act, did-atom, did-generate, decided, waits, scope-answered}
 
--- A body that answers STOP or TERM isn't run again in that activation and instant, one that answers SUSP is: so an activation's last
--- answer is the first other than SUSP. Here: the statuses of the events of all Locals, by node, at the last answers in what is still to come.
+-- A body that answers STOP or TERM isn't run again in that activation and instant, one that answers SUSP is (`Activations`, law
+-- `activations`): so an activation's last answer is the first other than SUSP. Here: the statuses of the events of all Locals, by node, at the
+-- last answers in what is still to come.
 abbrev pub last-status : Flag → ℕ → Bool → (ℕ → Bool) → (ℕ → Bool)
 last-status SUSP n b later = later
 last-status STOP n b later = put n b later

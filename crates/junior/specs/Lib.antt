@@ -10,6 +10,7 @@ pub mod Course
 pub mod Figures
 pub mod AtRest
 pub mod Decided
+pub mod Activations
 pub mod Demand3
 pub mod Printed
 pub mod Bench
