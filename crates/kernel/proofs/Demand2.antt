@@ -1,7 +1,8 @@
--- Demand 2: the answer is what the rules give, by the contract of `instant`; there is one such term and one such result.
+-- Demand 2: the answer is what the rules give, by the contract of `instant`; there is one such term and one such result, by the kernel's rules
+-- and by the printed ones.
 use Prim.Native.Nat.{ℕ, _*_, _≤_, _<_}
 use mathlib.Core.Bool.{Bool, true, false, _&&_}
-use mathlib.Core.Path.{_≡_, refl, sym, subst, _∙_}
+use mathlib.Core.Path.{_≡_, refl, sym, ap, subst, _∙_}
 use mathlib.Core.List.{List, _++_}
 use native.Mathlib.Omega.{arith}
 use lib.Dec.{leb}
@@ -11,20 +12,23 @@ use borrow.Author.Tests.{lt-leb}
 use Rattle.events.specs.Events.{Events}
 use Rattle.events.specs.Members.{places}
 use Rattle.events.proofs.Events.{lowest-is}
-use Rattle.junior.specs.Configuration.{handed-in}
+use Rattle.junior.specs.declared.Flag.{Flag}
+use Rattle.junior.specs.Configuration.{Env, handed-in}
 use Rattle.junior.specs.Trace.{atoms}
 use Rattle.junior.specs.Rules.{Result}
 use Rattle.junior.specs.Instant.{Instant}
+use Rattle.junior.specs.Printed.{Abstract, reads, Deed, actions, _∣_—[_doing_]—_passes→_∣_}
 use Rattle.junior.proofs.Deterministic.{one-outcome}
-use Rattle.junior.proofs.Going.{program-kept}
+use Rattle.junior.proofs.Going.{leaves-rest, program-kept}
 use Rattle.junior.proofs.AsPrinted.{instant-as-printed}
+use Rattle.junior.proofs.PrintedOnce.{printed-exactly, actions-deeds}
 use Rattle.table.specs.Records.{nodes, events}
 use Rattle.steps.specs.StateBytes.{stateBytes}
 use Rattle.steps.proofs.Parts.{len-bytes}
 use Rattle.kernel.specs.declared.Outcome.the-variants.{Ran}
 use Rattle.kernel.specs.declared.Answer.{Answer}
-use Rattle.kernel.specs.Answer.{unlisted, instantOutcome, Run, Answered}
-use Rattle.kernel.specs.Demand2.{Premises, Stands, Gives, Demand2}
+use Rattle.kernel.specs.Answer.{unlisted, instantOutcome, ended, Run, Answered}
+use Rattle.kernel.specs.Demand2.{Premises, Stands, Gives, GivesPrinted, Demand2}
 use Rattle.kernel.proofs.Accepted.{admitted}
 use Rattle.kernel.proofs.Outcomes.{instant-ran}
 use Rattle.kernel.proofs.OneTerm.{one-term}
@@ -79,6 +83,32 @@ module _ {t s : List ℕ} {X : Events} {row s′ row′ : List ℕ} {a : Answer}
       let (same-passes, same-result) = one-outcome (r .instant) i in
       subst (λ m. Gives t s row s′ row′ a m u) same-passes (subst (λ x. Gives t s row s′ row′ a (a .passes) x) same-result gives)
 
+  -- the term that is left
+  stands-next : Stands t s′ (r .result .to)
+  stands-next = record {
+    program = program-kept (r .instant) ∙ r .program;
+    bytes = gives .next-state;
+    at-rest = leaves-rest (r .instant) (r .at-rest);
+    only = λ y e b.
+        one-term y (r .result .to) (e ∙ sym (program-kept (r .instant) ∙ r .program)) (sym b ∙ gives .next-state);
+  }
+
+  -- whatever the printed rules give is what was run
+  gives-printed : {n : ℕ} {α : Flag} {l : List Deed} {u : Abstract} {E : Env}
+      → reads (r .term) ∣ handed-in X —[ α doing l ]— n passes→ u ∣ E
+      → GivesPrinted t s′ row′ a n α l u E
+  gives-printed i =
+      let (passes, flag, did, to, env) = printed-exactly (r .instant) i in
+      record {
+        event-set = gives .event-set ∙ ap (λ E. E .now) env;
+        actions-in-order = gives .actions ∙ (sym (actions-deeds (r .result .acts)) ∙ ap actions did);
+        finished = gives .finished ∙ ap ended flag;
+        pass-count = passes;
+        next = r .result .to;
+        next-stands = stands-next;
+        next-reads = to;
+      }
+
 pub demand-2 : {t s : List ℕ} {X : Events} {row s′ row′ : List ℕ} {a : Answer} → Premises t s X row → Answered t s X row s′ row′ a
     → Demand2 t s X row s′ row′ a
 demand-2 p o =
@@ -90,5 +120,6 @@ demand-2 p o =
       stands = stands r;
       there = (_, r .result, r .instant);
       gives = λ i. gives-all p r _ _ i;
-      as-printed = λ i. instant-as-printed i;
+      printed-there = (_, _, _, _, _, instant-as-printed (r .instant));
+      printed-gives = λ i. gives-printed p r i;
     }

@@ -8,12 +8,13 @@ use mathlib.Core.List.{List}
 use lib.ListN.{length, take, drop}
 use Rattle.events.specs.Events.{Events, howMany, lowest}
 use Rattle.events.specs.Members.{places, members}
-use Rattle.junior.specs.Configuration.{handed-in}
+use Rattle.junior.specs.declared.Flag.{Flag}
+use Rattle.junior.specs.Configuration.{Env, handed-in}
 use Rattle.junior.specs.Term.{Term, prog}
 use Rattle.junior.specs.Trace.{atoms}
 use Rattle.junior.specs.Rules.{Result}
 use Rattle.junior.specs.Instant.{Instant}
-use Rattle.junior.specs.Printed.{reads, _∣_—[_]—_passes→_∣_}
+use Rattle.junior.specs.Printed.{Abstract, reads, Deed, actions, _∣_—[_doing_]—_passes→_∣_}
 use Rattle.junior.specs.AtRest.{AtRest}
 use Rattle.table.specs.declared.Checked.the-variants.{Accepted}
 use Rattle.table.specs.Records.{nodes, events}
@@ -66,6 +67,17 @@ pub record Gives (t s row s′ row′ : List ℕ) (a : Answer) (n : ℕ) (r : Re
   pub state-beyond : drop (4 * nodes t) s′ ≡ drop (4 * nodes t) s
   pub row-beyond : drop (a .atoms) row′ ≡ drop (a .atoms) row
 
+-- the answer and the rooms are what n passes by the rules as 000 prints them give: the flag α, doing l, and u in E
+pub record GivesPrinted (t s′ row′ : List ℕ) (a : Answer) (n : ℕ) (α : Flag) (l : List Deed) (u : Abstract) (E : Env) : Type 0 where
+  pub event-set : members (a .events) ≡ E .now
+  pub actions-in-order : take (a .atoms) row′ ≡ actions l
+  pub finished : a .finished ≡ ended α
+  pub pass-count : a .passes ≡ n
+  -- "the next state": the term that stands in it reads as u
+  pub next : Term
+  pub next-stands : Stands t s′ next
+  pub next-reads : reads next ≡ u
+
 pub record Demand2 (t s : List ℕ) (X : Events) (row s′ row′ : List ℕ) (a : Answer) : Type 0 where
   -- "one instant": it isn't refused
   pub ran : a .outcome ≡ Ran
@@ -74,6 +86,10 @@ pub record Demand2 (t s : List ℕ) (X : Events) (row s′ row′ : List ℕ) (a
   -- "that Junior's rewriting rules give .. left branch first": by rules without rule 9
   pub there : (n : ℕ) × (r : Result) × Instant ⊥ term (handed-in X) n r
   pub gives : {n : ℕ} {r : Result} → Instant ⊥ term (handed-in X) n r → Gives t s row s′ row′ a n r
-  -- "Junior's rewriting rules .. read as the requirements settle them": and by the rules as 000 prints them
-  pub as-printed : {n : ℕ} {r : Result} → Instant ⊥ term (handed-in X) n r
-      → reads term ∣ handed-in X —[ r .flag ]— n passes→ reads (r .to) ∣ r .env
+  -- "Junior's rewriting rules .. read as the requirements settle them": by the rules as 000 prints them, too, there is an instant, and every
+  -- instant gives this
+  pub printed-there : (n : ℕ) × (α : Flag) × (l : List Deed) × (u : Abstract) × (E : Env)
+      × (reads term ∣ handed-in X —[ α doing l ]— n passes→ u ∣ E)
+  pub printed-gives : {n : ℕ} {α : Flag} {l : List Deed} {u : Abstract} {E : Env}
+      → reads term ∣ handed-in X —[ α doing l ]— n passes→ u ∣ E
+      → GivesPrinted t s′ row′ a n α l u E
