@@ -40,7 +40,7 @@ same-answer q r a b c d e f g =
 same-events : (x y : EventSet) → Whole x → Whole y → members x ≡ members y → x ≡ y
 same-events x y f g e = same-members x y f g (λ n h. ap (λ X. X n) e)
 
-ran-or-not : (o : Outcome) → (o ≡ Ran) ⊎ (o ≢ Ran)
+unfoldable pub ran-or-not : (o : Outcome) → (o ≡ Ran) ⊎ (o ≢ Ran)
 ran-or-not Ran = inl refl
 ran-or-not (Table c) = inr (λ e. let z : _≡_ {A = ℕ} 0 1 = cc in omega arith)
 ran-or-not StateRoom = inr (λ e. let z : _≡_ {A = ℕ} 0 1 = cc in omega arith)

@@ -138,7 +138,7 @@ module _ (t s : List ℕ) {g a w : ℕ} (v : verdictOf t ≡ Accepted g a w) whe
   start-ran h = rw (start-is, le-leb (4 * nodes t) (length s) h)
 
   module _ (X : Events) (row : List ℕ) where
-    instant-is :
+    pub instant-is :
         instantOutcome t s X row
         ≡ cond
         (hasRoom t s)
