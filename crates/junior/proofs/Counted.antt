@@ -8,7 +8,6 @@ use Rattle.junior.specs.Term.{prog, fresh, leave}
 use Rattle.junior.specs.Rules.{r1-on, r2, r3, r4, r4-on, r5, r8, r12, r4-loop, r5-loop, r15, r4-repeat, r16}
 use Rattle.junior.specs.Rules.{r22, r24, r25, r30, r31-on, r32, r34}
 use Rattle.junior.specs.Instant.{r47, r48}
-use Rattle.junior.specs.Bench.{set-of}
 use Rattle.junior.specs.Visits.{below, visits-by-pass, next, no-more, CountedSo}
 use Rattle.junior.proofs.Little.{STOP≢SUSP, TERM≢SUSP, TERM≢STOP}
 
@@ -19,7 +18,7 @@ STOP≢TERM : STOP ≢ TERM
 STOP≢TERM e = TERM≢STOP (sym e)
 
 pub counted-so : CountedSo
-unfolding visits-by-pass below set-of put test fixed eval prog fresh leave
+unfolding visits-by-pass below put test fixed eval prog fresh leave
 counted-so = record {
   of-P =
       next (r48 (r8 (r5 (r25 refl) SUSP≢TERM) (r25 refl)) refl refl

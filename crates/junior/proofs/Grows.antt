@@ -1,5 +1,5 @@
--- Events are only added: in a pass, and from pass to pass. What a pass leaves of its environment: the end as it was, `move` set
--- exactly if an event was generated, and where none was, everything as it was.
+-- Events are only added, in a pass and from pass to pass, and only those generated. What a pass leaves of its environment: the end as it
+-- was, `move` set exactly if an event was generated, and where none was, everything as it was.
 use Prim.Native.Nat.{ℕ, suc}
 use mathlib.Core.Bool.{Bool, true, false, cond, _||_, or-false, or-true, or-assoc}
 use mathlib.Core.Path.{_≡_, refl, ap, sym, _∙_}
@@ -10,7 +10,7 @@ use borrow.Author.Tests.{eqb-true}
 use Rattle.events.specs.Events.{Events, put}
 use Rattle.junior.specs.Configuration.{Env, with-event}
 use Rattle.junior.specs.Term.{Term}
-use Rattle.junior.specs.Trace.{Place, scope-answered, event-of, collect, generations}
+use Rattle.junior.specs.Trace.{Place, Act, scope-answered, event-of, collect, generations}
 use Rattle.junior.specs.Rules.{Result, Rewrites}
 use Rattle.junior.specs.Instant.{Instant, r47, r48, r49}
 use Rattle.junior.specs.Course.{_⊆_, event-sets, Rising}
@@ -141,3 +141,66 @@ pub reported : {free : Type 0} {t : Term} {E : Env} {n : ℕ} {r : Result} → I
 reported (r47 d h) s e = grows d s e
 reported (r48 d h m i) s e = reported i s (grows d s e)
 reported (r49 d h m i) s e = reported i s (grows d s e)
+
+-- No event is added but those generated: s is in a list
+unfoldable pub among : ℕ → List ℕ → Bool
+among s [] = false
+among s (x ∷ l) = eqb s x || among s l
+
+among-++ : (s : ℕ) (l k : List ℕ) → among s (l ++ k) ≡ (among s l || among s k)
+unfolding among
+among-++ s [] k = refl
+among-++ s (x ∷ l) k = go (eqb s x) (among-++ s l k)
+  where
+    go : (b : Bool) → among s (l ++ k) ≡ (among s l || among s k) → (b || among s (l ++ k)) ≡ ((b || among s l) || among s k)
+    go true e = refl
+    go false e = e
+
+generated-parts : (s : ℕ) (l k : List Act) → among s (generations (l ++ k)) ≡ false
+    → (among s (generations l) ≡ false) × (among s (generations k) ≡ false)
+generated-parts s l k e =
+    neither
+    (among s (generations l))
+    (among s (generations k))
+    (sym (among-++ s (generations l) (generations k)) ∙ (ap (among s) (sym (collect-++ event-of l k)) ∙ e))
+
+pub only-generated : {free : Type 0} {P : Place} {t : Term} {E : Env} {r : Result} → Rewrites free P t E r → (s : ℕ)
+    → among s (generations (r .acts)) ≡ false
+    → E .now s ≡ false
+    → r .env .now s ≡ false
+unfolding collect among put
+only-generated d s =
+    flow
+    (λ E F l. among s (generations l) ≡ false → E .now s ≡ false → F .now s ≡ false)
+    (record {
+      none = λ q h. h;
+      acted = λ q h. h;
+      raised = λ {E} {s = e} q h. rw (neither (eqb s e) false q .0) h;
+      read = λ v q h. h;
+      waited = λ v q h. h;
+      chained = λ {E} {F} {G} {l} {k} f g q h.
+          let (a, b) = generated-parts s l k q in g b (f a h);
+      scoped = λ {E} {F} {l} b e n α f q h.
+          put-out b e E F (f (ap (among s) (sym (collect-last event-of l (scope-answered n α (F .now e)) refl)) ∙ q)) h;
+    })
+    d
+  where
+    put-out : (b : Bool) (e : ℕ) (E F : Env) → (put e b (E .now) s ≡ false → F .now s ≡ false) → E .now s ≡ false
+        → put e (E .now e) (F .now) s ≡ false
+    put-out b e E F f h = go (eqb s e) refl f
+      where
+        go : (q : Bool) → eqb s e ≡ q → (cond q b (E .now s) ≡ false → F .now s ≡ false) → cond q (E .now e) (F .now s) ≡ false
+        go true q f = rw (← eqb-true s e q) h
+        go false q f = f h
+
+pub only-generated-in-all : {free : Type 0} {t : Term} {E : Env} {n : ℕ} {r : Result} → Instant free t E n r → (s : ℕ)
+    → among s (generations (r .acts)) ≡ false
+    → E .now s ≡ false
+    → r .env .now s ≡ false
+only-generated-in-all (r47 d h) s q e = only-generated d s q e
+only-generated-in-all (r48 {r = r} {s = u} d h m i) s q e =
+    let (a, b) = generated-parts s (r .acts) (u .acts) q in
+    only-generated-in-all i s b (only-generated d s a e)
+only-generated-in-all (r49 {r = r} {s = u} d h m i) s q e =
+    let (a, b) = generated-parts s (r .acts) (u .acts) q in
+    only-generated-in-all i s b (only-generated d s a e)

@@ -17,7 +17,6 @@ pub mod Exists
 pub mod Instants
 pub mod Visits
 pub mod Counted
-pub mod Bench
 pub mod AsPrinted
 pub mod PrintedOnce
 pub mod Demand3

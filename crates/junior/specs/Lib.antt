@@ -13,5 +13,4 @@ pub mod Decided
 pub mod Activations
 pub mod Demand3
 pub mod Printed
-pub mod Bench
 pub mod Visits

@@ -1,9 +1,11 @@
 -- Visits: which nodes a pass runs, by own weights k, a node being counted every time that it is run, in phase 3 too.
 use Prim.Native.Nat.{ℕ, _+_, _≤_}
+use mathlib.Core.Bool.{true}
 use mathlib.Core.Path.{_≡_}
 use mathlib.Core.List.{List, [], _∷_}
-use Rattle.junior.specs.Configuration.{Env, Event, handed-in}
-use Rattle.junior.specs.Program.{Program, Stop, Atom, Seq, Loop, Repeat, Await}
+use Rattle.events.specs.Events.{Events, none, put}
+use Rattle.junior.specs.Configuration.{Env, Event, Not, handed-in}
+use Rattle.junior.specs.Program.{Program, Stop, Atom, Seq, Par, Loop, Repeat, Generate, Await, Until}
 use Rattle.junior.specs.Term.{Term, prog, fresh}
 use Rattle.junior.specs.Trace.{Place}
 use Rattle.junior.specs.Rules.{Result, Rewrites, r1, r1-on, r2, r3, r4, r4-on, r5, r8, r9, r10, r11, r12, r13}
@@ -12,7 +14,6 @@ use Rattle.junior.specs.Rules.{r19-on, r20, r21, r22, r23, r24, r25, r26
 use Rattle.junior.specs.Rules.{r33, r34, r35-39}
 use Rattle.junior.specs.Instant.{Instant, r47, r48, r49}
 use Rattle.junior.specs.Figures.{every}
-use Rattle.junior.specs.Bench.{set-of, P, preempted}
 
 module _ (k : Program → ℕ) where
   -- What a node's run runs below it: of each part that is run, the part's own node and what that runs below it. Where a node goes on
@@ -82,18 +83,28 @@ sum [] = 0
 sum (n ∷ l) = n + sum l
 
 -- from t the instants with these events handed in run so many nodes, pass by pass, each from the state that the one before left
-pub data Visited : Term → List (List ℕ × List ℕ) → Type 0 where
+pub data Visited : Term → List (Events × List ℕ) → Type 0 where
   no-more : {t : Term} → Visited t []
-  next : {t : Term} {handed counts : List ℕ} {n : ℕ} {r : Result} {l : List (List ℕ × List ℕ)}
-      (i : Instant ⊥ t (handed-in (set-of handed)) n r)
+  next : {t : Term} {X : Events} {counts : List ℕ} {n : ℕ} {r : Result} {l : List (Events × List ℕ)}
+      (i : Instant ⊥ t (handed-in X) n r)
       → visits-by-pass every i ≡ counts
       → Visited (r .to) l
-      → Visited t ((handed, counts) ∷ l)
+      → Visited t ((X, counts) ∷ l)
 
--- How it is counted. P (K3): Par, Seq and both Awaits, twice; all seven; then Par, in phase 3. A Repeat: itself and three Atoms. A begun
+-- K3's and K7's programs (01), and the set of event 0 alone
+abbrev pub P : Program
+P = Par (Seq (Await (Event 0)) (Seq (Atom 7) (Generate 1))) (Await (Event 1))
+
+abbrev pub preempted : Program
+preempted = Until (Not (Event 0)) Stop (Atom 5)
+
+abbrev pub just-0 : Events
+just-0 = put 0 true none
+
+-- How it is counted. P: Par, Seq and both Awaits, twice; all seven; then Par, in phase 3. A Repeat: itself and three Atoms. A begun
 -- Loop: itself, Seq, the Stop in phase 3, and again Seq, Await and, with the event, Stop. An Until that tests goes on as itself.
 pub record CountedSo : Type 0 where
-  pub of-P : Visited (fresh P) (([], 4 ∷ 4 ∷ []) ∷ (0 ∷ [], 7 ∷ []) ∷ ([], 1 ∷ []) ∷ [])
-  pub of-Repeat : Visited (fresh (Repeat 3 (Atom 4))) (([], 4 ∷ []) ∷ [])
-  pub of-Loop : Visited (fresh (Loop (Seq (Await (Event 0)) Stop))) ((0 ∷ [], 4 ∷ []) ∷ (0 ∷ [], 6 ∷ []) ∷ ([], 5 ∷ 3 ∷ []) ∷ [])
-  pub of-Until : Visited (fresh preempted) (([], 2 ∷ 1 ∷ []) ∷ ([], 2 ∷ []) ∷ [])
+  pub of-P : Visited (fresh P) ((none, 4 ∷ 4 ∷ []) ∷ (just-0, 7 ∷ []) ∷ (none, 1 ∷ []) ∷ [])
+  pub of-Repeat : Visited (fresh (Repeat 3 (Atom 4))) ((none, 4 ∷ []) ∷ [])
+  pub of-Loop : Visited (fresh (Loop (Seq (Await (Event 0)) Stop))) ((just-0, 4 ∷ []) ∷ (just-0, 6 ∷ []) ∷ (none, 5 ∷ 3 ∷ []) ∷ [])
+  pub of-Until : Visited (fresh preempted) ((none, 2 ∷ 1 ∷ []) ∷ (none, 2 ∷ []) ∷ [])

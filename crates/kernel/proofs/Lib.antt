@@ -20,4 +20,5 @@ pub mod Demand2
 pub mod Demand3
 pub mod Bounds
 pub mod OneAnswer
+pub mod Lines
 pub mod Bench

@@ -1,5 +1,5 @@
--- The bench list (01, "Bench list"): one list of tables, states and events with what check, start and instant answer to them, and one statement
--- over it, of the very definitions that are their contracts.
+-- The bench list (01, "Bench list"): tables, state rooms and events with what check, start and instant answer to them, one list and one statement
+-- over it, of the very definitions that are their contracts. Beyond K1 to K12 it has an example for each clause of these definitions.
 use Prim.Native.Nat.{ℕ, _+_, _*_, _/_, _%_, _^_}
 use mathlib.Core.Bool.{Bool, true, false, cond}
 use mathlib.Core.Path.{_≡_}
@@ -10,16 +10,19 @@ use Rattle.events.specs.declared.EventSet.{EventSet}
 use Rattle.events.specs.Members.{members}
 use Rattle.events.proofs.Sets.{Whole}
 use Rattle.table.specs.declared.Checked.{Checked}
+use Rattle.table.specs.declared.Checked.the-variants.{BadLength, BadCounts, BadDistances, BadConfiguration, BadNode}
 use Rattle.table.specs.declared.Checked.the-variants.{EndlessLoop, TooHeavy, Accepted}
 use Rattle.table.specs.Records.{nodes}
-use Rattle.table.specs.Verdict.{Figures, verdictOf, numberOf, indexOf, figuresOf}
+use Rattle.table.specs.Verdict.{verdictOf, numberOf, indexOf, figuresOf}
 use Rattle.table.specs.Bytes.{node, configuration, trailer}
 use Rattle.kernel.specs.declared.Outcome.{Outcome}
-use Rattle.kernel.specs.declared.Outcome.the-variants.{Ran, Table}
+use Rattle.kernel.specs.declared.Outcome.the-variants.{Ran, Table, StateRoom, NotAtRest, UnlistedEvent}
+use Rattle.kernel.specs.declared.Outcome.the-variants.{AtomRoom}
 use Rattle.kernel.specs.declared.Answer.{Answer}
 use Rattle.kernel.specs.Answer.{outcomeNumber, outcomeIndex, Started, Answered}
 
--- an instant: the events handed in and the row lent for atoms; its whole answer, the outcome's number and index; the state room and the row after it
+-- an instant: the events handed in and the row lent for atoms; its whole answer, with the outcome's number and index; the state room and the row
+-- after it
 pub record Line : Type 0 where
   pub handed : EventSet
   pub lent : List ℕ
@@ -30,15 +33,15 @@ pub record Line : Type 0 where
   pub row : List ℕ
 
 pub data Entry : Type 0 where
-  -- check accepts the table with G, A and W; a start in a room of 4N + 1 bytes 255 succeeds; then come these instants, each in the room that the
-  -- one before left
+  -- check accepts the table with G, A and W; start makes a room of 4N + 1 bytes, all 255, fresh but for the last; these instants follow, each in
+  -- the room that the one before left
   accepted : List ℕ → ℕ → ℕ → ℕ → List Line → Entry
-  -- check refuses the table, with this number and index, and so do start and instant in all rooms
+  -- check refuses the table with this number and index; so do start and instant, in all rooms
   refused : List ℕ → Checked → ℕ → ℕ → Entry
-  -- a start in this room is refused
+  -- start refuses this room with this number and index
   not-started : List ℕ → List ℕ → Outcome → ℕ → ℕ → Entry
-  -- this one instant in this room is refused
-  not-run : List ℕ → List ℕ → Line → Entry
+  -- each of these instants is refused, in the room that it leaves as it was
+  not-run : List ℕ → List Line → Entry
 
 -- check answers exactly this (its contract: the answer is `verdictOf` the bytes)
 pub record Checks (t : List ℕ) (c : Checked) (number index g a w : ℕ) : Type 0 where
@@ -47,14 +50,14 @@ pub record Checks (t : List ℕ) (c : Checked) (number index g a w : ℕ) : Type
   pub index-is : indexOf c ≡ index
   pub figures-are : figuresOf c ≡ record { generations = g; atoms = a; nodes = w }
 
--- start answers exactly this, in the room s, and leaves s′ there: its contract allows it and nothing else
+-- start answers exactly this in the room s, and leaves s′ there: its contract allows this and nothing else
 pub record Starts (t s : List ℕ) (o : Outcome) (number index : ℕ) (s′ : List ℕ) : Type 0 where
   pub started : Started t s s′ o
   pub only : {q : Outcome} {s″ : List ℕ} → Started t s s″ q → (q ≡ o) × (s″ ≡ s′)
   pub number-is : outcomeNumber o ≡ number
   pub index-is : outcomeIndex o ≡ index
 
--- instant answers exactly this line in the room s, likewise; what a running program holds as a set of events is Whole
+-- instant answers exactly this line in the room s: its contract allows this and nothing else (Whole: four words of 64 bits, as in a running program)
 pub record Answers (t s : List ℕ) (x : Line) : Type 0 where
   pub answered : Answered t s (members (x .handed)) (x .lent) (x .state) (x .row) (x .answer)
   pub only : {q : Answer} {s′ row′ : List ℕ} → Whole (q .events) → Answered t s (members (x .handed)) (x .lent) s′ row′ q
@@ -62,10 +65,14 @@ pub record Answers (t s : List ℕ) (x : Line) : Type 0 where
   pub number-is : outcomeNumber (x .answer .outcome) ≡ x .number
   pub index-is : outcomeIndex (x .answer .outcome) ≡ x .index
 
--- each in the room that the one before left
+-- each in the room that the one before left; each in its own
 unfoldable pub Follow : List ℕ → List ℕ → List Line → Type 0
 Follow t s [] = Unit {0}
 Follow t s (x ∷ l) = Answers t s x × Follow t (x .state) l
+
+unfoldable pub Alone : List ℕ → List Line → Type 0
+Alone t [] = Unit {0}
+Alone t (x ∷ l) = Answers t (x .state) x × Alone t l
 
 -- the set of these events, by its words
 unfoldable pub word-of : ℕ → List ℕ → ℕ
@@ -84,15 +91,11 @@ ran X count lowest atoms finished passes =
 abbrev pub refusal : Outcome → Answer
 refusal o = record { outcome = o; events = set []; count = 0; lowest = 256; atoms = 0; finished = false; passes = 0 }
 
--- the row that is lent, if nothing else is said: four places that hold 9
-abbrev pub row9 : List ℕ
-row9 = 9 ∷ 9 ∷ 9 ∷ 9 ∷ []
+-- an instant that ran: the events handed in, the row, the answer, the row after it, the state room after it
+abbrev pub instant-in : List ℕ → List ℕ → Answer → List ℕ → List ℕ → Line
+instant-in X lent a row s = record { handed = set X; lent = lent; answer = a; number = 0; index = 0; state = s; row = row }
 
--- the events handed in, the answer, the row and the state room after it
-abbrev pub instant : List ℕ → Answer → List ℕ → List ℕ → Line
-instant X a row s = record { handed = set X; lent = row9; answer = a; number = 0; index = 0; state = s; row = row }
-
--- the events handed in, the row, the room; the refusal, its number and index; row and room are as they were
+-- one that was refused: the events handed in, row and room, both as they were; the outcome, its number, its index
 abbrev pub turned-down : EventSet → List ℕ → List ℕ → Outcome → ℕ → ℕ → Line
 turned-down X row s o number index =
     record { handed = X; lent = row; answer = refusal o; number = number; index = index; state = s; row = row }
@@ -107,7 +110,7 @@ Shown (refused t c n i) =
     × ((s : List ℕ) → Starts t s (Table c) n i s)
     × ((s : List ℕ) (X : EventSet) (row : List ℕ) → Answers t s (turned-down X row s (Table c) n i))
 Shown (not-started t s o n i) = Starts t s o n i s
-Shown (not-run t s x) = Answers t s x
+Shown (not-run t l) = Alone t l
 
 -- each of a list
 infixr 67 _∷∷_
@@ -115,7 +118,7 @@ pub data All (So : Entry → Type 0) : List Entry → Type 0 where
   [[]] : All So []
   _∷∷_ : {e : Entry} {l : List Entry} → So e → All So l → All So (e ∷ l)
 
--- Tables, written like the programs: a node's record in front of those of its parts, which its size counts.
+-- Tables, written like the programs: a node's record in front of those of its parts, which its size counts
 abbrev pub form : ℕ → ℕ → List ℕ → List ℕ
 form kind argument parts = node kind argument (1 + length parts / 6) ++ parts
 
@@ -143,7 +146,7 @@ repeat n p = form 6 n p
 abbrev pub generate : ℕ → List ℕ
 generate e = form 7 e []
 
--- await, when and until name the configuration that they test by its index
+-- these three name the configuration that they test by its index
 abbrev pub await : ℕ → List ℕ
 await c = form 8 c []
 
@@ -159,18 +162,24 @@ control e p = form 11 e p
 abbrev pub local : ℕ → List ℕ → List ℕ
 local e p = form 12 e p
 
--- configurations likewise
+-- configurations likewise: an event, a not, an and, an or
 abbrev pub event : ℕ → List ℕ
 event e = configuration 0 e 1
 
-abbrev pub not-so : List ℕ → List ℕ
-not-so c = configuration 1 0 (1 + length c / 4) ++ c
+abbrev pub no : List ℕ → List ℕ
+no c = configuration 1 0 (1 + length c / 4) ++ c
+
+abbrev pub both : List ℕ → List ℕ → List ℕ
+both c d = configuration 2 0 (1 + length (c ++ d) / 4) ++ (c ++ d)
+
+abbrev pub either : List ℕ → List ℕ → List ℕ
+either c d = configuration 3 0 (1 + length (c ++ d) / 4) ++ (c ++ d)
 
 -- the nodes, the configurations, and a trailer with V events that points back to them
 abbrev pub table : List ℕ → List ℕ → ℕ → List ℕ
 table p c v = p ++ (c ++ trailer (length p / 6) (length c / 4) v (length p + length c) (length c))
 
--- States: a node's own bytes; the bytes of nodes that have a phase alone; a room that ends with such nodes and the byte behind all of them
+-- States: a node's own bytes; those of nodes that have a phase alone; such nodes at the end of a room, in front of its last byte
 abbrev pub own : ℕ → ℕ → ℕ → List ℕ
 own phase flags count = phase ∷ flags ∷ count / 256 ∷ count % 256 ∷ []
 
@@ -180,6 +189,17 @@ phases (ph ∷ l) = ph ∷ 0 ∷ 0 ∷ 0 ∷ phases l
 
 abbrev pub room : List ℕ → List ℕ
 room l = phases l ++ (255 ∷ [])
+
+-- the row that is lent, if nothing else is said
+abbrev pub row9 : List ℕ
+row9 = 9 ∷ 9 ∷ 9 ∷ 9 ∷ []
+
+abbrev pub instant : List ℕ → Answer → List ℕ → List ℕ → Line
+instant X a row s = instant-in X row9 a row s
+
+-- with nothing handed in this room is refused, node i being to blame
+abbrev pub blames : List ℕ → ℕ → Line
+blames s i = turned-down (set []) row9 s (NotAtRest i) 10 i
 
 -- Seq(Await 0, Seq(Atom 7, Generate 1)), its test being the configuration c
 abbrev pub reply : ℕ → List ℕ
@@ -192,14 +212,14 @@ choice = when 0 (atom 1) (atom 2)
 abbrev pub K1 : List ℕ
 K1 = 0x00 ∷ 0x00 ∷ 0x00 ∷ 0x00 ∷ 0x00 ∷ 0x01 ∷ 0x00 ∷ 0x01 ∷ 0x00 ∷ 0x00 ∷ 0x00 ∷ 0x01 ∷ 0x00 ∷ 0x06 ∷ 0x00 ∷ 0x00 ∷ []
 
--- Until(not 0, Stop, Atom 5)
-abbrev pub K7 : List ℕ
-K7 = table (until 0 stop (atom 5)) (not-so (event 0)) 1
+-- fifteen times not
+abbrev pub nots15 : List ℕ → List ℕ
+nots15 c = no (no (no (no (no (no (no (no (no (no (no (no (no (no (no c))))))))))))))
 
 abbrev pub bench-list : List Entry
 bench-list =
     -- K1: Nothing
-    accepted K1 0 0 1 (instant [] (ran [] 0 256 0 true 1) row9 (room (3 ∷ [])) ∷ [])
+    accepted (K1) 0 0 1 (instant [] (ran [] 0 256 0 true 1) row9 (room (3 ∷ [])) ∷ [])
     -- K2: Stop
     ∷ accepted (table stop [] 1) 0 0 1
     (instant [] (ran [] 0 256 0 false 1) row9 (room (3 ∷ []))
@@ -224,12 +244,24 @@ bench-list =
     (instant [] (ran [] 0 256 0 false 2) row9 (room (2 ∷ 0 ∷ 0 ∷ []))
     ∷ instant [] (ran [] 0 256 1 true 1) (2 ∷ 9 ∷ 9 ∷ 9 ∷ []) (room (3 ∷ 0 ∷ 0 ∷ []))
     ∷ [])
-    -- K7
-    ∷ accepted K7 0 1 3 (instant (0 ∷ []) (ran (0 ∷ []) 1 0 0 false 1) row9 (room (0 ∷ 3 ∷ 0 ∷ [])) ∷ [])
-    ∷ accepted K7 0 1 3 (instant [] (ran [] 0 256 0 false 2) row9 (room (2 ∷ 0 ∷ 0 ∷ [])) ∷ [])
-    -- K8: Loop(Await 0); Loop(Seq(Await 0, Stop))
+    -- K7: Until(not 0, Stop, Atom 5)
+    ∷ accepted (table (until 0 stop (atom 5)) (no (event 0)) 1) 0 1 3
+    (instant (0 ∷ []) (ran (0 ∷ []) 1 0 0 false 1) row9 (room (0 ∷ 3 ∷ 0 ∷ []))
+    ∷ instant [] (ran [] 0 256 0 true 1) row9 (room (3 ∷ 0 ∷ 0 ∷ []))
+    ∷ [])
+    ∷ accepted (table (until 0 stop (atom 5)) (no (event 0)) 1) 0 1 3
+    (instant [] (ran [] 0 256 0 false 2) row9 (room (2 ∷ 0 ∷ 0 ∷ []))
+    ∷ instant [] (ran [] 0 256 1 true 1) (5 ∷ 9 ∷ 9 ∷ 9 ∷ []) (room (3 ∷ 0 ∷ 0 ∷ []))
+    ∷ [])
+    -- K8: Loop(Await 0)
     ∷ refused (table (loop (await 0)) (event 0) 1) (EndlessLoop 0) 7 0
-    ∷ accepted (table (loop (seq (await 0) stop)) (event 0) 1) 0 0 7 []
+    -- Loop(Seq(Await 0, Stop)): once its body has ended it begins again in the same instant
+    ∷ accepted (table (loop (seq (await 0) stop)) (event 0) 1) 0 0 7
+    (instant [] (ran [] 0 256 0 false 2) row9 (room (1 ∷ 0 ∷ 0 ∷ 0 ∷ []))
+    ∷ instant (0 ∷ []) (ran (0 ∷ []) 1 0 0 false 1) row9 (room (1 ∷ 2 ∷ 0 ∷ 3 ∷ []))
+    ∷ instant (0 ∷ []) (ran (0 ∷ []) 1 0 0 false 1) row9 (room (1 ∷ 2 ∷ 0 ∷ 3 ∷ []))
+    ∷ instant [] (ran [] 0 256 0 false 2) row9 (room (1 ∷ 0 ∷ 0 ∷ 0 ∷ []))
+    ∷ [])
     -- K9: Local(0, Par(Await 0, Generate 0))
     ∷ accepted (table (local 0 (par (await 0) (generate 0))) (event 0) 1) 1 0 4
     (instant [] (ran [] 0 256 0 true 2) row9 (room (3 ∷ 0 ∷ 0 ∷ 0 ∷ []))
@@ -238,7 +270,9 @@ bench-list =
     ∷ accepted (table (repeat 3 (atom 4)) [] 1) 0 3 4
     (instant [] (ran [] 0 256 3 true 1) (4 ∷ 4 ∷ 4 ∷ 9 ∷ []) (room (3 ∷ 0 ∷ []))
     ∷ [])
-    ∷ accepted (table (repeat 0 (atom 4)) [] 1) 0 0 1 (instant [] (ran [] 0 256 0 true 1) row9 (room (3 ∷ 0 ∷ [])) ∷ [])
+    ∷ accepted (table (repeat 0 (atom 4)) [] 1) 0 0 1
+    (instant [] (ran [] 0 256 0 true 1) row9 (room (3 ∷ 0 ∷ []))
+    ∷ [])
     -- K11: Control(0, Generate 1)
     ∷ accepted (table (control 0 (generate 1)) [] 2) 1 0 2
     (instant [] (ran [] 0 256 0 false 2) row9 (room (0 ∷ 0 ∷ []))
@@ -249,4 +283,331 @@ bench-list =
     ∷ refused (table (repeat 4095 (generate 0)) [] 1) TooHeavy 8 0
     ∷ accepted (table (repeat 4096 (atom 0)) [] 1) 0 4096 4097 []
     ∷ refused (table (repeat 4097 (atom 0)) [] 1) TooHeavy 8 0
+    -- Seq(Stop, Atom 1): it goes on in its second in the instant in which its first ends
+    ∷ accepted (table (seq stop (atom 1)) [] 1) 0 1 3
+    (instant [] (ran [] 0 256 0 false 1) row9 (room (0 ∷ 3 ∷ 0 ∷ []))
+    ∷ instant [] (ran [] 0 256 1 true 1) (1 ∷ 9 ∷ 9 ∷ 9 ∷ []) (room (3 ∷ 0 ∷ 0 ∷ []))
+    ∷ [])
+    -- Seq(Atom 1, Stop)
+    ∷ accepted (table (seq (atom 1) stop) [] 1) 0 1 3
+    (instant [] (ran [] 0 256 1 false 1) (1 ∷ 9 ∷ 9 ∷ 9 ∷ []) (room (2 ∷ 0 ∷ 3 ∷ []))
+    ∷ instant [] (ran [] 0 256 0 true 1) row9 (room (3 ∷ 0 ∷ 0 ∷ []))
+    ∷ [])
+    -- Par(Stop, Stop); Par(Stop, Nothing); Par(Nothing, Stop): a branch that has ended has the flag TERM, 2 for the first, 8 for the second
+    ∷ accepted (table (par stop stop) [] 1) 0 0 3
+    (instant [] (ran [] 0 256 0 false 1) row9 (room (0 ∷ 3 ∷ 3 ∷ []))
+    ∷ instant [] (ran [] 0 256 0 true 1) row9 (room (3 ∷ 0 ∷ 0 ∷ []))
+    ∷ [])
+    ∷ accepted (table (par stop nothing) [] 1) 0 0 3
+    (instant [] (ran [] 0 256 0 false 1) row9 (own 0 8 0 ++ room (3 ∷ 3 ∷ []))
+    ∷ instant [] (ran [] 0 256 0 true 1) row9 (room (3 ∷ 0 ∷ 0 ∷ []))
+    ∷ [])
+    ∷ accepted (table (par nothing stop) [] 1) 0 0 3
+    (instant [] (ran [] 0 256 0 false 1) row9 (own 0 2 0 ++ room (3 ∷ 3 ∷ []))
+    ∷ instant [] (ran [] 0 256 0 true 1) row9 (room (3 ∷ 0 ∷ 0 ∷ []))
+    ∷ [])
+    -- Par(Await 0, Await 1)
+    ∷ accepted (table (par (await 0) (await 1)) (event 0 ++ event 1) 2) 0 0 3
+    (instant [] (ran [] 0 256 0 false 2) row9 (room (0 ∷ 0 ∷ 0 ∷ []))
+    ∷ instant (0 ∷ []) (ran (0 ∷ []) 1 0 0 false 2) row9 (own 0 2 0 ++ room (3 ∷ 0 ∷ []))
+    ∷ instant (0 ∷ []) (ran (0 ∷ []) 1 0 0 false 2) row9 (own 0 2 0 ++ room (3 ∷ 0 ∷ []))
+    ∷ instant (1 ∷ []) (ran (1 ∷ []) 1 1 0 true 1) row9 (room (3 ∷ 0 ∷ 0 ∷ []))
+    ∷ [])
+    -- and its second branch first
+    ∷ accepted (table (par (await 0) (await 1)) (event 0 ++ event 1) 2) 0 0 3
+    (instant (1 ∷ []) (ran (1 ∷ []) 1 1 0 false 2) row9 (own 0 8 0 ++ room (0 ∷ 3 ∷ []))
+    ∷ instant (0 ∷ 1 ∷ []) (ran (0 ∷ 1 ∷ []) 2 0 0 true 1) row9 (room (3 ∷ 0 ∷ 0 ∷ []))
+    ∷ [])
+    -- Par(Seq(Stop, Atom 1), Await 0), and exchanged: a branch that stopped isn't run again in that instant
+    ∷ accepted (table (par (seq stop (atom 1)) (await 0)) (event 0) 1) 0 1 5
+    (instant [] (ran [] 0 256 0 false 2) row9 (room (0 ∷ 0 ∷ 3 ∷ 0 ∷ 0 ∷ []))
+    ∷ instant (0 ∷ []) (ran (0 ∷ []) 1 0 1 true 1) (1 ∷ 9 ∷ 9 ∷ 9 ∷ []) (room (3 ∷ 0 ∷ 0 ∷ 0 ∷ 0 ∷ []))
+    ∷ [])
+    ∷ accepted (table (par (await 0) (seq stop (atom 1))) (event 0) 1) 0 1 5
+    (instant [] (ran [] 0 256 0 false 2) row9 (room (0 ∷ 0 ∷ 0 ∷ 3 ∷ 0 ∷ []))
+    ∷ instant (0 ∷ []) (ran (0 ∷ []) 1 0 1 true 1) (1 ∷ 9 ∷ 9 ∷ 9 ∷ []) (room (3 ∷ 0 ∷ 0 ∷ 0 ∷ 0 ∷ []))
+    ∷ [])
+    -- Par(Atom 1, Atom 2): the first branch first
+    ∷ accepted (table (par (atom 1) (atom 2)) [] 1) 0 2 3
+    (instant [] (ran [] 0 256 2 true 1) (1 ∷ 2 ∷ 9 ∷ 9 ∷ []) (room (3 ∷ 0 ∷ 0 ∷ []))
+    ∷ [])
+    -- Par(Await 1, Generate 0) with event 0 there already: generating it is a move all the same
+    ∷ accepted (table (par (await 0) (generate 0)) (event 1) 2) 1 0 3
+    (instant (0 ∷ []) (ran (0 ∷ []) 1 0 0 false 3) row9 (own 0 8 0 ++ room (0 ∷ 3 ∷ []))
+    ∷ [])
+    -- Loop(Seq(Atom 1, Stop)): A and W count the body twice
+    ∷ accepted (table (loop (seq (atom 1) stop)) [] 1) 0 2 7
+    (instant [] (ran [] 0 256 1 false 1) (1 ∷ 9 ∷ 9 ∷ 9 ∷ []) (room (1 ∷ 2 ∷ 0 ∷ 3 ∷ []))
+    ∷ instant [] (ran [] 0 256 1 false 1) (1 ∷ 9 ∷ 9 ∷ 9 ∷ []) (room (1 ∷ 2 ∷ 0 ∷ 3 ∷ []))
+    ∷ [])
+    -- Repeat(3, Stop): W counts a body that stops at most twice; the count says how many runs are still to begin
+    ∷ accepted (table (repeat 3 stop) [] 1) 0 0 3
+    (instant [] (ran [] 0 256 0 false 1) row9 (own 1 0 2 ++ room (3 ∷ []))
+    ∷ instant [] (ran [] 0 256 0 false 1) row9 (own 1 0 1 ++ room (3 ∷ []))
+    ∷ instant [] (ran [] 0 256 0 false 1) row9 (own 1 0 0 ++ room (3 ∷ []))
+    ∷ instant [] (ran [] 0 256 0 true 1) row9 (room (3 ∷ 0 ∷ []))
+    ∷ [])
+    -- Repeat(1, Stop)
+    ∷ accepted (table (repeat 1 stop) [] 1) 0 0 2
+    (instant [] (ran [] 0 256 0 false 1) row9 (own 1 0 0 ++ room (3 ∷ []))
+    ∷ instant [] (ran [] 0 256 0 true 1) row9 (room (3 ∷ 0 ∷ []))
+    ∷ [])
+    -- Repeat(600, Stop): 599 is 2, 87
+    ∷ accepted (table (repeat 600 stop) [] 1) 0 0 3
+    (instant [] (ran [] 0 256 0 false 1) row9 (1 ∷ 0 ∷ 2 ∷ 87 ∷ room (3 ∷ []))
+    ∷ [])
+    -- Repeat(2, Await 0)
+    ∷ accepted (table (repeat 2 (await 0)) (event 0) 1) 0 0 3
+    (instant [] (ran [] 0 256 0 false 2) row9 (own 1 0 1 ++ room (0 ∷ []))
+    ∷ instant (0 ∷ []) (ran (0 ∷ []) 1 0 0 true 1) row9 (room (3 ∷ 0 ∷ []))
+    ∷ [])
+    -- When(not 0, Atom 1, Atom 2): late then, early else
+    ∷ accepted (table (when 0 (atom 1) (atom 2)) (no (event 0)) 1) 0 1 2
+    (instant [] (ran [] 0 256 0 false 2) row9 (room (1 ∷ 0 ∷ 0 ∷ []))
+    ∷ instant (0 ∷ []) (ran (0 ∷ []) 1 0 1 true 1) (1 ∷ 9 ∷ 9 ∷ 9 ∷ []) (room (3 ∷ 0 ∷ 0 ∷ []))
+    ∷ [])
+    ∷ accepted (table (when 0 (atom 1) (atom 2)) (no (event 0)) 1) 0 1 2
+    (instant (0 ∷ []) (ran (0 ∷ []) 1 0 1 true 1) (2 ∷ 9 ∷ 9 ∷ 9 ∷ []) (room (3 ∷ 0 ∷ 0 ∷ []))
+    ∷ [])
+    -- When(0, Seq(Stop, Atom 1), Seq(Stop, Atom 2)): the test is read once
+    ∷ accepted (table (when 0 (seq stop (atom 1)) (seq stop (atom 2))) (event 0) 1) 0 1 4
+    (instant (0 ∷ []) (ran (0 ∷ []) 1 0 0 false 1) row9 (room (1 ∷ 0 ∷ 3 ∷ 0 ∷ 0 ∷ 0 ∷ 0 ∷ []))
+    ∷ instant [] (ran [] 0 256 1 true 1) (1 ∷ 9 ∷ 9 ∷ 9 ∷ []) (room (3 ∷ 0 ∷ 0 ∷ 0 ∷ 0 ∷ 0 ∷ 0 ∷ []))
+    ∷ [])
+    ∷ accepted (table (when 0 (seq stop (atom 1)) (seq stop (atom 2))) (event 0) 1) 0 1 4
+    (instant [] (ran [] 0 256 0 false 2) row9 (room (2 ∷ 0 ∷ 0 ∷ 0 ∷ 0 ∷ 0 ∷ 0 ∷ []))
+    ∷ instant (0 ∷ []) (ran (0 ∷ []) 1 0 0 false 1) row9 (room (2 ∷ 0 ∷ 0 ∷ 0 ∷ 0 ∷ 3 ∷ 0 ∷ []))
+    ∷ instant (0 ∷ []) (ran (0 ∷ []) 1 0 1 true 1) (2 ∷ 9 ∷ 9 ∷ 9 ∷ []) (room (3 ∷ 0 ∷ 0 ∷ 0 ∷ 0 ∷ 0 ∷ 0 ∷ []))
+    ∷ [])
+    -- Until(0, Stop, Atom 5): early handler; none, and then the body ends
+    ∷ accepted (table (until 0 stop (atom 5)) (event 0) 1) 0 1 3
+    (instant (0 ∷ []) (ran (0 ∷ []) 1 0 1 true 1) (5 ∷ 9 ∷ 9 ∷ 9 ∷ []) (room (3 ∷ 0 ∷ 0 ∷ []))
+    ∷ [])
+    ∷ accepted (table (until 0 stop (atom 5)) (event 0) 1) 0 1 3
+    (instant [] (ran [] 0 256 0 false 2) row9 (room (0 ∷ 3 ∷ 0 ∷ []))
+    ∷ instant (0 ∷ []) (ran (0 ∷ []) 1 0 0 true 1) row9 (room (3 ∷ 0 ∷ 0 ∷ []))
+    ∷ [])
+    -- Until(0, Await 1, Seq(Stop, Atom 5)): the test is read once the body has stopped; late handler
+    ∷ accepted (table (until 0 (await 1) (seq stop (atom 5))) (event 0 ++ event 1) 2) 0 1 5
+    (instant [] (ran [] 0 256 0 false 2) row9 (room (0 ∷ 0 ∷ 0 ∷ 0 ∷ 0 ∷ []))
+    ∷ instant (0 ∷ []) (ran (0 ∷ []) 1 0 0 false 2) row9 (room (2 ∷ 0 ∷ 0 ∷ 0 ∷ 0 ∷ []))
+    ∷ instant [] (ran [] 0 256 0 false 1) row9 (room (2 ∷ 0 ∷ 0 ∷ 3 ∷ 0 ∷ []))
+    ∷ instant [] (ran [] 0 256 1 true 1) (5 ∷ 9 ∷ 9 ∷ 9 ∷ []) (room (3 ∷ 0 ∷ 0 ∷ 0 ∷ 0 ∷ []))
+    ∷ [])
+    -- and its body ends
+    ∷ accepted (table (until 0 (await 1) (seq stop (atom 5))) (event 0 ++ event 1) 2) 0 1 5
+    (instant (0 ∷ 1 ∷ []) (ran (0 ∷ 1 ∷ []) 2 0 0 true 1) row9 (room (3 ∷ 0 ∷ 0 ∷ 0 ∷ 0 ∷ []))
+    ∷ [])
+    -- Par(Until(1, Seq(Stop, Atom 9), Atom 5), Generate 1): the body that stopped isn't run again in that instant
+    ∷ accepted (table (par (until 0 (seq stop (atom 9)) (atom 5)) (generate 1)) (event 1) 2) 1 2 7
+    (instant [] (ran (1 ∷ []) 1 1 1 true 2) (5 ∷ 9 ∷ 9 ∷ 9 ∷ []) (room (3 ∷ 0 ∷ 0 ∷ 0 ∷ 0 ∷ 0 ∷ 0 ∷ []))
+    ∷ [])
+    -- Control(0, Seq(Stop, Atom 3)): without its event the body stands still
+    ∷ accepted (table (control 0 (seq stop (atom 3))) [] 1) 0 1 4
+    (instant (0 ∷ []) (ran (0 ∷ []) 1 0 0 false 1) row9 (room (0 ∷ 0 ∷ 3 ∷ 0 ∷ []))
+    ∷ instant [] (ran [] 0 256 0 false 2) row9 (room (0 ∷ 0 ∷ 3 ∷ 0 ∷ []))
+    ∷ instant (0 ∷ []) (ran (0 ∷ []) 1 0 1 true 1) (3 ∷ 9 ∷ 9 ∷ 9 ∷ []) (room (3 ∷ 0 ∷ 0 ∷ 0 ∷ []))
+    ∷ [])
+    -- Par(Control(0, Atom 3), Generate 0)
+    ∷ accepted (table (par (control 0 (atom 3)) (generate 0)) [] 1) 1 1 4
+    (instant [] (ran (0 ∷ []) 1 0 1 true 2) (3 ∷ 9 ∷ 9 ∷ 9 ∷ []) (room (3 ∷ 0 ∷ 0 ∷ 0 ∷ []))
+    ∷ [])
+    -- Local(0, Generate 0): its event stays in, the one outside stays as it is
+    ∷ accepted (table (local 0 (generate 0)) [] 1) 1 0 2
+    (instant [] (ran [] 0 256 0 true 1) row9 (room (3 ∷ 0 ∷ []))
+    ∷ [])
+    ∷ accepted (table (local 0 (generate 0)) [] 1) 1 0 2
+    (instant (0 ∷ []) (ran (0 ∷ []) 1 0 0 true 1) row9 (room (3 ∷ 0 ∷ []))
+    ∷ [])
+    -- Local(0, Await 0): the event outside is another
+    ∷ accepted (table (local 0 (await 0)) (event 0) 1) 0 0 2
+    (instant (0 ∷ []) (ran (0 ∷ []) 1 0 0 false 2) row9 (room (0 ∷ 0 ∷ []))
+    ∷ [])
+    -- Local(0, Par(Par(Await 0, Generate 0), Await 1)): present in every later pass of the instant, gone at rest
+    ∷ accepted (table (local 0 (par (par (await 0) (generate 0)) (await 1))) (event 0 ++ event 1) 2) 1 0 6
+    (instant [] (ran [] 0 256 0 false 3) row9 (own 0 0 0 ++ (own 0 2 0 ++ room (3 ∷ 0 ∷ 0 ∷ 0 ∷ [])))
+    ∷ instant (1 ∷ []) (ran (1 ∷ []) 1 1 0 true 1) row9 (room (3 ∷ 0 ∷ 0 ∷ 0 ∷ 0 ∷ 0 ∷ []))
+    ∷ [])
+    -- Local(0, Seq(Generate 0, Seq(Stop, When(0, Atom 1, Atom 2)))): and in the next instant it is absent
+    ∷ accepted (table (local 0 (seq (generate 0) (seq stop (when 0 (atom 1) (atom 2))))) (event 0) 1) 1 1 7
+    (instant [] (ran [] 0 256 0 false 1) row9 (room (0 ∷ 2 ∷ 0 ∷ 0 ∷ 3 ∷ 0 ∷ 0 ∷ 0 ∷ []))
+    ∷ instant [] (ran [] 0 256 0 false 2) row9 (room (0 ∷ 2 ∷ 0 ∷ 2 ∷ 0 ∷ 2 ∷ 0 ∷ 0 ∷ []))
+    ∷ instant [] (ran [] 0 256 1 true 1) (2 ∷ 9 ∷ 9 ∷ 9 ∷ []) (room (3 ∷ 0 ∷ 0 ∷ 0 ∷ 0 ∷ 0 ∷ 0 ∷ 0 ∷ []))
+    ∷ [])
+    -- Local(0, Seq(Generate 1, Stop)): other events go out
+    ∷ accepted (table (local 0 (seq (generate 1) stop)) [] 2) 1 0 4
+    (instant [] (ran (1 ∷ []) 1 1 0 false 1) row9 (room (0 ∷ 2 ∷ 0 ∷ 3 ∷ []))
+    ∷ [])
+    -- Generate 255: an event of each word
+    ∷ accepted (table (generate 255) [] 256) 1 0 1
+    (instant (63 ∷ 64 ∷ 191 ∷ []) (ran (63 ∷ 64 ∷ 191 ∷ 255 ∷ []) 4 63 0 true 1) row9 (room (3 ∷ []))
+    ∷ [])
+    -- Tests, by Await. not 0: early unsat, late sat
+    ∷ accepted (table (await 0) (no (event 0)) 1) 0 0 1
+    (instant (0 ∷ []) (ran (0 ∷ []) 1 0 0 false 1) row9 (room (0 ∷ []))
+    ∷ instant [] (ran [] 0 256 0 false 2) row9 (room (3 ∷ []))
+    ∷ instant (0 ∷ []) (ran (0 ∷ []) 1 0 0 true 1) row9 (room (3 ∷ []))
+    ∷ [])
+    -- 0 and 1
+    ∷ accepted (table (await 0) (both (event 0) (event 1)) 2) 0 0 1
+    (instant [] (ran [] 0 256 0 false 2) row9 (room (0 ∷ []))
+    ∷ instant (0 ∷ []) (ran (0 ∷ []) 1 0 0 false 2) row9 (room (0 ∷ []))
+    ∷ instant (1 ∷ []) (ran (1 ∷ []) 1 1 0 false 2) row9 (room (0 ∷ []))
+    ∷ instant (0 ∷ 1 ∷ []) (ran (0 ∷ 1 ∷ []) 2 0 0 true 1) row9 (room (3 ∷ []))
+    ∷ [])
+    -- (not 0) and 1: early unsat by its first part
+    ∷ accepted (table (await 0) (both (no (event 0)) (event 1)) 2) 0 0 1
+    (instant (0 ∷ []) (ran (0 ∷ []) 1 0 0 false 1) row9 (room (0 ∷ []))
+    ∷ instant [] (ran [] 0 256 0 false 2) row9 (room (0 ∷ []))
+    ∷ instant (1 ∷ []) (ran (1 ∷ []) 1 1 0 false 2) row9 (room (3 ∷ []))
+    ∷ [])
+    -- 1 and (not 0): by its second
+    ∷ accepted (table (await 0) (both (event 1) (no (event 0))) 2) 0 0 1
+    (instant (0 ∷ []) (ran (0 ∷ []) 1 0 0 false 1) row9 (room (0 ∷ []))
+    ∷ instant (0 ∷ 1 ∷ []) (ran (0 ∷ 1 ∷ []) 2 0 0 false 1) row9 (room (0 ∷ []))
+    ∷ instant (1 ∷ []) (ran (1 ∷ []) 1 1 0 false 2) row9 (room (3 ∷ []))
+    ∷ [])
+    -- 0 or 1: early sat by its first part, by its second
+    ∷ accepted (table (await 0) (either (event 0) (event 1)) 2) 0 0 1
+    (instant [] (ran [] 0 256 0 false 2) row9 (room (0 ∷ []))
+    ∷ instant (0 ∷ []) (ran (0 ∷ []) 1 0 0 true 1) row9 (room (3 ∷ []))
+    ∷ [])
+    ∷ accepted (table (await 0) (either (event 0) (event 1)) 2) 0 0 1
+    (instant (1 ∷ []) (ran (1 ∷ []) 1 1 0 true 1) row9 (room (3 ∷ []))
+    ∷ [])
+    -- (not 0) or (not 1): early unsat by both, late sat
+    ∷ accepted (table (await 0) (either (no (event 0)) (no (event 1))) 2) 0 0 1
+    (instant (0 ∷ 1 ∷ []) (ran (0 ∷ 1 ∷ []) 2 0 0 false 1) row9 (room (0 ∷ []))
+    ∷ instant (0 ∷ []) (ran (0 ∷ []) 1 0 0 false 2) row9 (room (3 ∷ []))
+    ∷ [])
+    -- a test that is a part of another configuration
+    ∷ accepted (table (await 1) (no (event 0)) 1) 0 0 1 (instant (0 ∷ []) (ran (0 ∷ []) 1 0 0 true 1) row9 (room (3 ∷ [])) ∷ [])
+    -- Par(Await 0, Seq(Await 0, Await 1)), two nodes with one configuration
+    ∷ accepted (table (par (await 0) (seq (await 0) (await 1))) (event 0 ++ event 1) 2) 0 0 5
+    (instant (0 ∷ 1 ∷ []) (ran (0 ∷ 1 ∷ []) 2 0 0 true 1) row9 (room (3 ∷ 0 ∷ 0 ∷ 0 ∷ 0 ∷ []))
+    ∷ [])
+    -- Figures: When(0, Seq(Generate 0, Atom 1), Atom 2) counts the larger, Until(0, Atom 1, Seq(Generate 0, Atom 2)) both
+    ∷ accepted (table (when 0 (seq (generate 0) (atom 1)) (atom 2)) (event 0) 1) 1 1 4 []
+    ∷ accepted (table (until 0 (atom 1) (seq (generate 0) (atom 2))) (event 0) 1) 1 2 5 []
+    -- Repeat(0, Repeat(65535, Nothing)): a body that is never begun weighs nothing, but has to be good
+    ∷ accepted (table (repeat 0 (repeat 65535 nothing)) [] 1) 0 0 1 []
+    ∷ refused (table (repeat 0 (loop nothing)) [] 1) (EndlessLoop 1) 7 1
+    -- Repeat(65534, Nothing), and 65535
+    ∷ accepted (table (repeat 65534 nothing) [] 1) 0 0 65535 []
+    ∷ refused (table (repeat 65535 nothing) [] 1) TooHeavy 8 0
+    -- Refused tables: 1
+    ∷ refused ([]) BadLength 1 0
+    ∷ refused (nothing ++ (0 ∷ 1 ∷ 0 ∷ 0 ∷ 0 ∷ 1 ∷ 0 ∷ 6 ∷ 0 ∷ [])) BadLength 1 0
+    ∷ refused (replicate 32779 0) BadLength 1 0
+    -- 2: N, M, V
+    ∷ refused (table [] (event 0 ++ event 0) 1) BadCounts 2 0
+    ∷ refused (nothing ++ trailer 4097 0 1 6 0) BadCounts 2 0
+    ∷ refused (nothing ++ trailer 1 2049 1 6 0) BadCounts 2 0
+    ∷ refused (nothing ++ trailer 1 0 0 6 0) BadCounts 2 0
+    ∷ refused (nothing ++ trailer 1 0 257 6 0) BadCounts 2 0
+    -- 3: the distances, the length
+    ∷ refused (nothing ++ trailer 1 0 1 7 0) BadDistances 3 0
+    ∷ refused (nothing ++ trailer 1 0 1 6 4) BadDistances 3 0
+    ∷ refused (nothing ++ (nothing ++ trailer 1 0 1 6 0)) BadDistances 3 0
+    -- 4: a kind of 4, before a bad node; an event at V; a not with an event; a size; a part that isn't there
+    ∷ refused (table (node 13 0 1) (configuration 4 0 1) 1) (BadConfiguration 0) 4 0
+    ∷ refused (table nothing (event 0 ++ event 1) 1) (BadConfiguration 1) 4 1
+    ∷ refused (table nothing (configuration 1 1 2 ++ event 0) 2) (BadConfiguration 0) 4 0
+    ∷ refused (table nothing (event 0 ++ (configuration 1 0 3 ++ event 0)) 1) (BadConfiguration 1) 4 1
+    ∷ refused (table nothing (configuration 2 0 3 ++ event 0) 1) (BadConfiguration 0) 4 0
+    -- a height of 17; of 16 above a bad not, which counts as 1
+    ∷ refused (table nothing (nots15 (no (event 0))) 1) (BadConfiguration 0) 4 0
+    ∷ refused (table nothing (nots15 (configuration 1 1 2 ++ event 0)) 1) (BadConfiguration 15) 4 15
+    -- 5: a kind of 13; a byte that isn't zero
+    ∷ refused (table (seq nothing (node 13 0 1)) [] 1) (BadNode 2) 5 2
+    ∷ refused (table (0 ∷ 1 ∷ 0 ∷ 0 ∷ 0 ∷ 1 ∷ []) [] 1) (BadNode 0) 5 0
+    -- an argument: of a Stop 1, of Generate, Control, Local an event at V, of Await, When, Until a configuration at M
+    ∷ refused (table (seq nothing (form 1 1 [])) [] 1) (BadNode 2) 5 2
+    ∷ refused (table (seq (generate 0) (generate 1)) [] 1) (BadNode 2) 5 2
+    ∷ refused (table (seq (control 0 nothing) (control 1 nothing)) [] 1) (BadNode 3) 5 3
+    ∷ refused (table (seq (local 0 nothing) (local 1 nothing)) [] 1) (BadNode 3) 5 3
+    ∷ refused (table (seq (await 0) (await 1)) (event 0) 1) (BadNode 2) 5 2
+    ∷ refused (table (seq (when 0 stop stop) (when 1 stop stop)) (event 0) 1) (BadNode 4) 5 4
+    ∷ refused (table (seq (until 0 stop stop) (until 1 stop stop)) (event 0) 1) (BadNode 4) 5 4
+    -- a size; a child that isn't there; record 0 of another size than N
+    ∷ refused (table (node 3 0 4 ++ (nothing ++ nothing)) [] 1) (BadNode 0) 5 0
+    ∷ refused (table (node 3 0 3 ++ (nothing ++ node 5 0 1)) [] 1) (BadNode 2) 5 2
+    ∷ refused (table (node 3 0 2 ++ nothing) [] 1) (BadNode 0) 5 0
+    ∷ refused (table (nothing ++ nothing) [] 1) (BadNode 0) 5 0
+    -- 7: of two Loops, or three, the last one's body doesn't stop. Seq; Par; Repeat; When; Until; Control; Local; Loop
+    ∷ refused (table (seq (loop (seq stop nothing)) (loop (seq nothing (atom 1)))) [] 1) (EndlessLoop 5) 7 5
+    ∷ refused (table (seq (loop (par stop nothing)) (seq (loop (par nothing stop)) (loop (par nothing (generate 0))))) [] 1) (EndlessLoop 10) 7 10
+    ∷ refused (table (seq (loop (repeat 1 stop)) (loop (repeat 0 stop))) [] 1) (EndlessLoop 4) 7 4
+    ∷ refused (table (seq (loop (when 0 stop stop)) (loop (when 0 stop nothing))) (event 0) 1) (EndlessLoop 5) 7 5
+    ∷ refused (table (seq (loop (until 0 stop stop)) (loop (until 0 nothing stop))) (event 0) 1) (EndlessLoop 5) 7 5
+    ∷ refused (table (seq (loop (control 0 stop)) (loop (control 0 nothing))) [] 1) (EndlessLoop 4) 7 4
+    ∷ refused (table (seq (loop (local 0 stop)) (loop (local 0 nothing))) [] 1) (EndlessLoop 4) 7 4
+    ∷ refused (table (seq (loop (loop stop)) (loop nothing)) [] 1) (EndlessLoop 4) 7 4
+    -- 9 to 12: Seq(Stop, Atom 4), V 3. A room of 11 bytes; one that isn't at rest; events 2, 5 and 4; a row without a place, though this instant
+    -- does no atom
+    ∷ not-started (table (seq stop (atom 4)) [] 3) (replicate 11 255) StateRoom 9 0
+    ∷ not-run (table (seq stop (atom 4)) [] 3)
+    (turned-down (set (2 ∷ 5 ∷ 4 ∷ [])) [] (replicate 11 0) StateRoom 9 0
+    ∷ turned-down (set (2 ∷ 5 ∷ 4 ∷ [])) [] (phases (0 ∷ 1 ∷ 0 ∷ [])) (NotAtRest 1) 10 1
+    ∷ [])
+    ∷ accepted (table (seq stop (atom 4)) [] 3) 0 1 3
+    (turned-down (set (2 ∷ 5 ∷ 4 ∷ [])) [] (room (0 ∷ 0 ∷ 0 ∷ [])) (UnlistedEvent 4) 11 4
+    ∷ turned-down (set (2 ∷ [])) [] (room (0 ∷ 0 ∷ 0 ∷ [])) AtomRoom 12 0
+    ∷ instant-in (2 ∷ []) (9 ∷ []) (ran (2 ∷ []) 1 2 0 false 1) (9 ∷ []) (room (0 ∷ 3 ∷ 0 ∷ []))
+    ∷ instant-in [] (9 ∷ []) (ran [] 0 256 1 true 1) (4 ∷ []) (room (3 ∷ 0 ∷ 0 ∷ []))
+    ∷ [])
+    -- 10: a leaf's phase, flags, count
+    ∷ not-run (table (par stop stop) [] 1)
+    (blames (phases (0 ∷ 1 ∷ 0 ∷ [])) 1
+    ∷ blames (own 0 0 0 ++ (own 0 0 0 ++ own 0 1 0)) 2
+    ∷ blames (own 0 0 0 ++ (own 0 0 0 ++ own 0 0 1)) 2
+    ∷ [])
+    -- Par: its phase; flags STOP and SUSP, both TERM, TERM over a branch that hasn't ended
+    ∷ not-run (table (par stop stop) [] 1)
+    (blames (phases (1 ∷ 0 ∷ 0 ∷ [])) 0
+    ∷ blames (own 0 1 0 ++ phases (0 ∷ 0 ∷ [])) 0
+    ∷ blames (own 0 4 0 ++ phases (0 ∷ 0 ∷ [])) 0
+    ∷ blames (own 0 10 0 ++ phases (3 ∷ 3 ∷ [])) 0
+    ∷ blames (own 0 2 0 ++ phases (0 ∷ 3 ∷ [])) 0
+    ∷ blames (own 0 8 0 ++ phases (3 ∷ 0 ∷ [])) 0
+    ∷ [])
+    -- phase 3 with flags, with a count, with a part that isn't zero
+    ∷ not-run (table (par stop stop) [] 1)
+    (blames (own 3 2 0 ++ phases (0 ∷ 0 ∷ [])) 0
+    ∷ blames (own 3 0 1 ++ phases (0 ∷ 0 ∷ [])) 0
+    ∷ blames (phases (3 ∷ 0 ∷ 3 ∷ [])) 0
+    ∷ [])
+    -- Seq: its phase; a part that isn't zero
+    ∷ not-run (table (seq stop stop) [] 1)
+    (blames (phases (1 ∷ 0 ∷ 0 ∷ [])) 0
+    ∷ blames (phases (0 ∷ 0 ∷ 3 ∷ [])) 0
+    ∷ blames (phases (2 ∷ 3 ∷ 0 ∷ [])) 0
+    ∷ [])
+    -- Loop; Repeat, and its count
+    ∷ not-run (table (loop stop) [] 1)
+    (blames (phases (2 ∷ 0 ∷ [])) 0
+    ∷ blames (phases (0 ∷ 3 ∷ [])) 0
+    ∷ [])
+    ∷ not-run (table (repeat 2 stop) [] 1)
+    (blames (phases (2 ∷ 0 ∷ [])) 0
+    ∷ blames (phases (0 ∷ 3 ∷ [])) 0
+    ∷ blames (own 1 0 2 ++ phases (3 ∷ [])) 0
+    ∷ blames (own 0 0 1 ++ phases (0 ∷ [])) 0
+    ∷ [])
+    -- When; Until, which isn't in phase 1
+    ∷ not-run (table (when 0 stop stop) (event 0) 1)
+    (blames (phases (4 ∷ 0 ∷ 0 ∷ [])) 0
+    ∷ blames (phases (0 ∷ 3 ∷ 0 ∷ [])) 0
+    ∷ blames (phases (0 ∷ 0 ∷ 3 ∷ [])) 0
+    ∷ blames (phases (1 ∷ 0 ∷ 3 ∷ [])) 0
+    ∷ blames (phases (2 ∷ 3 ∷ 0 ∷ [])) 0
+    ∷ [])
+    ∷ not-run (table (until 0 stop stop) (event 0) 1)
+    (blames (phases (1 ∷ 0 ∷ 0 ∷ [])) 0
+    ∷ blames (phases (0 ∷ 0 ∷ 3 ∷ [])) 0
+    ∷ blames (phases (2 ∷ 3 ∷ 0 ∷ [])) 0
+    ∷ [])
+    -- Control; Local, which isn't plus
+    ∷ not-run (table (control 0 stop) [] 1) (blames (phases (1 ∷ 0 ∷ [])) 0 ∷ [])
+    ∷ not-run (table (local 0 stop) [] 1) (blames (phases (1 ∷ 0 ∷ [])) 0 ∷ [])
     ∷ []

@@ -26,4 +26,3 @@ pub mod Answers
 pub mod TestParts
 pub mod Loaded
 pub mod Accepted
-pub mod Bench

@@ -10,4 +10,6 @@ abbrev pub configuration : ℕ → ℕ → ℕ → List ℕ
 configuration kind event size = kind ∷ event ∷ size / 256 ∷ size % 256 ∷ []
 
 abbrev pub trailer : ℕ → ℕ → ℕ → ℕ → ℕ → List ℕ
-trailer n m v back-to-nodes back-to-configurations = 0 ∷ n ∷ 0 ∷ m ∷ 0 ∷ v ∷ 0 ∷ back-to-nodes ∷ 0 ∷ back-to-configurations ∷ []
+trailer n m v back-to-nodes back-to-configurations =
+    n / 256 ∷ n % 256 ∷ m / 256 ∷ m % 256 ∷ v / 256 ∷ v % 256
+    ∷ back-to-nodes / 256 ∷ back-to-nodes % 256 ∷ back-to-configurations / 256 ∷ back-to-configurations % 256 ∷ []
