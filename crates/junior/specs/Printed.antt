@@ -19,7 +19,7 @@ use Rattle.junior.specs.Term.{repeat0, repeat1, when0, when1, when2, unt
 use Rattle.junior.specs.Term.{prog}
 use Rattle.junior.specs.Trace.{Act, did-atom, did-generate, decided, waits, scope-answered}
 
--- terms (2.1)
+-- terms (2.1); actions, events and counts are numbers from 0 on (01)
 pub data Abstract : Type 0 where
   Nothing Stop : Abstract
   Atom Generate : ℕ → Abstract
