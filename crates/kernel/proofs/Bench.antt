@@ -23,7 +23,8 @@ use Rattle.junior.proofs.Exists.{pass-exists}
 use Rattle.junior.proofs.Figures.{loops-fresh}
 use Rattle.junior.proofs.Instants.{ends-by, ends-within, ends}
 use Rattle.table.specs.declared.Checked.{Checked}
-use Rattle.table.specs.declared.Checked.the-variants.{Accepted}
+use Rattle.table.specs.declared.Checked.the-variants.{BadLength, BadCounts, BadDistances, BadConfiguration, BadNode}
+use Rattle.table.specs.declared.Checked.the-variants.{TooDeep, EndlessLoop, TooHeavy, Accepted}
 use Rattle.table.specs.Records.{nodes}
 use Rattle.table.specs.Good.{laidOut, children, argumentLimit, goodNode, parts, goodButHeight, heightAtMost}
 use Rattle.table.specs.Good.{goodConfiguration}
@@ -38,7 +39,8 @@ use Rattle.kernel.specs.Resting.{zeroNode, zeroNodes, phaseRests, flagsR
 use Rattle.kernel.specs.Answer.{outcomeNumber, outcomeIndex, onAccepted, startOutcome, instantOutcome, startedRoom}
 use Rattle.kernel.specs.Answer.{Started}
 use Rattle.kernel.specs.Bench.{Line, Entry, accepted, refused, not-started, not-run, Checks, Starts, Answers, Follow, Alone}
-use Rattle.kernel.specs.Bench.{word-of, set, turned-down, Shown, All, [[]], _∷∷_, phases, bench-list}
+use Rattle.kernel.specs.Bench.{word-of, set, turned-down, Shown, All, phases, K1-to-K12, more-of-the-forms, tests}
+use Rattle.kernel.specs.Bench.{figures, refused-tables, refused-rooms, not-at-rest, bench-list}
 use Rattle.kernel.proofs.Accepted.{admitted}
 use Rattle.kernel.proofs.Outcomes.{start-ran}
 use Rattle.kernel.proofs.OneAnswer.{ran-or-not, one-start}
@@ -129,39 +131,59 @@ stand-alone t (y ∷ l) h = go (ran-or-not (y .answer .outcome)) (stand-alone t 
         let now : seen-refused y (y .state) o ≡ seen y = cc in
         (refused-answers t (y .state) y o refl not now, f cc)
 
--- what is to be seen of a start
-record Seen-start : Type 0 where
-  outcome : Outcome
-  number : ℕ
-  index : ℕ
-  room : List ℕ
+-- a verdict accepts, or it is the outcome of every call
+abbrev Accepts : Checked → Type 0
+Accepts c = (g : ℕ) × (a : ℕ) × (w : ℕ) × (c ≡ Accepted g a w)
 
-abbrev seen-start : List ℕ → List ℕ → Outcome → Seen-start
-seen-start t s o = record { outcome = o; number = outcomeNumber o; index = outcomeIndex o; room = startedRoom o t s }
+abbrev Refuses : Checked → Type 0
+Refuses c = (go : ℕ → Outcome) → onAccepted c go ≡ Table c
 
--- and of a verdict; an accepted one goes on
-record Seen-verdict : Type 0 where
-  outcome : Outcome
-  number : ℕ
-  index : ℕ
-  figures : Figures
+unfoldable judged : (c : Checked) → Accepts c ⊎ Refuses c
+judged BadLength = inr (λ go. refl)
+judged BadCounts = inr (λ go. refl)
+judged BadDistances = inr (λ go. refl)
+judged (BadConfiguration j) = inr (λ go. refl)
+judged (BadNode i) = inr (λ go. refl)
+judged (TooDeep i) = inr (λ go. refl)
+judged (EndlessLoop i) = inr (λ go. refl)
+judged TooHeavy = inr (λ go. refl)
+judged (Accepted g a w) = inl (g, a, w, refl)
 
-abbrev seen-verdict : Checked → (ℕ → Outcome) → Seen-verdict
-seen-verdict c go = record { outcome = onAccepted c go; number = numberOf c; index = indexOf c; figures = figuresOf c }
+-- what is to be seen of an entry: the verdict and the instants; a verdict that refuses, its number, index and figures; the outcome of a start, its number
+-- and index, and the room after it; the instants alone
+data View : Type 0 where
+  of-accepted : Checked → List Seen → View
+  of-refused : Checked → ℕ → ℕ → Figures → View
+  of-start : Outcome → ℕ → ℕ → List ℕ → View
+  of-alone : List Seen → View
 
--- an entry, by what its table computes to
-unfoldable Computed : Entry → Type 0
-Computed (accepted t g a w l) =
-    (v : verdictOf t ≡ Accepted g a w) × (told t a (255 ∷ []) (fresh (treeOf t)) (loops t v) (fresh-at-rest (treeOf t)) l ≡ map seen l)
-Computed (refused t c n i) =
-    (verdictOf t ≡ c)
-    × ((go : ℕ → Outcome) → seen-verdict c go ≡ record { outcome = Table c; number = n; index = i; figures = no-figures })
-Computed (not-started t s o n i) =
-    (o ≡ startOutcome t s) × (seen-start t s o ≡ record { outcome = o; number = n; index = i; room = s })
-Computed (not-run t l) = told-alone t l ≡ map seen l
+-- by its table's verdict, where it must be accepted and where it must not; else there is nothing to see
+if-accepted : (t : List ℕ) → List Line → Accepts (verdictOf t) ⊎ Refuses (verdictOf t) → View
+if-accepted t l (inl (g, a, w, v)) =
+    of-accepted (Accepted g a w) (told t a (255 ∷ []) (fresh (treeOf t)) (loops t v) (fresh-at-rest (treeOf t)) l)
+if-accepted t l (inr e) = of-alone []
+
+if-refused : (c : Checked) → Accepts c ⊎ Refuses c → View
+if-refused c (inl e) = of-alone []
+if-refused c (inr e) = of-refused c (numberOf c) (indexOf c) (figuresOf c)
+
+-- an entry as it computes, and as the list has it
+computed : Entry → View
+computed (accepted t g a w l) = if-accepted t l (judged (verdictOf t))
+computed (refused t c n i) = if-refused (verdictOf t) (judged (verdictOf t))
+computed (not-started t s o n i) =
+    let q = startOutcome t s in
+    of-start q (outcomeNumber q) (outcomeIndex q) (startedRoom q t s)
+computed (not-run t l) = of-alone (told-alone t l)
+
+listed : Entry → View
+listed (accepted t g a w l) = of-accepted (Accepted g a w) (map seen l)
+listed (refused t c n i) = of-refused c n i no-figures
+listed (not-started t s o n i) = of-start o n i s
+listed (not-run t l) = of-alone (map seen l)
 
 -- on a refused table
-module _ (t : List ℕ) (c : Checked) {n i : ℕ} (h : Checks t c n i 0 0 0) (away : (go : ℕ → Outcome) → onAccepted c go ≡ Table c) where
+module _ (t : List ℕ) (c : Checked) {n i : ℕ} (h : Checks t c n i 0 0 0) (away : Refuses c) where
   no-start : (s : List ℕ) → Starts t s (Table c) n i s
   unfolding startOutcome startedRoom outcomeNumber outcomeIndex
   no-start s =
@@ -185,229 +207,68 @@ module _ (t : List ℕ) (c : Checked) {n i : ℕ} (h : Checks t c n i 0 0 0) (aw
       (h .number-is)
       (h .index-is)
 
-shows : (e : Entry) → Computed e → Shown e
-unfolding Shown Computed numberOf indexOf figuresOf
-shows (accepted t g a w l) (v, e) =
+show-accepted : (t : List ℕ) (g a w : ℕ) (l : List Line) (c : Accepts (verdictOf t) ⊎ Refuses (verdictOf t))
+    → if-accepted t l c ≡ of-accepted (Accepted g a w) (map seen l)
+    → Shown (accepted t g a w l)
+unfolding if-accepted Shown numberOf indexOf figuresOf
+show-accepted t g a w l (inl (g′, a′, w′, v)) e =
     let p = treeOf t in
+    let lines : told t a′ (255 ∷ []) (fresh p) (loops t v) (fresh-at-rest p) l ≡ map seen l = cc in
     let zero-bytes : stateBytes (fresh p) ≡ replicate (4 * nodes t) 0 = fresh-zeros p ∙ ap (λ n. replicate (4 * n) 0) (admitted t v .whole) in (
-      record { verdict-is = v; number-is = refl; index-is = refl; figures-are = refl },
+      record { verdict-is = v ∙ cc; number-is = refl; index-is = refl; figures-are = refl },
       starts t v,
       subst (λ z. Follow t (z ++ (255 ∷ [])) l) zero-bytes
-          (follows t v (255 ∷ []) (fresh p) (prog-fresh p) (loops t v) (fresh-at-rest p) l e),
+          (follows t v (255 ∷ []) (fresh p) (prog-fresh p) (loops t v) (fresh-at-rest p) l lines),
     )
-shows (refused t c n i) (v, away) =
-    let told = away (λ a. Ran) in
-    let h : Checks t c n i 0 0 0 =
-    record {
-      verdict-is = v;
-      number-is = ap (λ z. z .number) told;
-      index-is = ap (λ z. z .index) told;
-      figures-are = ap (λ z. z .figures) told;
-    } in
-    let out : (go : ℕ → Outcome) → onAccepted c go ≡ Table c = λ go. ap (λ z. z .outcome) (away go) in
-    (h, no-start t c h out, no-instant t c h out)
-shows (not-started t s o n i) (e, told) =
-    starts-by (record { outcome-is = e; room-is = sym (ap (λ z. z .room) told) }) (ap (λ z. z .number) told) (ap (λ z. z .index) told)
-shows (not-run t l) e = stand-alone t l e
+show-accepted t g a w l (inr r) e = absurd (let z : _≡_ {A = ℕ} 0 1 = cc in omega arith)
 
-all-show : {l : List Entry} → All Computed l → All Shown l
-all-show [[]] = [[]]
-all-show (_∷∷_ {e = e} h k) = shows e h ∷∷ all-show k
+show-refused : (t : List ℕ) (c : Checked) (n i : ℕ) (d : Accepts (verdictOf t) ⊎ Refuses (verdictOf t))
+    → if-refused (verdictOf t) d ≡ of-refused c n i no-figures
+    → Shown (refused t c n i)
+unfolding if-refused Shown
+show-refused t c n i (inl a) e = absurd (let z : _≡_ {A = ℕ} 0 1 = cc in omega arith)
+show-refused t c n i (inr r) e =
+    let v : verdictOf t ≡ c = cc in
+    let number : numberOf (verdictOf t) ≡ n = cc in
+    let index : indexOf (verdictOf t) ≡ i = cc in
+    let figures : figuresOf (verdictOf t) ≡ no-figures = cc in
+    let h : Checks t c n i 0 0 0 = record { verdict-is = v; number-is = rw v at number; index-is = rw v at index; figures-are = rw v at figures } in
+    let away : Refuses c = rw v at r in
+    (h, no-start t c h away, no-instant t c h away)
+
+shows : (e : Entry) → computed e ≡ listed e → Shown e
+unfolding computed listed Shown
+shows (accepted t g a w l) e = show-accepted t g a w l (judged (verdictOf t)) e
+shows (refused t c n i) e = show-refused t c n i (judged (verdictOf t)) e
+shows (not-started t s o n i) e =
+    let outcome : startOutcome t s ≡ o = cc in
+    let number : outcomeNumber (startOutcome t s) ≡ n = cc in
+    let index : outcomeIndex (startOutcome t s) ≡ i = cc in
+    let room : startedRoom (startOutcome t s) t s ≡ s = cc in
+    starts-by (record { outcome-is = sym outcome; room-is = sym (rw outcome at room) }) (rw outcome at number) (rw outcome at index)
+shows (not-run t l) e = stand-alone t l cc
+
+all-show : (l : List Entry) → map computed l ≡ map listed l → All Shown l
+unfolding All
+all-show [] e = tt
+all-show (x ∷ l) e = (shows x cc, all-show l cc)
+
+and-all : (l m : List Entry) → All Shown l → All Shown m → All Shown (l ++ m)
+unfolding All
+and-all [] m h k = k
+and-all (x ∷ l) m (s, h) k = (s, and-all l m h k)
 
 pub bench : All Shown bench-list
-unfolding Computed told told-by told-alone alone-by ran-or-not signs fit placed outcomeNumber outcomeIndex word-of phases numberOf indexOf figuresOf
-    startOutcome instantOutcome startedRoom
-    lengthGood countsGood distancesGood preorder firstSuch light programVerdict
-    nodesVerdict recordsVerdict verdictOf laidOut children argumentLimit goodNode parts goodButHeight heightAtMost goodConfiguration
-    configurationOf form programOf size kind stops figure lowest howMany marks rests phaseRests flagsRest countRests zeroNode zeroNodes put test fixed eval prog fresh leave collect below ends
-    ends-within ends-by pass-exists begins goes-by seq0-runs loop0-runs loop1-runs repeat0-runs repeat1-runs again-runs await-runs
-    when0-runs until0-runs until*-runs control-runs
+unfolding computed listed if-accepted if-refused judged told told-by told-alone alone-by ran-or-not signs fit placed word-of phases
+    verdictOf recordsVerdict nodesVerdict programVerdict lengthGood countsGood distancesGood preorder firstSuch light numberOf indexOf
+    figuresOf goodNode laidOut children argumentLimit goodConfiguration goodButHeight heightAtMost parts configurationOf form programOf
+    size kind stops figure outcomeNumber outcomeIndex startOutcome startedRoom instantOutcome rests phaseRests flagsRest countRests zeroNode
+    zeroNodes lowest howMany marks put test fixed eval prog fresh leave collect below ends ends-within ends-by pass-exists begins goes-by
+    seq0-runs loop0-runs loop1-runs repeat0-runs repeat1-runs again-runs await-runs when0-runs until0-runs until*-runs control-runs
 bench =
-    all-show
-    (
-    -- K1
-    (refl, refl)
-    -- K2
-    ∷∷ (refl, refl)
-    -- K3
-    ∷∷ (refl, refl)
-    -- K4
-    ∷∷ (refl, refl)
-    -- K5
-    ∷∷ (refl, refl)
-    -- K6
-    ∷∷ (refl, refl)
-    -- K7
-    ∷∷ (refl, refl)
-    ∷∷ (refl, refl)
-    -- K8
-    ∷∷ (refl, λ go. refl)
-    -- Loop(Seq(Await 0, Stop))
-    ∷∷ (refl, refl)
-    -- K9
-    ∷∷ (refl, refl)
-    -- K10
-    ∷∷ (refl, refl)
-    ∷∷ (refl, refl)
-    -- K11
-    ∷∷ (refl, refl)
-    -- K12
-    ∷∷ (refl, refl)
-    ∷∷ (refl, λ go. refl)
-    ∷∷ (refl, refl)
-    ∷∷ (refl, λ go. refl)
-    -- Seq(Stop, Atom 1)
-    ∷∷ (refl, refl)
-    -- Seq(Atom 1, Stop)
-    ∷∷ (refl, refl)
-    -- Par(Stop, Stop)
-    ∷∷ (refl, refl)
-    ∷∷ (refl, refl)
-    ∷∷ (refl, refl)
-    -- Par(Await 0, Await 1)
-    ∷∷ (refl, refl)
-    -- and its second branch first
-    ∷∷ (refl, refl)
-    -- Par(Seq(Stop, Atom 1), Await 0), and exchanged
-    ∷∷ (refl, refl)
-    ∷∷ (refl, refl)
-    -- Par(Atom 1, Atom 2)
-    ∷∷ (refl, refl)
-    -- Par(Await 1, Generate 0) with event 0 there already
-    ∷∷ (refl, refl)
-    -- Loop(Seq(Atom 1, Stop))
-    ∷∷ (refl, refl)
-    -- Repeat(3, Stop)
-    ∷∷ (refl, refl)
-    -- Repeat(1, Stop)
-    ∷∷ (refl, refl)
-    -- Repeat(600, Stop)
-    ∷∷ (refl, refl)
-    -- Repeat(2, Await 0)
-    ∷∷ (refl, refl)
-    -- When(not 0, Atom 1, Atom 2)
-    ∷∷ (refl, refl)
-    ∷∷ (refl, refl)
-    -- When(0, Seq(Stop, Atom 1), Seq(Stop, Atom 2))
-    ∷∷ (refl, refl)
-    ∷∷ (refl, refl)
-    -- Until(0, Stop, Atom 5)
-    ∷∷ (refl, refl)
-    ∷∷ (refl, refl)
-    -- Until(0, Await 1, Seq(Stop, Atom 5))
-    ∷∷ (refl, refl)
-    -- and its body ends
-    ∷∷ (refl, refl)
-    -- Par(Until(1, Seq(Stop, Atom 9), Atom 5), Generate 1)
-    ∷∷ (refl, refl)
-    -- Control(0, Seq(Stop, Atom 3))
-    ∷∷ (refl, refl)
-    -- Par(Control(0, Atom 3), Generate 0)
-    ∷∷ (refl, refl)
-    -- Local(0, Generate 0)
-    ∷∷ (refl, refl)
-    ∷∷ (refl, refl)
-    -- Local(0, Await 0)
-    ∷∷ (refl, refl)
-    -- Local(0, Par(Par(Await 0, Generate 0), Await 1))
-    ∷∷ (refl, refl)
-    -- Local(0, Seq(Generate 0, Seq(Stop, When(0, Atom 1, Atom 2))))
-    ∷∷ (refl, refl)
-    -- Local(0, Seq(Generate 1, Stop))
-    ∷∷ (refl, refl)
-    -- Generate 255
-    ∷∷ (refl, refl)
-    -- Tests, by Await. not 0
-    ∷∷ (refl, refl)
-    -- 0 and 1
-    ∷∷ (refl, refl)
-    -- (not 0) and 1
-    ∷∷ (refl, refl)
-    -- 1 and (not 0)
-    ∷∷ (refl, refl)
-    -- 0 or 1
-    ∷∷ (refl, refl)
-    ∷∷ (refl, refl)
-    -- (not 0) or (not 1)
-    ∷∷ (refl, refl)
-    ∷∷ (refl, refl)
-    -- Par(Await 0, Seq(Await 0, Await 1)), two nodes with one configuration
-    ∷∷ (refl, refl)
-    -- Figures
-    ∷∷ (refl, refl)
-    ∷∷ (refl, refl)
-    ∷∷ (refl, refl)
-    ∷∷ (refl, λ go. refl)
-    -- Repeat(65534, Nothing), and 65535
-    ∷∷ (refl, refl)
-    ∷∷ (refl, λ go. refl)
-    -- Refused tables
-    ∷∷ (refl, λ go. refl)
-    ∷∷ (refl, λ go. refl)
-    ∷∷ (refl, λ go. refl)
-    -- 2
-    ∷∷ (refl, λ go. refl)
-    ∷∷ (refl, λ go. refl)
-    ∷∷ (refl, λ go. refl)
-    ∷∷ (refl, λ go. refl)
-    ∷∷ (refl, λ go. refl)
-    -- 3
-    ∷∷ (refl, λ go. refl)
-    ∷∷ (refl, λ go. refl)
-    ∷∷ (refl, λ go. refl)
-    -- 4
-    ∷∷ (refl, λ go. refl)
-    ∷∷ (refl, λ go. refl)
-    ∷∷ (refl, λ go. refl)
-    ∷∷ (refl, λ go. refl)
-    ∷∷ (refl, λ go. refl)
-    -- a height of 17
-    ∷∷ (refl, λ go. refl)
-    ∷∷ (refl, λ go. refl)
-    -- 5
-    ∷∷ (refl, λ go. refl)
-    ∷∷ (refl, λ go. refl)
-    -- an argument
-    ∷∷ (refl, λ go. refl)
-    ∷∷ (refl, λ go. refl)
-    ∷∷ (refl, λ go. refl)
-    ∷∷ (refl, λ go. refl)
-    ∷∷ (refl, λ go. refl)
-    ∷∷ (refl, λ go. refl)
-    ∷∷ (refl, λ go. refl)
-    -- a size
-    ∷∷ (refl, λ go. refl)
-    ∷∷ (refl, λ go. refl)
-    ∷∷ (refl, λ go. refl)
-    ∷∷ (refl, λ go. refl)
-    -- 7
-    ∷∷ (refl, λ go. refl)
-    ∷∷ (refl, λ go. refl)
-    ∷∷ (refl, λ go. refl)
-    ∷∷ (refl, λ go. refl)
-    ∷∷ (refl, λ go. refl)
-    ∷∷ (refl, λ go. refl)
-    ∷∷ (refl, λ go. refl)
-    ∷∷ (refl, λ go. refl)
-    -- 9 to 12
-    ∷∷ (refl, refl)
-    ∷∷ refl
-    ∷∷ (refl, refl)
-    -- 10
-    ∷∷ refl
-    -- Par
-    ∷∷ refl
-    -- phase 3 with flags, with a count, with a part that isn't zero
-    ∷∷ refl
-    -- Seq
-    ∷∷ refl
-    -- Loop
-    ∷∷ refl
-    ∷∷ refl
-    -- When
-    ∷∷ refl
-    ∷∷ refl
-    -- Control
-    ∷∷ refl
-    ∷∷ refl
-    ∷∷ [[]])
+    and-all K1-to-K12 _ (all-show K1-to-K12 refl)
+    (and-all more-of-the-forms _ (all-show more-of-the-forms refl)
+    (and-all tests _ (all-show tests refl)
+    (and-all figures _ (all-show figures refl)
+    (and-all refused-tables _ (all-show refused-tables refl)
+    (and-all refused-rooms _ (all-show refused-rooms refl) (all-show not-at-rest refl))))))

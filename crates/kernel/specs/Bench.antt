@@ -113,10 +113,9 @@ Shown (not-started t s o n i) = Starts t s o n i s
 Shown (not-run t l) = Alone t l
 
 -- each of a list
-infixr 67 _∷∷_
-pub data All (So : Entry → Type 0) : List Entry → Type 0 where
-  [[]] : All So []
-  _∷∷_ : {e : Entry} {l : List Entry} → So e → All So l → All So (e ∷ l)
+unfoldable pub All : (Entry → Type 0) → List Entry → Type 0
+All So [] = Unit {0}
+All So (e ∷ l) = So e × All So l
 
 -- Tables, written like the programs: a node's record in front of those of its parts, which its size counts
 abbrev pub form : ℕ → ℕ → List ℕ → List ℕ
@@ -216,10 +215,10 @@ K1 = 0x00 ∷ 0x00 ∷ 0x00 ∷ 0x00 ∷ 0x00 ∷ 0x01 ∷ 0x00 ∷ 0x01 ∷ 0x0
 abbrev pub nots15 : List ℕ → List ℕ
 nots15 c = no (no (no (no (no (no (no (no (no (no (no (no (no (no (no c))))))))))))))
 
-abbrev pub bench-list : List Entry
-bench-list =
+abbrev pub K1-to-K12 : List Entry
+K1-to-K12 =
     -- K1: Nothing
-    accepted (K1) 0 0 1 (instant [] (ran [] 0 256 0 true 1) row9 (room (3 ∷ [])) ∷ [])
+    accepted K1 0 0 1 (instant [] (ran [] 0 256 0 true 1) row9 (room (3 ∷ [])) ∷ [])
     -- K2: Stop
     ∷ accepted (table stop [] 1) 0 0 1
     (instant [] (ran [] 0 256 0 false 1) row9 (room (3 ∷ []))
@@ -283,8 +282,13 @@ bench-list =
     ∷ refused (table (repeat 4095 (generate 0)) [] 1) TooHeavy 8 0
     ∷ accepted (table (repeat 4096 (atom 0)) [] 1) 0 4096 4097 []
     ∷ refused (table (repeat 4097 (atom 0)) [] 1) TooHeavy 8 0
+    ∷ []
+
+-- More of the forms
+abbrev pub more-of-the-forms : List Entry
+more-of-the-forms =
     -- Seq(Stop, Atom 1): it goes on in its second in the instant in which its first ends
-    ∷ accepted (table (seq stop (atom 1)) [] 1) 0 1 3
+    accepted (table (seq stop (atom 1)) [] 1) 0 1 3
     (instant [] (ran [] 0 256 0 false 1) row9 (room (0 ∷ 3 ∷ 0 ∷ []))
     ∷ instant [] (ran [] 0 256 1 true 1) (1 ∷ 9 ∷ 9 ∷ 9 ∷ []) (room (3 ∷ 0 ∷ 0 ∷ []))
     ∷ [])
@@ -442,8 +446,13 @@ bench-list =
     ∷ accepted (table (generate 255) [] 256) 1 0 1
     (instant (63 ∷ 64 ∷ 191 ∷ []) (ran (63 ∷ 64 ∷ 191 ∷ 255 ∷ []) 4 63 0 true 1) row9 (room (3 ∷ []))
     ∷ [])
-    -- Tests, by Await. not 0: early unsat, late sat
-    ∷ accepted (table (await 0) (no (event 0)) 1) 0 0 1
+    ∷ []
+
+-- Tests, read by an Await
+abbrev pub tests : List Entry
+tests =
+    -- not 0: early unsat, late sat
+    accepted (table (await 0) (no (event 0)) 1) 0 0 1
     (instant (0 ∷ []) (ran (0 ∷ []) 1 0 0 false 1) row9 (room (0 ∷ []))
     ∷ instant [] (ran [] 0 256 0 false 2) row9 (room (3 ∷ []))
     ∷ instant (0 ∷ []) (ran (0 ∷ []) 1 0 0 true 1) row9 (room (3 ∷ []))
@@ -486,8 +495,13 @@ bench-list =
     ∷ accepted (table (par (await 0) (seq (await 0) (await 1))) (event 0 ++ event 1) 2) 0 0 5
     (instant (0 ∷ 1 ∷ []) (ran (0 ∷ 1 ∷ []) 2 0 0 true 1) row9 (room (3 ∷ 0 ∷ 0 ∷ 0 ∷ 0 ∷ []))
     ∷ [])
-    -- Figures: When(0, Seq(Generate 0, Atom 1), Atom 2) counts the larger, Until(0, Atom 1, Seq(Generate 0, Atom 2)) both
-    ∷ accepted (table (when 0 (seq (generate 0) (atom 1)) (atom 2)) (event 0) 1) 1 1 4 []
+    ∷ []
+
+-- Loading figures
+abbrev pub figures : List Entry
+figures =
+    -- When(0, Seq(Generate 0, Atom 1), Atom 2) counts the larger, Until(0, Atom 1, Seq(Generate 0, Atom 2)) both
+    accepted (table (when 0 (seq (generate 0) (atom 1)) (atom 2)) (event 0) 1) 1 1 4 []
     ∷ accepted (table (until 0 (atom 1) (seq (generate 0) (atom 2))) (event 0) 1) 1 2 5 []
     -- Repeat(0, Repeat(65535, Nothing)): a body that is never begun weighs nothing, but has to be good
     ∷ accepted (table (repeat 0 (repeat 65535 nothing)) [] 1) 0 0 1 []
@@ -495,8 +509,13 @@ bench-list =
     -- Repeat(65534, Nothing), and 65535
     ∷ accepted (table (repeat 65534 nothing) [] 1) 0 0 65535 []
     ∷ refused (table (repeat 65535 nothing) [] 1) TooHeavy 8 0
-    -- Refused tables: 1
-    ∷ refused ([]) BadLength 1 0
+    ∷ []
+
+-- Refusals 1 to 5 and 7
+abbrev pub refused-tables : List Entry
+refused-tables =
+    -- 1: no byte, 15 bytes, 32,779 bytes
+    refused [] BadLength 1 0
     ∷ refused (nothing ++ (0 ∷ 1 ∷ 0 ∷ 0 ∷ 0 ∷ 1 ∷ 0 ∷ 6 ∷ 0 ∷ [])) BadLength 1 0
     ∷ refused (replicate 32779 0) BadLength 1 0
     -- 2: N, M, V
@@ -543,9 +562,14 @@ bench-list =
     ∷ refused (table (seq (loop (control 0 stop)) (loop (control 0 nothing))) [] 1) (EndlessLoop 4) 7 4
     ∷ refused (table (seq (loop (local 0 stop)) (loop (local 0 nothing))) [] 1) (EndlessLoop 4) 7 4
     ∷ refused (table (seq (loop (loop stop)) (loop nothing)) [] 1) (EndlessLoop 4) 7 4
+    ∷ []
+
+-- Refusals 9 to 12
+abbrev pub refused-rooms : List Entry
+refused-rooms =
     -- 9 to 12: Seq(Stop, Atom 4), V 3. A room of 11 bytes; one that isn't at rest; events 2, 5 and 4; a row without a place, though this instant
     -- does no atom
-    ∷ not-started (table (seq stop (atom 4)) [] 3) (replicate 11 255) StateRoom 9 0
+    not-started (table (seq stop (atom 4)) [] 3) (replicate 11 255) StateRoom 9 0
     ∷ not-run (table (seq stop (atom 4)) [] 3)
     (turned-down (set (2 ∷ 5 ∷ 4 ∷ [])) [] (replicate 11 0) StateRoom 9 0
     ∷ turned-down (set (2 ∷ 5 ∷ 4 ∷ [])) [] (phases (0 ∷ 1 ∷ 0 ∷ [])) (NotAtRest 1) 10 1
@@ -556,8 +580,13 @@ bench-list =
     ∷ instant-in (2 ∷ []) (9 ∷ []) (ran (2 ∷ []) 1 2 0 false 1) (9 ∷ []) (room (0 ∷ 3 ∷ 0 ∷ []))
     ∷ instant-in [] (9 ∷ []) (ran [] 0 256 1 true 1) (4 ∷ []) (room (3 ∷ 0 ∷ 0 ∷ []))
     ∷ [])
-    -- 10: a leaf's phase, flags, count
-    ∷ not-run (table (par stop stop) [] 1)
+    ∷ []
+
+-- Refusal 10: states that aren't at rest
+abbrev pub not-at-rest : List Entry
+not-at-rest =
+    -- a leaf's phase, flags, count
+    not-run (table (par stop stop) [] 1)
     (blames (phases (0 ∷ 1 ∷ 0 ∷ [])) 1
     ∷ blames (own 0 0 0 ++ (own 0 0 0 ++ own 0 1 0)) 2
     ∷ blames (own 0 0 0 ++ (own 0 0 0 ++ own 0 0 1)) 2
@@ -611,3 +640,7 @@ bench-list =
     ∷ not-run (table (control 0 stop) [] 1) (blames (phases (1 ∷ 0 ∷ [])) 0 ∷ [])
     ∷ not-run (table (local 0 stop) [] 1) (blames (phases (1 ∷ 0 ∷ [])) 0 ∷ [])
     ∷ []
+
+abbrev pub bench-list : List Entry
+bench-list =
+    K1-to-K12 ++ (more-of-the-forms ++ (tests ++ (figures ++ (refused-tables ++ (refused-rooms ++ (not-at-rest))))))
