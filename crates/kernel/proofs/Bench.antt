@@ -71,7 +71,9 @@ follows t {a = a} v b x e o r (y ∷ l) h =
     go (ran-or-not (y .answer .outcome)) (λ u e o r. follows t v b u e o r l) h
   where
     go : (c : (y .answer .outcome ≡ Ran) ⊎ (y .answer .outcome ≢ Ran))
-        → ((u : Term) → prog u ≡ treeOf t → (p : LoopsStop (prog u)) (q : AtRest u) → told t a b u p q l ≡ map seen l → Follow t (stateBytes u ++ b) l)
+        → ((u : Term) → prog u ≡ treeOf t → (p : LoopsStop (prog u)) (q : AtRest u)
+        → told t a b u p q l ≡ map seen l
+        → Follow t (stateBytes u ++ b) l)
         → told-by t a b x o r y c (λ u p q. told t a b u p q l) ≡ seen y ∷ map seen l
         → Answers t (stateBytes x ++ b) y × Follow t (y .state) l
     go (inl ran) f h =
@@ -149,8 +151,8 @@ judged (EndlessLoop i) = inr (λ go. refl)
 judged TooHeavy = inr (λ go. refl)
 judged (Accepted g a w) = inl (g, a, w, refl)
 
--- what is to be seen of an entry: the verdict and the instants; a verdict that refuses, its number, index and figures; the outcome of a start, its number
--- and index, and the room after it; the instants alone
+-- what is to be seen of an entry: the verdict and the instants; a verdict that refuses, its number, index and figures; the outcome of a
+-- start, its number and index, and the room after it; the instants alone
 data View : Type 0 where
   of-accepted : Checked → List Seen → View
   of-refused : Checked → ℕ → ℕ → Figures → View

@@ -1,5 +1,5 @@
 -- When a line of the bench list is what instant answers: by what is to be seen of it, which computes.
-use Prim.Native.Nat.{ℕ, zero, suc, _*_, _^_, _≤_, _<_}
+use Prim.Native.Nat.{ℕ, zero, suc, _*_, _/_, _^_, _≤_, _<_}
 use mathlib.Core.Bool.{Bool, true, false, cond, _&&_}
 use mathlib.Core.Path.{_≡_, refl, ap, sym, subst, _∙_, fun-ext}
 use mathlib.Core.Logic.{_≢_}
@@ -56,13 +56,13 @@ same-signs (suc n) X Y e k h =
     go true q here f = rw (eqb-true k n q) here
     go false q here f = let l = eqb-false k n q in f (omega arith)
 
--- four words of 64 bits
+-- as many words as there are places for, of 64 bits each
 unfoldable pub fit : List ℕ → Bool
 fit [] = true
 fit (w ∷ l) = ltb w (2 ^ 64) && fit l
 
 abbrev pub whole : EventSet → Bool
-whole s = eqb (length (s .words)) 4 && fit (s .words)
+whole s = eqb (length (s .words)) (places / 64) && fit (s .words)
 
 fit-at : (l : List ℕ) → fit l ≡ true → (q : ℕ) → getD l q 0 < 2 ^ 64
 unfolding fit
@@ -72,8 +72,8 @@ fit-at (w ∷ l) e (suc q) = fit-at l (both {a = ltb w (2 ^ 64)} e .1) q
 
 pub whole-is : (s : EventSet) → whole s ≡ true → Whole s
 whole-is s e =
-    let (long, fits) = both {a = eqb (length (s .words)) 4} e in
-    record { long = eqb-true (length (s .words)) 4 long; fits = λ q. record { fits = fit-at (s .words) fits q } }
+    let (long, fits) = both {a = eqb (length (s .words)) (places / 64)} e in
+    record { long = eqb-true (length (s .words)) (places / 64) long; fits = λ q. record { fits = fit-at (s .words) fits q } }
 
 -- a set whose signs are those of X, where X has no event without a place
 same-set : (s : EventSet) (X : Events) → Whole s → signs places (members s) ≡ signs places X → ((n : ℕ) → places ≤ n → X n ≡ false)
@@ -97,7 +97,7 @@ not-among (x ∷ l) e s h =
     let b = ltb-true x places here in
     rw (ne-eqb s x (λ z. omega arith)) (not-among l later s h)
 
--- What a line says, with its sets as their signs, and whether the sets are four words each and every event generated has a place.
+-- What a line says, with its sets as their signs; whether the sets are whole, and every event generated has a place.
 pub record Seen : Type 0 where
   pub outcome : Outcome
   pub number : ℕ
@@ -182,7 +182,9 @@ past-rest t a y =
 room-long : (t : List ℕ) {g a w : ℕ} → verdictOf t ≡ Accepted g a w → (x : Term) → prog x ≡ treeOf t → length (stateBytes x) ≡ 4 * nodes t
 room-long t v x e = rw (len-bytes x, e, admitted t v .whole)
 
-pub outcome-past-rest : (t : List ℕ) {g a w : ℕ} → verdictOf t ≡ Accepted g a w → (b : List ℕ) (x : Term) → prog x ≡ treeOf t → AtRest x → (y : Line)
+pub outcome-past-rest : (t : List ℕ) {g a w : ℕ} → verdictOf t ≡ Accepted g a w → (b : List ℕ) (x : Term) → prog x ≡ treeOf t
+    → AtRest x
+    → (y : Line)
     → past-rest t a y ≡ instantOutcome t (stateBytes x ++ b) (members (y .handed)) (y .lent)
 outcome-past-rest t v b x e rest y =
     let s : List ℕ = stateBytes x ++ b in
@@ -203,7 +205,9 @@ pub only-answers : {t s : List ℕ} {y : Line} → Answered t s (members (y .han
     → Answers t s y
 only-answers a w n i = record { answered = a; only = λ u q. one-instant u w q a; number-is = n; index-is = i }
 
-pub run-answers : (t : List ℕ) {g a w : ℕ} → verdictOf t ≡ Accepted g a w → (b : List ℕ) (x : Term) → prog x ≡ treeOf t → AtRest x → (y : Line)
+pub run-answers : (t : List ℕ) {g a w : ℕ} → verdictOf t ≡ Accepted g a w → (b : List ℕ) (x : Term) → prog x ≡ treeOf t
+    → AtRest x
+    → (y : Line)
     → {n : ℕ} {r : Result}
     → Instant ⊥ x (handed-in (members (y .handed))) n r
     → y .answer .outcome ≡ Ran
@@ -215,7 +219,8 @@ run-answers t v b x e rest y {n} {r} i ran s =
     let reported = whole-is (y .answer .events) (sym (ap (λ z. z .reported-whole) s)) in
     let placed-all = ap (λ z. z .generated-placed) s in
     let outcome = ap (λ z. z .outcome) s in
-    let past : (k : ℕ) → places ≤ k → r .env .now k ≡ false = λ k h. only-generated-in-all i k (not-among (generations (r .acts)) placed-all k h) (members-past (y .handed) handed k h) in
+    let past : (k : ℕ) → places ≤ k → r .env .now k ≡ false =
+    λ k h. only-generated-in-all i k (not-among (generations (r .acts)) placed-all k h) (members-past (y .handed) handed k h) in
     let atoms-are = sym (ap (λ z. z .atoms) s) in
     only-answers
     (record {
