@@ -2,7 +2,7 @@
 use Prim.Native.Nat.{ℕ, _+_, _≤_, _<_}
 use mathlib.Core.Bool.{false}
 use mathlib.Core.Path.{_≡_, refl, ap, _∙_}
-use mathlib.Core.List.{List, [], _∷_, _++_, append-assoc}
+use mathlib.Core.List.{List, [], _∷_, _++_, append-assoc, append-nil}
 use native.Mathlib.Nat.{add-zero}
 use native.Mathlib.Omega.{arith}
 use Rattle.junior.specs.Configuration.{Config}
@@ -76,11 +76,11 @@ module _ (c : Config) (p q : Program) (j : ℕ) (s : Placed) where
       j
 
   over-when : by-parts 9 ≡ over (When c p q) j s
-  unfolding size nodesFrom testsOf kind
+  unfolding size tests nodesFrom testsOf kind
   over-when = simp append-assoc
 
   over-until : by-parts 10 ≡ over (Until c p q) j s
-  unfolding size nodesFrom testsOf kind
+  unfolding size tests nodesFrom testsOf kind
   over-until = simp append-assoc
 
 module _ (m : ℕ) where
@@ -305,8 +305,9 @@ module _ (m : ℕ) where
   unfolding form size tests nodesFrom testsOf kind
   awaits-placed {c} {u} t x j a b h =
       let n = begins-test t (41 ∷ x) in
-      let e = test-placed m t (41 ∷ x) j (omega arith) refl (ap (λ s. s .left) (reads-close m x) ∙ h) ∙ ap (overTest c j) (reads-close m x) in
-      rw (append-assoc u (41 ∷ []) x)
+      let l : placed m x .left ≡ j + weight c = omega arith in
+      let e = test-placed m t (41 ∷ x) j (omega arith) refl (ap (λ s. s .left) (reads-close m x) ∙ l) ∙ ap (overTest c j) (reads-close m x) in
+      rw (append-assoc u (41 ∷ []) x, append-nil (testRecords c))
       (reads-await m (u ++ (41 ∷ x)) (closed _ x (levels-test t (41 ∷ x) ∙ levels-close x) (omega arith))
       ∙ await-placed c j (u ++ (41 ∷ x)) (placed m (u ++ (41 ∷ x))) (placed m x) e (omega arith))
 

@@ -37,6 +37,9 @@ from-one a h = rw (larger-max 1 a) (omega arith)
 larger-least : (a b : ℕ) → 1 ≤ a → 1 ≤ larger a b
 larger-least a b h = rw (larger-max a b) (omega arith)
 
+at-least-one : (a b : ℕ) → 1 ≤ a → larger a b ≡ larger a (larger b 1)
+at-least-one a b h = rw (larger-max b 1, larger-max a b, larger-max a (max b 1)) (omega arith)
+
 -- so many nodes, tests and events more
 abbrev plus : Counts → ℕ → ℕ → ℕ → Counts
 plus k n m v = counts (k .nodes + n) (k .tests + m) (larger (k .events) v)
@@ -184,9 +187,11 @@ counts-piece (says-repeat {n} l d) σ x k h =
     (tally-number comma _ _ (a-node k) n l
     ∙ (counts-piece d _ _ (a-node k) h ∙ alike σ x (omega arith) (omega arith) refl))
 counts-piece (says-generate {s} l) σ x k h =
-    simp append-assoc (tally-event close σ x (a-node k) s l ∙ alike σ x (omega arith) (omega arith) refl)
-counts-piece (says-await t) σ x k h =
-    simp append-assoc (tally-conf t close σ x (a-node k) ∙ alike σ x (omega arith) (omega arith) refl)
+    simp append-assoc
+    (tally-event close σ x (a-node k) s l ∙ alike σ x (omega arith) (omega arith) (at-least-one (k .events) (suc s) h))
+counts-piece (says-await {c} t) σ x k h =
+    simp append-assoc
+    (tally-conf t close σ x (a-node k) ∙ alike σ x (omega arith) (omega arith) (at-least-one (k .events) (namedIn c) h))
 counts-piece (says-when {c} {p} {q} t d e) σ x k h =
     simp append-assoc
     (tally-conf t comma _ _ (a-node k)

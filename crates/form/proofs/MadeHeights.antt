@@ -2,26 +2,27 @@
 use Prim.Native.Nat.{ℕ, zero, suc, _+_, _≤_, _<_, max}
 use mathlib.Core.Bool.{Bool, true, false, _&&_}
 use mathlib.Core.Path.{_≡_, refl, sym, ap, _∙_}
-use mathlib.Core.List.{List, _++_}
+use mathlib.Core.List.{List, [], _++_}
 use native.Mathlib.Omega.{arith}
 use lib.Dec.{leb}
 use borrow.Author.Tests.{le-leb, lt-leb, leb-true, leb-false}
 use Rattle.junior.specs.Configuration.{Config, Event, Not, And, Or}
-use Rattle.junior.specs.Program.{Program, Nothing, Stop, Atom, Seq, Par, Loop, Repeat, Generate, Await, When, Until}
-use Rattle.junior.specs.Program.{Control, Local}
+use Rattle.junior.specs.Program.{Program, Argument, no-argument, number, event, configuration, argument}
+use Rattle.junior.specs.Program.{Parts as PartsOf, no-part, one-part, two-parts, parts as taken-apart}
 use Rattle.table.specs.Records.{configurationAt}
 use Rattle.table.specs.Good.{parts, goodButHeight, heightAtMost, goodConfiguration}
 use Rattle.table.specs.Spells.{weight}
 use Rattle.table.proofs.ByParts.{some-record}
 use Rattle.table.proofs.Heights.{height-good}
 use Rattle.table.proofs.Laid.{both as both-true}
-use Rattle.form.specs.Made.{tests, testRecords, testsOf, tableOf}
+use Rattle.form.specs.Made.{testsWith, testsParts, tests, behind as after, testRecords, recordsWith, testsOfParts}
+use Rattle.form.specs.Made.{tableOf}
 use Rattle.form.proofs.Places.{Has}
 use Rattle.form.proofs.Spans.{All, both, own-and, own-and-both, first-of, second-of, behind-own, first-behind}
 use Rattle.form.proofs.Spans.{second-behind}
 use Rattle.form.proofs.Spans
 use Rattle.form.proofs.MadeRecords.{test-there, test-behind, BothTests, both-tests, tested-there}
-use Rattle.form.proofs.MadeRecords.{behind-tested}
+use Rattle.form.proofs.MadeRecords.{behind-argument}
 use Rattle.form.proofs.MadeSpells.{made-stands}
 use Rattle.form.proofs.MadeTests.{size-there, GoodTest, first-tests, second-tests, all-tests-good}
 use Rattle.form.proofs.MadeTests.{made-tests-good}
@@ -34,20 +35,19 @@ tall (And c d) = 1 + max (tall c) (tall d)
 tall (Or c d) = 1 + max (tall c) (tall d)
 
 -- all tests of a program have height at most 16
+abbrev pub LowArgument : Argument → Type 0
+LowArgument no-argument = Unit {0}
+LowArgument (number n) = Unit {0}
+LowArgument (event s) = Unit {0}
+LowArgument (configuration c) = tall c ≤ 16
+
+abbrev pub LowParts : {p : Program} → PartsOf p → Type 0
+LowParts {p} (no-part f) = LowArgument (argument p) × Unit {0}
+LowParts {p} (one-part f q) = LowArgument (argument p) × LowParts q
+LowParts {p} (two-parts f q r) = LowArgument (argument p) × (LowParts q × LowParts r)
+
 unfoldable pub LowTests : Program → Type 0
-LowTests Nothing = Unit {0}
-LowTests Stop = Unit {0}
-LowTests (Atom a) = Unit {0}
-LowTests (Seq p q) = LowTests p × LowTests q
-LowTests (Par p q) = LowTests p × LowTests q
-LowTests (Loop p) = LowTests p
-LowTests (Repeat n p) = LowTests p
-LowTests (Generate s) = Unit {0}
-LowTests (Await c) = tall c ≤ 16
-LowTests (When c p q) = (tall c ≤ 16) × (LowTests p × LowTests q)
-LowTests (Until c p q) = (tall c ≤ 16) × (LowTests p × LowTests q)
-LowTests (Control s p) = LowTests p
-LowTests (Local s p) = LowTests p
+LowTests p = LowParts (taken-apart p)
 
 tall-least : (c : Config) → 1 ≤ tall c
 unfolding tall
@@ -168,6 +168,9 @@ module _ (t : List ℕ) where
   none-exactly : (j : ℕ) → Exactly j 0 (Unit {0})
   none-exactly j = record { only = λ f. tt; enough = λ a. Spans.none (Low 16) j }
 
+  beside : {j n : ℕ} {B : Type 0} → Exactly j n B → Exactly j n (Unit {0} × B)
+  beside x = record { only = λ f. (tt, x .only f); enough = λ a. x .enough (a .1) }
+
   both-exactly : (j m n : ℕ) {A B : Type 0} → Exactly j m A → Exactly (j + m) n B → Exactly j (m + n) (A × B)
   both-exactly j m n x y =
       record {
@@ -182,48 +185,36 @@ module _ (t : List ℕ) where
         enough = λ l. all-low 16 c j x l;
       }
 
-  abbrev ExactlyWhere : Program → Type 0
-  ExactlyWhere p =
-      (j : ℕ) → Has t (configurationAt t j) (testsOf p) → All (GoodTest t) j (tests p) → Exactly j (tests p) (LowTests p)
+  -- the configurations of an argument and n more
+  argument-exactly : (a : Argument) (j n : ℕ) (w : List ℕ) {B : Type 0} → Has t (configurationAt t j) (recordsWith a w)
+      → All (GoodTest t) j (testsWith a n) → (All (GoodTest t) (after j a) n → Exactly (after j a) n B)
+      → Exactly j (testsWith a n) (LowArgument a × B)
+  argument-exactly no-argument j n w h g more = beside (more g)
+  argument-exactly (number m) j n w h g more = beside (more g)
+  argument-exactly (event s) j n w h g more = beside (more g)
+  argument-exactly (configuration c) j n w h g more =
+      let x : There c j = record { records = tested-there j c w h; good = first-of (GoodTest t) j (weight c) n g } in
+      both-exactly j (weight c) n (test-exactly c j x) (more (second-of (GoodTest t) j (weight c) n g))
 
-  parts-exactly : (p q : Program) → ExactlyWhere p → ExactlyWhere q → (j : ℕ) → Has t (configurationAt t j) (testsOf p ++ testsOf q)
-      → All (GoodTest t) j (tests p + tests q) → Exactly j (tests p + tests q) (LowTests p × LowTests q)
-  parts-exactly p q first second j w g =
-      let x = first j (first-tests t j p q w) (first-of (GoodTest t) j (tests p) (tests q) g) in
-      let y = second (j + tests p) (second-tests t j p q w) (second-of (GoodTest t) j (tests p) (tests q) g) in
-      both-exactly j (tests p) (tests q) x y
-
-  test-and-parts : (c : Config) (p q : Program) → ExactlyWhere p → ExactlyWhere q → (j : ℕ)
-      → Has t (configurationAt t j) (testRecords c ++ (testsOf p ++ testsOf q)) → All (GoodTest t) j (weight c + (tests p + tests q))
-      → Exactly j (weight c + (tests p + tests q)) ((tall c ≤ 16) × (LowTests p × LowTests q))
-  test-and-parts c p q first second j w g =
-      let later = testsOf p ++ testsOf q in
-      let x : There c j = record {
-        records = tested-there j c later w;
-        good = first-of (GoodTest t) j (weight c) (tests p + tests q) g;
-      } in
-      let y =
-      parts-exactly p q first second (j + weight c) (behind-tested j c later w) (second-of (GoodTest t) j (weight c) (tests p + tests q) g) in
-      both-exactly j (weight c) (tests p + tests q) (test-exactly c j x) y
-
-  low-exactly : (p : Program) → ExactlyWhere p
-  unfolding testsOf tests LowTests
-  low-exactly Nothing j w g = none-exactly j
-  low-exactly Stop j w g = none-exactly j
-  low-exactly (Atom a) j w g = none-exactly j
-  low-exactly (Seq p q) j w g = parts-exactly p q (low-exactly p) (low-exactly q) j w g
-  low-exactly (Par p q) j w g = parts-exactly p q (low-exactly p) (low-exactly q) j w g
-  low-exactly (Loop p) j w g = low-exactly p j w g
-  low-exactly (Repeat n p) j w g = low-exactly p j w g
-  low-exactly (Generate s) j w g = none-exactly j
-  low-exactly (Await c) j w g = test-exactly c j (record { records = w; good = g })
-  low-exactly (When c p q) j w g = test-and-parts c p q (low-exactly p) (low-exactly q) j w g
-  low-exactly (Until c p q) j w g = test-and-parts c p q (low-exactly p) (low-exactly q) j w g
-  low-exactly (Control s p) j w g = low-exactly p j w g
-  low-exactly (Local s p) j w g = low-exactly p j w g
+  low-exactly : {p : Program} (v : PartsOf p) (j : ℕ) → Has t (configurationAt t j) (testsOfParts v)
+      → All (GoodTest t) j (testsParts v) → Exactly j (testsParts v) (LowParts v)
+  low-exactly {p} (no-part f) j h g = argument-exactly (argument p) j 0 [] h g (λ k. none-exactly (after j (argument p)))
+  low-exactly {p} (one-part f q) j h g =
+      argument-exactly (argument p) j (testsParts q) (testsOfParts q) h g
+      (λ k. low-exactly q _ (behind-argument j (argument p) (testsOfParts q) h) k)
+  low-exactly {p} (two-parts f q r) j h g =
+      let next = after j (argument p) in
+      let w = testsOfParts q ++ testsOfParts r in
+      let b = behind-argument j (argument p) w h in
+      argument-exactly (argument p) j (testsParts q + testsParts r) w h g
+      (λ k.
+      both-exactly next (testsParts q) (testsParts r)
+      (low-exactly q next (first-tests t next q r b) (first-of (GoodTest t) next (testsParts q) (testsParts r) k))
+      (low-exactly r (next + testsParts q) (second-tests t next q r b) (second-of (GoodTest t) next (testsParts q) (testsParts r) k)))
 
 made-exactly : (p : Program) → Exactly (tableOf p) 0 (tests p) (LowTests p)
-made-exactly p = low-exactly (tableOf p) p 0 (made-stands p .tests-there) (all-tests-good p)
+unfolding tests LowTests
+made-exactly p = low-exactly (tableOf p) (taken-apart p) 0 (made-stands p .tests-there) (all-tests-good p)
 
 -- all configurations of the table are good exactly if all tests are low
 pub made-good : (p : Program) → LowTests p → (j : ℕ) → j < tests p → goodConfiguration (tableOf p) j ≡ true

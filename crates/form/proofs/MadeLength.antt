@@ -1,31 +1,26 @@
 -- How long the table is that is made from a program, and its parts.
 use Prim.Native.Nat.{ℕ, _+_, _*_}
 use mathlib.Core.Path.{_≡_}
+use mathlib.Core.List.{List, [], _++_}
 use native.Mathlib.Omega.{arith}
 use lib.ListN.{length, length-append}
 use Rattle.junior.specs.Configuration.{Config, Event, Not, And, Or}
-use Rattle.junior.specs.Program.{Program, Nothing, Stop, Atom, Seq, Par, Loop, Repeat, Generate, Await, When, Until}
-use Rattle.junior.specs.Program.{Control, Local, size}
+use Rattle.junior.specs.Program.{Program, Argument, no-argument, number, event, configuration, argument}
+use Rattle.junior.specs.Program.{Parts, no-part, one-part, two-parts, parts, sizeOf, size}
 use Rattle.table.specs.Spells.{weight}
-use Rattle.form.specs.Made.{tests, nodesFrom, testRecords, testsOf, trailer, tableOf, needed}
+use Rattle.form.specs.Made.{testsWith, testsParts, tests, behind, nodesFromParts, nodesFrom, testRecords, recordsWith}
+use Rattle.form.specs.Made.{testsOfParts, testsOf, trailer, tableOf, needed}
+
+pub nodes-long : {p : Program} (j : ℕ) (v : Parts p) → length (nodesFromParts j v) ≡ 6 * sizeOf v
+nodes-long j (no-part f) = omega arith
+nodes-long {p} j (one-part f q) = omega (arith, nodes-long (behind j (argument p)) q)
+nodes-long {p} j (two-parts f q r) =
+    let first = behind j (argument p) in
+    simp length-append (omega (arith, nodes-long first q, nodes-long (first + testsParts q) r))
 
 pub nodes-length : (j : ℕ) (p : Program) → length (nodesFrom j p) ≡ 6 * size p
 unfolding nodesFrom size
-nodes-length j Nothing = omega arith
-nodes-length j Stop = omega arith
-nodes-length j (Atom a) = omega arith
-nodes-length j (Seq p q) = simp length-append (omega (arith, nodes-length j p, nodes-length (j + tests p) q))
-nodes-length j (Par p q) = simp length-append (omega (arith, nodes-length j p, nodes-length (j + tests p) q))
-nodes-length j (Loop p) = omega (arith, nodes-length j p)
-nodes-length j (Repeat n p) = omega (arith, nodes-length j p)
-nodes-length j (Generate s) = omega arith
-nodes-length j (Await c) = omega arith
-nodes-length j (When c p q) =
-    simp length-append (omega (arith, nodes-length (j + weight c) p, nodes-length (j + weight c + tests p) q))
-nodes-length j (Until c p q) =
-    simp length-append (omega (arith, nodes-length (j + weight c) p, nodes-length (j + weight c + tests p) q))
-nodes-length j (Control s p) = omega (arith, nodes-length j p)
-nodes-length j (Local s p) = omega (arith, nodes-length j p)
+nodes-length j p = nodes-long j (parts p)
 
 pub test-length : (c : Config) → length (testRecords c) ≡ 4 * weight c
 unfolding testRecords weight
@@ -34,21 +29,22 @@ test-length (Not c) = omega (arith, test-length c)
 test-length (And c d) = simp length-append (omega (arith, test-length c, test-length d))
 test-length (Or c d) = simp length-append (omega (arith, test-length c, test-length d))
 
+with-length : (a : Argument) (l : List ℕ) (n : ℕ) → length l ≡ 4 * n → length (recordsWith a l) ≡ 4 * testsWith a n
+with-length no-argument l n e = e
+with-length (number m) l n e = e
+with-length (event s) l n e = e
+with-length (configuration c) l n e = simp length-append (omega (arith, test-length c))
+
+pub tests-long : {p : Program} (v : Parts p) → length (testsOfParts v) ≡ 4 * testsParts v
+tests-long {p} (no-part f) = with-length (argument p) [] 0 (omega arith)
+tests-long {p} (one-part f q) = with-length (argument p) (testsOfParts q) (testsParts q) (tests-long q)
+tests-long {p} (two-parts f q r) =
+    with-length (argument p) (testsOfParts q ++ testsOfParts r) (testsParts q + testsParts r)
+    (simp length-append (omega (arith, tests-long q, tests-long r)))
+
 pub tests-length : (p : Program) → length (testsOf p) ≡ 4 * tests p
 unfolding testsOf tests
-tests-length Nothing = omega arith
-tests-length Stop = omega arith
-tests-length (Atom a) = omega arith
-tests-length (Seq p q) = simp length-append (omega (arith, tests-length p, tests-length q))
-tests-length (Par p q) = simp length-append (omega (arith, tests-length p, tests-length q))
-tests-length (Loop p) = tests-length p
-tests-length (Repeat n p) = tests-length p
-tests-length (Generate s) = omega arith
-tests-length (Await c) = test-length c
-tests-length (When c p q) = simp length-append (omega (arith, test-length c, tests-length p, tests-length q))
-tests-length (Until c p q) = simp length-append (omega (arith, test-length c, tests-length p, tests-length q))
-tests-length (Control s p) = tests-length p
-tests-length (Local s p) = tests-length p
+tests-length p = tests-long (parts p)
 
 pub table-length : (p : Program) → length (tableOf p) ≡ needed p
 unfolding tableOf trailer

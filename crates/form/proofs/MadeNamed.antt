@@ -6,10 +6,10 @@ use native.Mathlib.Omega.{arith}
 use lib.Dec.{leb}
 use borrow.Author.Tests.{leb-true, leb-false}
 use Rattle.junior.specs.Configuration.{Config, Event, Not, And, Or}
-use Rattle.junior.specs.Program.{Program, Nothing, Stop, Atom, Seq, Par, Loop, Repeat, Generate, Await, When, Until}
-use Rattle.junior.specs.Program.{Control, Local}
-use Rattle.form.specs.Made.{larger, namedIn, named}
-use Rattle.form.specs.InForm.{TestInForm, InForm}
+use Rattle.junior.specs.Program.{Program, Argument, no-argument, number, event, configuration, argument}
+use Rattle.junior.specs.Program.{Parts, no-part, one-part, two-parts, parts}
+use Rattle.form.specs.Made.{larger, namedIn, namedWith, namedParts, named}
+use Rattle.form.specs.InForm.{TestInForm, ArgumentInForm, PartsInForm, InForm}
 
 pub larger-max : (m n : ℕ) → larger m n ≡ max m n
 larger-max m n = go (leb m n) refl
@@ -25,28 +25,28 @@ larger-first m n v h = omega (arith, larger-max m n)
 pub larger-second : (m n v : ℕ) → larger m n ≤ v → n ≤ v
 larger-second m n v h = omega (arith, larger-max m n)
 
-named-in-least : (c : Config) → 1 ≤ namedIn c
-unfolding namedIn
-named-in-least (Event s) = omega arith
-named-in-least (Not c) = named-in-least c
-named-in-least (And c d) = omega (arith, larger-max (namedIn c) (namedIn d), named-in-least c)
-named-in-least (Or c d) = omega (arith, larger-max (namedIn c) (namedIn d), named-in-least c)
+-- and so are the parts' names, of an argument and the parts together
+pub named-rest : (a : Argument) (m v : ℕ) → namedWith a m ≤ v → m ≤ v
+named-rest no-argument m v h = h
+named-rest (number n) m v h = h
+named-rest (event s) m v h = larger-second (suc s) m v h
+named-rest (configuration c) m v h = larger-second (namedIn c) m v h
+
+with-least : (a : Argument) (v : ℕ) → 1 ≤ v → 1 ≤ namedWith a v
+with-least no-argument v h = h
+with-least (number n) v h = h
+with-least (event s) v h = omega (arith, larger-max (suc s) v)
+with-least (configuration c) v h = omega (arith, larger-max (namedIn c) v)
+
+least : {p : Program} (v : Parts p) → 1 ≤ namedParts v
+least {p} (no-part f) = with-least (argument p) 1 (omega arith)
+least {p} (one-part f q) = with-least (argument p) (namedParts q) (least q)
+least {p} (two-parts f q r) =
+    with-least (argument p) (larger (namedParts q) (namedParts r)) (omega (arith, larger-max (namedParts q) (namedParts r), least q))
 
 pub named-least : (p : Program) → 1 ≤ named p
 unfolding named
-named-least Nothing = omega arith
-named-least Stop = omega arith
-named-least (Atom a) = omega arith
-named-least (Seq p q) = omega (arith, larger-max (named p) (named q), named-least p)
-named-least (Par p q) = omega (arith, larger-max (named p) (named q), named-least p)
-named-least (Loop p) = named-least p
-named-least (Repeat n p) = named-least p
-named-least (Generate s) = omega arith
-named-least (Await c) = named-in-least c
-named-least (When c p q) = omega (arith, larger-max (namedIn c) (larger (named p) (named q)), named-in-least c)
-named-least (Until c p q) = omega (arith, larger-max (namedIn c) (larger (named p) (named q)), named-in-least c)
-named-least (Control s p) = omega (arith, larger-max (suc s) (named p), named-least p)
-named-least (Local s p) = omega (arith, larger-max (suc s) (named p), named-least p)
+named-least p = least (parts p)
 
 -- the larger of two is at most what both are
 at-most : (k m n : ℕ) → m ≤ k → n ≤ k → larger m n ≤ k
@@ -59,18 +59,18 @@ named-in-most (Not c) h = named-in-most c h
 named-in-most (And c d) (h, g) = at-most 256 _ _ (named-in-most c h) (named-in-most d g)
 named-in-most (Or c d) (h, g) = at-most 256 _ _ (named-in-most c h) (named-in-most d g)
 
+with-most : (a : Argument) (v : ℕ) → ArgumentInForm a → v ≤ 256 → namedWith a v ≤ 256
+with-most no-argument v h l = l
+with-most (number n) v h l = l
+with-most (event s) v h l = at-most 256 _ _ h l
+with-most (configuration c) v h l = at-most 256 _ _ (named-in-most c h) l
+
+most : {p : Program} (v : Parts p) → PartsInForm v → namedParts v ≤ 256
+most {p} (no-part f) h = with-most (argument p) 1 h (omega arith)
+most {p} (one-part f q) (h, x) = with-most (argument p) (namedParts q) h (most q x)
+most {p} (two-parts f q r) (h, x, y) =
+    with-most (argument p) (larger (namedParts q) (namedParts r)) h (at-most 256 _ _ (most q x) (most r y))
+
 pub named-most : (p : Program) → InForm p → named p ≤ 256
 unfolding named
-named-most Nothing h = omega arith
-named-most Stop h = omega arith
-named-most (Atom a) h = omega arith
-named-most (Seq p q) (h, g) = at-most 256 _ _ (named-most p h) (named-most q g)
-named-most (Par p q) (h, g) = at-most 256 _ _ (named-most p h) (named-most q g)
-named-most (Loop p) h = named-most p h
-named-most (Repeat n p) (l, h) = named-most p h
-named-most (Generate s) h = h
-named-most (Await c) h = named-in-most c h
-named-most (When c p q) (l, h, g) = at-most 256 _ _ (named-in-most c l) (at-most 256 _ _ (named-most p h) (named-most q g))
-named-most (Until c p q) (l, h, g) = at-most 256 _ _ (named-in-most c l) (at-most 256 _ _ (named-most p h) (named-most q g))
-named-most (Control s p) (l, h) = at-most 256 _ _ l (named-most p h)
-named-most (Local s p) (l, h) = at-most 256 _ _ l (named-most p h)
+named-most p h = most (parts p) h

@@ -5,11 +5,13 @@ use mathlib.Core.List.{List, [], _∷_, _++_}
 use native.Mathlib.Omega.{arith}
 use native.Mathlib.Nat.{add-zero}
 use Rattle.junior.specs.Configuration.{Config}
-use Rattle.junior.specs.Program.{Program, size}
+use Rattle.junior.specs.Program.{Program, Argument, no-argument, number, event, configuration, argument, kind}
+use Rattle.junior.specs.Program.{Leaf, One, Two, Parts, no-part, one-part, two-parts, sizeOf, size}
 use Rattle.table.specs.Records.{kindAt, zeroAt, argumentAt, sizeAt, configurationAt, partKind, partEvent, partSize}
 use Rattle.table.specs.Spells.{weight}
-use Rattle.form.specs.Made.{big, tests, nodesFrom, testRecords, testsOf}
-use Rattle.form.proofs.MadeLength.{nodes-length, test-length, tests-length}
+use Rattle.form.specs.Made.{big, testsParts, asNumber, behind as after, node, nodesFromParts, testRecords}
+use Rattle.form.specs.Made.{recordsWith, testsOfParts}
+use Rattle.form.proofs.MadeLength.{nodes-long, test-length, tests-long}
 use Rattle.form.proofs.Places.{Has, front, behind, word-there}
 
 -- a node's record and others behind it
@@ -53,9 +55,9 @@ pub test-behind : {t : List ℕ} {c b : ℕ} (k e s : ℕ) {w : List ℕ} → c 
 test-behind k e s {w} z h = behind (k ∷ e ∷ big s) w z h
 
 -- the records of p stand at node i, its configurations from number j on
-pub record Stands (t : List ℕ) (i j : ℕ) (p : Program) : Type 0 where
-  pub nodes-there : Has t (6 * i) (nodesFrom j p)
-  pub tests-there : Has t (configurationAt t j) (testsOf p)
+pub record Stands (t : List ℕ) (i j : ℕ) {p : Program} (v : Parts p) : Type 0 where
+  pub nodes-there : Has t (6 * i) (nodesFromParts j v)
+  pub tests-there : Has t (configurationAt t j) (testsOfParts v)
 
 -- the configuration of a test, and what comes behind it
 module _ {t : List ℕ} (j : ℕ) (c : Config) (w : List ℕ) (h : Has t (configurationAt t j) (testRecords c ++ w)) where
@@ -64,6 +66,14 @@ module _ {t : List ℕ} (j : ℕ) (c : Config) (w : List ℕ) (h : Has t (config
 
   pub behind-tested : Has t (configurationAt t (j + weight c)) w
   behind-tested = behind (testRecords c) w (omega (arith, test-length c)) h
+
+-- an argument's configurations, if it has any, and what comes behind them
+pub behind-argument : {t : List ℕ} (j : ℕ) (a : Argument) (w : List ℕ) → Has t (configurationAt t j) (recordsWith a w)
+    → Has t (configurationAt t (after j a)) w
+behind-argument j no-argument w h = h
+behind-argument j (number n) w h = h
+behind-argument j (event s) w h = h
+behind-argument j (configuration c) w h = behind-tested j c w h
 
 -- configuration j with two parts
 pub record BothTests (t : List ℕ) (j k : ℕ) (d e : Config) : Type 0 where
@@ -82,40 +92,55 @@ both-tests {t} j k d e h =
       second = behind-tested (j + 1) d (testRecords e) b;
     }
 
--- node i with one part, and with two
-pub record OnePart (t : List ℕ) (i j k a s : ℕ) (p : Program) : Type 0 where
-  pub own : Node t i k a s
-  pub part : Stands t (i + 1) j p
+-- node i of a program with no part, with one, and with two
+abbrev Own : List ℕ → ℕ → ℕ → Program → Type 0
+Own t i j p = Node t i (kind p) (asNumber j (argument p)) (size p)
 
-pub record TwoParts (t : List ℕ) (i j k a s : ℕ) (p q : Program) : Type 0 where
-  pub own : Node t i k a s
-  pub first : Stands t (i + 1) j p
-  pub second : Stands t (i + 1 + size p) (j + tests p) q
+pub record OnePart (t : List ℕ) (i j : ℕ) (p : Program) {q : Program} (v : Parts q) : Type 0 where
+  pub own : Own t i j p
+  pub part : Stands t (i + 1) (after j (argument p)) v
 
-module _ {t : List ℕ} (i j k a s : ℕ) (p : Program) where
-  pub one-part : Has t (6 * i) (nodeRecord k a s (nodesFrom j p)) → Has t (configurationAt t j) (testsOf p) → OnePart t i j k a s p
-  one-part n h =
+pub record TwoParts (t : List ℕ) (i j : ℕ) (p : Program) {q r : Program} (v : Parts q) (w : Parts r) : Type 0 where
+  pub own : Own t i j p
+  pub first : Stands t (i + 1) (after j (argument p)) v
+  pub second : Stands t (i + 1 + sizeOf v) (after j (argument p) + testsParts v) w
+
+module _ {t : List ℕ} (i j : ℕ) (p : Program) (w : List ℕ) (n : Has t (6 * i) (node p (asNumber j (argument p)) ++ w)) where
+  own-there : Own t i j p
+  own-there = node-there i (kind p) (asNumber j (argument p)) (size p) n
+
+  behind-own : Has t (6 * (i + 1)) w
+  behind-own = behind (node p (asNumber j (argument p))) w (omega arith) n
+
+module _ {t : List ℕ} (i j : ℕ) {p : Program} where
+  pub no-parts : {f : Leaf p} → Stands t i j (no-part f) → Own t i j p
+  no-parts s = own-there i j p [] (s .nodes-there)
+
+  pub one-of : {q : Program} {f : One p q} (v : Parts q) → Stands t i j (one-part f v) → OnePart t i j p v
+  one-of v s =
+      let x : List ℕ = nodesFromParts (after j (argument p)) v in
       record {
-        own = node-there i k a s n;
+        own = own-there i j p x (s .nodes-there);
         part =
-            record { nodes-there = behind (k ∷ 0 ∷ (big a ++ big s)) (nodesFrom j p) (omega arith) n; tests-there = h };
+            record {
+              nodes-there = behind-own i j p x (s .nodes-there);
+              tests-there = behind-argument j (argument p) (testsOfParts v) (s .tests-there);
+            };
       }
 
-  pub two-parts : (q : Program) → Has t (6 * i) (nodeRecord k a s (nodesFrom j p ++ nodesFrom (j + tests p) q))
-      → Has t (configurationAt t j) (testsOf p ++ testsOf q) → TwoParts t i j k a s p q
-  two-parts q n h =
-      let b : Has t (6 * (i + 1)) (nodesFrom j p ++ nodesFrom (j + tests p) q) =
-      behind (k ∷ 0 ∷ (big a ++ big s)) (nodesFrom j p ++ nodesFrom (j + tests p) q) (omega arith) n in
+  pub two-of : {q r : Program} {f : Two p q r} (v : Parts q) (w : Parts r) → Stands t i j (two-parts f v w) → TwoParts t i j p v w
+  two-of v w s =
+      let next = after j (argument p) in
+      let x : List ℕ = nodesFromParts next v in
+      let y : List ℕ = nodesFromParts (next + testsParts v) w in
+      let n = behind-own i j p (x ++ y) (s .nodes-there) in
+      let h = behind-argument j (argument p) (testsOfParts v ++ testsOfParts w) (s .tests-there) in
       record {
-        own = node-there i k a s n;
-        first =
-            record {
-              nodes-there = front (nodesFrom j p) (nodesFrom (j + tests p) q) b;
-              tests-there = front (testsOf p) (testsOf q) h;
-            };
+        own = own-there i j p (x ++ y) (s .nodes-there);
+        first = record { nodes-there = front x y n; tests-there = front (testsOfParts v) (testsOfParts w) h };
         second =
             record {
-              nodes-there = behind (nodesFrom j p) (nodesFrom (j + tests p) q) (omega (arith, nodes-length j p)) b;
-              tests-there = behind (testsOf p) (testsOf q) (omega (arith, tests-length p)) h;
+              nodes-there = behind x y (omega (arith, nodes-long next v)) n;
+              tests-there = behind (testsOfParts v) (testsOfParts w) (omega (arith, tests-long v)) h;
             };
       }

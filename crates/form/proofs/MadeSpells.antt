@@ -1,23 +1,21 @@
 -- The table that is made from a program spells it.
 use Prim.Native.Nat.{ℕ, _+_, _*_}
 use mathlib.Core.Path.{_≡_, refl}
-use mathlib.Core.List.{List, _++_}
+use mathlib.Core.List.{List, [], _++_}
 use native.Mathlib.Omega.{arith}
 use lib.ListN.{length}
 use Rattle.junior.specs.Configuration.{Config, Event, Not, And, Or}
-use Rattle.junior.specs.Program.{Program, Nothing, Stop, Atom, Seq, Par, Loop, Repeat, Generate, Await, When, Until}
-use Rattle.junior.specs.Program.{Control, Local, size, kind}
-use Rattle.table.specs.Records.{kindAt, sizeAt, secondAt, configurationAt, partKind, partSize, secondPart}
-use Rattle.table.specs.Spells.{weight, Configured, Spells, tested}
+use Rattle.junior.specs.Program.{Program, Argument, no-argument, number, event, configuration, argument}
+use Rattle.junior.specs.Program.{Parts, no-part, one-part, two-parts, parts, size}
+use Rattle.table.specs.Records.{argumentAt, configurationAt, partKind, partSize, secondPart}
+use Rattle.table.specs.Spells.{weight, Configured, Argues, SpellsParts, Spells}
 use Rattle.table.proofs.ByParts.{written}
-use Rattle.table.proofs.Tree.{tree, sized}
-use Rattle.form.specs.Made.{nodesFrom, testRecords, testsOf, tableOf}
+use Rattle.table.proofs.Tree.{written-parts}
+use Rattle.form.specs.Made.{asNumber, nodesFrom, testRecords, recordsWith, testsOfParts, testsOf, tableOf}
 use Rattle.form.proofs.Places.{Has, front, behind}
 use Rattle.form.proofs.MadeLength.{test-length}
 use Rattle.form.proofs.MadeBytes.{made-nodes, nodes-there, tests-there}
-use Rattle.form.proofs.MadeRecords.{Node, node-there, testRecord, test-there, test-behind, Stands}
-use Rattle.form.proofs.MadeRecords.{tested-there}
-use Rattle.form.proofs.MadeRecords.{behind-tested, one-part, TwoParts, two-parts}
+use Rattle.form.proofs.MadeRecords.{testRecord, test-there, test-behind, tested-there, Stands, no-parts, one-of, two-of}
 
 module _ (t : List ℕ) where
   -- d stands wherever its records do
@@ -44,63 +42,41 @@ module _ (t : List ℕ) where
   configured (And d e) c h = both-configured 2 c d e (configured d) (configured e) h
   configured (Or d e) c h = both-configured 3 c d e (configured d) (configured e) h
 
-  -- node i tests configuration j
-  test-is : {i j k s : ℕ} (c : Config) → Node t i k j s → Has t (configurationAt t j) (testRecords c) → Configured t (tested t i) c
-  test-is c o h = rw (o .argument-is) (configured c _ h)
+  -- an argument is there wherever its record and its configurations are
+  argues : (i j : ℕ) (a : Argument) (w : List ℕ) → argumentAt t i ≡ asNumber j a → Has t (configurationAt t j) (recordsWith a w)
+      → Argues t i a
+  argues i j no-argument w e h = tt
+  argues i j (number n) w e h = e
+  argues i j (event s) w e h = e
+  argues i j (configuration c) w e h = rw e (configured c _ (tested-there j c w h))
 
   -- p is spelled wherever its records stand
-  abbrev SpellsWhere : Program → Type 0
-  SpellsWhere p = (i j : ℕ) → Stands t i j p → Spells t i p
-
-  both-spell : {i j k a s : ℕ} {p q : Program} → TwoParts t i j k a s p q → SpellsWhere p → SpellsWhere q
-      → ((kindAt t i ≡ k) × (sizeAt t i ≡ s)) × Spells t (i + 1) p × Spells t (secondAt t i) q
-  both-spell {i} {p = p} o first second =
-      let f = first _ _ (o .first) in
-      ((o .own .kind-is, o .own .size-is), f, rw (sized (tree t (i + 1) p f)) (second _ _ (o .second)))
-
-  pub spells : (p : Program) → SpellsWhere p
-  unfolding nodesFrom testsOf Spells kind size
-  spells Nothing i j s = let o = node-there i 0 0 1 (s .nodes-there) in (o .kind-is, o .size-is)
-  spells Stop i j s = let o = node-there i 1 0 1 (s .nodes-there) in (o .kind-is, o .size-is)
-  spells (Atom a) i j s = let o = node-there i 2 a 1 (s .nodes-there) in ((o .kind-is, o .size-is), o .argument-is)
-  spells (Seq p q) i j s =
-      both-spell (two-parts i j 3 0 (1 + size p + size q) p q (s .nodes-there) (s .tests-there)) (spells p) (spells q)
-  spells (Par p q) i j s =
-      both-spell (two-parts i j 4 0 (1 + size p + size q) p q (s .nodes-there) (s .tests-there)) (spells p) (spells q)
-  spells (Loop p) i j s =
-      let o = one-part i j 5 0 (1 + size p) p (s .nodes-there) (s .tests-there) in
-      ((o .own .kind-is, o .own .size-is), spells p (i + 1) j (o .part))
-  spells (Repeat n p) i j s =
-      let o = one-part i j 6 n (1 + size p) p (s .nodes-there) (s .tests-there) in
-      ((o .own .kind-is, o .own .size-is), o .own .argument-is, spells p (i + 1) j (o .part))
-  spells (Generate a) i j s = let o = node-there i 7 a 1 (s .nodes-there) in ((o .kind-is, o .size-is), o .argument-is)
-  spells (Await c) i j s =
-      let o = node-there i 8 j 1 (s .nodes-there) in
-      ((o .kind-is, o .size-is), test-is c o (s .tests-there))
-  spells (When c p q) i j s =
-      let w = testsOf p ++ testsOf q in
-      let b = behind-tested j c w (s .tests-there) in
-      let o = two-parts i (j + weight c) 9 j (1 + size p + size q) p q (s .nodes-there) b in
-      let (x, y, z) = both-spell o (spells p) (spells q) in
-      (x, test-is c (o .own) (tested-there j c w (s .tests-there)), y, z)
-  spells (Until c p q) i j s =
-      let w = testsOf p ++ testsOf q in
-      let b = behind-tested j c w (s .tests-there) in
-      let o = two-parts i (j + weight c) 10 j (1 + size p + size q) p q (s .nodes-there) b in
-      let (x, y, z) = both-spell o (spells p) (spells q) in
-      (x, test-is c (o .own) (tested-there j c w (s .tests-there)), y, z)
-  spells (Control a p) i j s =
-      let o = one-part i j 11 a (1 + size p) p (s .nodes-there) (s .tests-there) in
-      ((o .own .kind-is, o .own .size-is), o .own .argument-is, spells p (i + 1) j (o .part))
-  spells (Local a p) i j s =
-      let o = one-part i j 12 a (1 + size p) p (s .nodes-there) (s .tests-there) in
-      ((o .own .kind-is, o .own .size-is), o .own .argument-is, spells p (i + 1) j (o .part))
+  pub spells : {p : Program} (v : Parts p) (i j : ℕ) → Stands t i j v → SpellsParts t i v
+  spells {p} (no-part f) i j s =
+      let o = no-parts i j s in
+      ((o .kind-is, o .size-is), argues i j (argument p) [] (o .argument-is) (s .tests-there))
+  spells {p} (one-part f q) i j s =
+      let o = one-of i j q s in (
+        (o .own .kind-is, o .own .size-is),
+        argues i j (argument p) (testsOfParts q) (o .own .argument-is) (s .tests-there),
+        spells q _ _ (o .part),
+      )
+  spells {p} (two-parts f q r) i j s =
+      let o = two-of i j q r s in
+      let first = spells q _ _ (o .first) in (
+        (o .own .kind-is, o .own .size-is),
+        argues i j (argument p) (testsOfParts q ++ testsOfParts r) (o .own .argument-is) (s .tests-there),
+        first,
+        rw (written-parts t (i + 1) q first) (spells r _ _ (o .second)),
+      )
 
 -- all of the program stands from node 0 and configuration 0 on
-pub made-stands : (p : Program) → Stands (tableOf p) 0 0 p
+pub made-stands : (p : Program) → Stands (tableOf p) 0 0 (parts p)
+unfolding nodesFrom testsOf
 made-stands p =
     let place : 6 * size p ≡ configurationAt (tableOf p) 0 = omega (arith, made-nodes p) in
     record { nodes-there = nodes-there p; tests-there = rw (← place) (tests-there p) }
 
 pub made-spells : (p : Program) → Spells (tableOf p) 0 p
-made-spells p = spells (tableOf p) p 0 0 (made-stands p)
+unfolding Spells
+made-spells p = spells (tableOf p) (parts p) 0 0 (made-stands p)

@@ -1,29 +1,30 @@
 -- Every configuration of the table that is made from a program is good but for its height.
-use Prim.Native.Nat.{ℕ, suc, _+_, _≤_, _<_}
+use Prim.Native.Nat.{ℕ, _+_, _≤_, _<_}
 use mathlib.Core.Bool.{true, false, cond}
 use mathlib.Core.Path.{_≡_, refl}
-use mathlib.Core.List.{List, _++_}
+use mathlib.Core.List.{List, [], _++_}
 use native.Mathlib.Omega.{arith}
 use lib.Dec.{eqb}
 use borrow.Author.Tests.{lt-ltb, le-leb}
 use Rattle.junior.specs.Configuration.{Config, Event, Not, And, Or}
-use Rattle.junior.specs.Program.{Program, Nothing, Stop, Atom, Seq, Par, Loop, Repeat, Generate, Await, When, Until}
-use Rattle.junior.specs.Program.{Control, Local}
+use Rattle.junior.specs.Program.{Program, Argument, no-argument, number, event, configuration, argument}
+use Rattle.junior.specs.Program.{Parts, no-part, one-part, two-parts, parts as taken-apart}
 use Rattle.table.specs.Records.{configurations, events, configurationAt}
 use Rattle.table.specs.Good.{parts, goodButHeight}
 use Rattle.table.specs.Spells.{weight}
 use Rattle.table.proofs.ByParts.{some-record}
 use Rattle.table.proofs.ByParts.{written}
 use Rattle.table.proofs.Laid.{Laid, one, two, sizeOf}
-use Rattle.form.specs.Made.{larger, namedIn, named, tests, testRecords, testsOf, tableOf}
+use Rattle.form.specs.Made.{larger, namedIn, namedWith, namedParts, named, testsWith, testsParts, tests}
+use Rattle.form.specs.Made.{behind as after, testRecords, recordsWith, testsOfParts, tableOf}
 use Rattle.form.proofs.Places.{Has, front, behind}
 use Rattle.form.proofs.Spans.{All, both, own-and, own-and-both}
 use Rattle.form.proofs.Spans
-use Rattle.form.proofs.MadeLength.{tests-length}
-use Rattle.form.proofs.MadeNamed.{larger-first, larger-second}
+use Rattle.form.proofs.MadeLength.{tests-long}
+use Rattle.form.proofs.MadeNamed.{larger-first, larger-second, named-rest}
 use Rattle.form.proofs.MadeBytes.{made-configurations, made-events}
 use Rattle.form.proofs.MadeRecords.{Test, test-there, test-behind, BothTests, both-tests, tested-there}
-use Rattle.form.proofs.MadeRecords.{behind-tested}
+use Rattle.form.proofs.MadeRecords.{behind-argument}
 use Rattle.form.proofs.MadeSpells.{configured, made-stands}
 use Rattle.form.proofs.MadeGood.{laid-out}
 
@@ -83,61 +84,50 @@ module _ (t : List ℕ) where
   good-test (Or d e) j h m v = both-good (both-tests j 3 d e h) (omega arith) refl refl (good-test d) (good-test e) m v
 
   -- the configurations of two parts
-  module _ (j : ℕ) (p q : Program) (h : Has t (configurationAt t j) (testsOf p ++ testsOf q)) where
-    pub first-tests : Has t (configurationAt t j) (testsOf p)
-    first-tests = front (testsOf p) (testsOf q) h
+  module _ (j : ℕ) {p q : Program} (v : Parts p) (w : Parts q) (h : Has t (configurationAt t j) (testsOfParts v ++ testsOfParts w)) where
+    pub first-tests : Has t (configurationAt t j) (testsOfParts v)
+    first-tests = front (testsOfParts v) (testsOfParts w) h
 
-    pub second-tests : Has t (configurationAt t (j + tests p)) (testsOf q)
-    second-tests = behind (testsOf p) (testsOf q) (omega (arith, tests-length p)) h
+    pub second-tests : Has t (configurationAt t (j + testsParts v)) (testsOfParts w)
+    second-tests = behind (testsOfParts v) (testsOfParts w) (omega (arith, tests-long v)) h
+
+  -- the configurations of an argument and n more
+  argument-good : (a : Argument) (j n m : ℕ) (w : List ℕ) → Has t (configurationAt t j) (recordsWith a w)
+      → j + testsWith a n ≤ configurations t → namedWith a m ≤ events t
+      → (after j a + n ≤ configurations t → All GoodTest (after j a) n) → All GoodTest j (testsWith a n)
+  argument-good no-argument j n m w h l v more = more l
+  argument-good (number k) j n m w h l v more = more l
+  argument-good (event s) j n m w h l v more = more l
+  argument-good (configuration c) j n m w h l v more =
+      let f = good-test c j (tested-there j c w h) (omega arith) (larger-first (namedIn c) m _ v) in
+      both GoodTest j (weight c) n f (more (omega arith))
 
   -- all tests of p are good wherever they stand
-  abbrev TestsGoodWhere : Program → Type 0
-  TestsGoodWhere p =
-      (j : ℕ)
-      → Has t (configurationAt t j) (testsOf p)
-      → j + tests p ≤ configurations t
-      → named p ≤ events t
-      → All GoodTest j (tests p)
-
-  both-parts : (p q : Program) → TestsGoodWhere p → TestsGoodWhere q → (j : ℕ) → Has t (configurationAt t j) (testsOf p ++ testsOf q)
-      → j + (tests p + tests q) ≤ configurations t → larger (named p) (named q) ≤ events t → All GoodTest j (tests p + tests q)
-  both-parts p q first second j h m v =
-      let f = first j (first-tests j p q h) (omega arith) (larger-first (named p) (named q) _ v) in
-      let g = second (j + tests p) (second-tests j p q h) (omega arith) (larger-second (named p) (named q) _ v) in
-      both GoodTest j (tests p) (tests q) f g
-
-  test-and-parts : (c : Config) (p q : Program) → TestsGoodWhere p → TestsGoodWhere q → (j : ℕ)
-      → Has t (configurationAt t j) (testRecords c ++ (testsOf p ++ testsOf q)) → j + (weight c + (tests p + tests q)) ≤ configurations t
-      → larger (namedIn c) (larger (named p) (named q)) ≤ events t → All GoodTest j (weight c + (tests p + tests q))
-  test-and-parts c p q first second j h m v =
-      let w = testsOf p ++ testsOf q in
-      let both-named = larger (named p) (named q) in
-      let f = good-test c j (tested-there j c w h) (omega arith) (larger-first (namedIn c) both-named _ v) in
-      let g =
-      both-parts p q first second (j + weight c) (behind-tested j c w h) (omega arith) (larger-second (namedIn c) both-named _ v) in
-      both GoodTest j (weight c) (tests p + tests q) f g
-
-  good-tests : (p : Program) → TestsGoodWhere p
-  unfolding testsOf tests named
-  good-tests Nothing j h m v = Spans.none GoodTest j
-  good-tests Stop j h m v = Spans.none GoodTest j
-  good-tests (Atom a) j h m v = Spans.none GoodTest j
-  good-tests (Seq p q) j h m v = both-parts p q (good-tests p) (good-tests q) j h m v
-  good-tests (Par p q) j h m v = both-parts p q (good-tests p) (good-tests q) j h m v
-  good-tests (Loop p) j h m v = good-tests p j h m v
-  good-tests (Repeat n p) j h m v = good-tests p j h m v
-  good-tests (Generate s) j h m v = Spans.none GoodTest j
-  good-tests (Await c) j h m v = good-test c j h m v
-  good-tests (When c p q) j h m v = test-and-parts c p q (good-tests p) (good-tests q) j h m v
-  good-tests (Until c p q) j h m v = test-and-parts c p q (good-tests p) (good-tests q) j h m v
-  good-tests (Control s p) j h m v = good-tests p j h m (larger-second (suc s) (named p) _ v)
-  good-tests (Local s p) j h m v = good-tests p j h m (larger-second (suc s) (named p) _ v)
+  good-tests : {p : Program} (v : Parts p) (j : ℕ) → Has t (configurationAt t j) (testsOfParts v)
+      → j + testsParts v ≤ configurations t → namedParts v ≤ events t → All GoodTest j (testsParts v)
+  good-tests {p} (no-part f) j h l v =
+      argument-good (argument p) j 0 1 [] h l v (λ k. Spans.none GoodTest (after j (argument p)))
+  good-tests {p} (one-part f q) j h l v =
+      argument-good (argument p) j (testsParts q) (namedParts q) (testsOfParts q) h l v
+      (λ k. good-tests q _ (behind-argument j (argument p) (testsOfParts q) h) k (named-rest (argument p) (namedParts q) _ v))
+  good-tests {p} (two-parts f q r) j h l v =
+      let next = after j (argument p) in
+      let w = testsOfParts q ++ testsOfParts r in
+      let both-named = larger (namedParts q) (namedParts r) in
+      let b = behind-argument j (argument p) w h in
+      let c = named-rest (argument p) both-named _ v in
+      argument-good (argument p) j (testsParts q + testsParts r) both-named w h l v
+      (λ k.
+      both GoodTest next (testsParts q) (testsParts r)
+      (good-tests q next (first-tests next q r b) (omega arith) (larger-first (namedParts q) (namedParts r) _ c))
+      (good-tests r (next + testsParts q) (second-tests next q r b) (omega arith) (larger-second (namedParts q) (namedParts r) _ c)))
 
 pub all-tests-good : (p : Program) → All (GoodTest (tableOf p)) 0 (tests p)
+unfolding tests named
 all-tests-good p =
     let m = made-configurations p in
     let v = made-events p in
-    good-tests (tableOf p) p 0 (made-stands p .tests-there) (omega arith) (omega arith)
+    good-tests (tableOf p) (taken-apart p) 0 (made-stands p .tests-there) (omega arith) (omega arith)
 
 pub made-tests-good : (p : Program) (j : ℕ) → j < tests p → goodButHeight (tableOf p) j ≡ true
 made-tests-good p j l = all-tests-good p j (omega arith) (omega arith)

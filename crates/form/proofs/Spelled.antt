@@ -21,9 +21,9 @@ unfolding spell
 says-spell Nothing h = says-nothing
 says-spell Stop h = says-stop
 says-spell (Atom a) h = says-atom h
-says-spell (Seq p q) (g, h) = says-seq (says-spell p g) (last-of-seq (says-spell q h))
-says-spell (Par p q) (g, h) = says-par (says-spell p g) (last-of-par (says-spell q h))
-says-spell (Loop p) h = says-loop (says-spell p h)
+says-spell (Seq p q) (t, g, h) = says-seq (says-spell p g) (last-of-seq (says-spell q h))
+says-spell (Par p q) (t, g, h) = says-par (says-spell p g) (last-of-par (says-spell q h))
+says-spell (Loop p) (t, h) = says-loop (says-spell p h)
 says-spell (Repeat n p) (l, h) = says-repeat l (says-spell p h)
 says-spell (Generate s) h = says-generate h
 says-spell (Await c) h = says-await (says-spelled-test c h)

@@ -5,8 +5,8 @@ use mathlib.Core.Bool.{cond}
 use mathlib.Core.List.{List, [], _∷_, _++_}
 use lib.Dec.{leb}
 use Rattle.junior.specs.Configuration.{Config, Event, Not, And, Or}
-use Rattle.junior.specs.Program.{Program, Nothing, Stop, Atom, Seq, Par, Loop, Repeat, Generate, Await, When, Until}
-use Rattle.junior.specs.Program.{Control, Local, size, kind}
+use Rattle.junior.specs.Program.{Program, Argument, no-argument, number, event, configuration, argument, kind}
+use Rattle.junior.specs.Program.{Parts, no-part, one-part, two-parts, parts, size}
 use Rattle.table.specs.Spells.{weight}
 
 -- a number of 16 bits
@@ -23,57 +23,63 @@ namedIn (Not c) = namedIn c
 namedIn (And c d) = larger (namedIn c) (namedIn d)
 namedIn (Or c d) = larger (namedIn c) (namedIn d)
 
--- the same of a program, at least 1
+-- the same of a program, at least 1: by its argument and by its parts
+abbrev pub namedWith : Argument → ℕ → ℕ
+namedWith no-argument v = v
+namedWith (number n) v = v
+namedWith (event s) v = larger (suc s) v
+namedWith (configuration c) v = larger (namedIn c) v
+
+abbrev pub namedParts : {p : Program} → Parts p → ℕ
+namedParts {p} (no-part f) = namedWith (argument p) 1
+namedParts {p} (one-part f q) = namedWith (argument p) (namedParts q)
+namedParts {p} (two-parts f q r) = namedWith (argument p) (larger (namedParts q) (namedParts r))
+
 unfoldable pub named : Program → ℕ
-named Nothing = 1
-named Stop = 1
-named (Atom a) = 1
-named (Seq p q) = larger (named p) (named q)
-named (Par p q) = larger (named p) (named q)
-named (Loop p) = named p
-named (Repeat n p) = named p
-named (Generate s) = suc s
-named (Await c) = namedIn c
-named (When c p q) = larger (namedIn c) (larger (named p) (named q))
-named (Until c p q) = larger (namedIn c) (larger (named p) (named q))
-named (Control s p) = larger (suc s) (named p)
-named (Local s p) = larger (suc s) (named p)
+named p = namedParts (parts p)
 
 -- how many configuration records its tests have
+abbrev pub testsWith : Argument → ℕ → ℕ
+testsWith no-argument n = n
+testsWith (number a) n = n
+testsWith (event s) n = n
+testsWith (configuration c) n = weight c + n
+
+abbrev pub testsParts : {p : Program} → Parts p → ℕ
+testsParts {p} (no-part f) = testsWith (argument p) 0
+testsParts {p} (one-part f q) = testsWith (argument p) (testsParts q)
+testsParts {p} (two-parts f q r) = testsWith (argument p) (testsParts q + testsParts r)
+
 unfoldable pub tests : Program → ℕ
-tests Nothing = 0
-tests Stop = 0
-tests (Atom a) = 0
-tests (Seq p q) = tests p + tests q
-tests (Par p q) = tests p + tests q
-tests (Loop p) = tests p
-tests (Repeat n p) = tests p
-tests (Generate s) = 0
-tests (Await c) = weight c
-tests (When c p q) = weight c + (tests p + tests q)
-tests (Until c p q) = weight c + (tests p + tests q)
-tests (Control s p) = tests p
-tests (Local s p) = tests p
+tests p = testsParts (parts p)
+
+-- an argument as a number, its configuration being number j, and the number behind that
+abbrev pub asNumber : ℕ → Argument → ℕ
+asNumber j no-argument = 0
+asNumber j (number n) = n
+asNumber j (event s) = s
+asNumber j (configuration c) = j
+
+abbrev pub behind : ℕ → Argument → ℕ
+behind j no-argument = j
+behind j (number n) = j
+behind j (event s) = j
+behind j (configuration c) = j + weight c
 
 -- a node's own record: kind, a zero byte, argument, size
 abbrev pub node : Program → ℕ → List ℕ
 node p argument = kind p ∷ 0 ∷ (big argument ++ big (size p))
 
 -- the records of a program, its first configuration being number j
+abbrev pub nodesFromParts : {p : Program} → ℕ → Parts p → List ℕ
+nodesFromParts {p} j (no-part f) = node p (asNumber j (argument p))
+nodesFromParts {p} j (one-part f q) = node p (asNumber j (argument p)) ++ nodesFromParts (behind j (argument p)) q
+nodesFromParts {p} j (two-parts f q r) =
+    let first = behind j (argument p) in
+    node p (asNumber j (argument p)) ++ (nodesFromParts first q ++ nodesFromParts (first + testsParts q) r)
+
 unfoldable pub nodesFrom : ℕ → Program → List ℕ
-nodesFrom j Nothing = node Nothing 0
-nodesFrom j Stop = node Stop 0
-nodesFrom j (Atom a) = node (Atom a) a
-nodesFrom j (Seq p q) = node (Seq p q) 0 ++ (nodesFrom j p ++ nodesFrom (j + tests p) q)
-nodesFrom j (Par p q) = node (Par p q) 0 ++ (nodesFrom j p ++ nodesFrom (j + tests p) q)
-nodesFrom j (Loop p) = node (Loop p) 0 ++ nodesFrom j p
-nodesFrom j (Repeat n p) = node (Repeat n p) n ++ nodesFrom j p
-nodesFrom j (Generate s) = node (Generate s) s
-nodesFrom j (Await c) = node (Await c) j
-nodesFrom j (When c p q) = node (When c p q) j ++ (nodesFrom (j + weight c) p ++ nodesFrom (j + weight c + tests p) q)
-nodesFrom j (Until c p q) = node (Until c p q) j ++ (nodesFrom (j + weight c) p ++ nodesFrom (j + weight c + tests p) q)
-nodesFrom j (Control s p) = node (Control s p) s ++ nodesFrom j p
-nodesFrom j (Local s p) = node (Local s p) s ++ nodesFrom j p
+nodesFrom j p = nodesFromParts j (parts p)
 
 -- the records of a configuration: kind, event, size
 unfoldable pub testRecords : Config → List ℕ
@@ -83,20 +89,19 @@ testRecords (And c d) = 2 ∷ 0 ∷ (big (1 + weight c + weight d) ++ (testRecor
 testRecords (Or c d) = 3 ∷ 0 ∷ (big (1 + weight c + weight d) ++ (testRecords c ++ testRecords d))
 
 -- the configurations of a program, in text order
+abbrev pub recordsWith : Argument → List ℕ → List ℕ
+recordsWith no-argument l = l
+recordsWith (number n) l = l
+recordsWith (event s) l = l
+recordsWith (configuration c) l = testRecords c ++ l
+
+abbrev pub testsOfParts : {p : Program} → Parts p → List ℕ
+testsOfParts {p} (no-part f) = recordsWith (argument p) []
+testsOfParts {p} (one-part f q) = recordsWith (argument p) (testsOfParts q)
+testsOfParts {p} (two-parts f q r) = recordsWith (argument p) (testsOfParts q ++ testsOfParts r)
+
 unfoldable pub testsOf : Program → List ℕ
-testsOf Nothing = []
-testsOf Stop = []
-testsOf (Atom a) = []
-testsOf (Seq p q) = testsOf p ++ testsOf q
-testsOf (Par p q) = testsOf p ++ testsOf q
-testsOf (Loop p) = testsOf p
-testsOf (Repeat n p) = testsOf p
-testsOf (Generate s) = []
-testsOf (Await c) = testRecords c
-testsOf (When c p q) = testRecords c ++ (testsOf p ++ testsOf q)
-testsOf (Until c p q) = testRecords c ++ (testsOf p ++ testsOf q)
-testsOf (Control s p) = testsOf p
-testsOf (Local s p) = testsOf p
+testsOf p = testsOfParts (parts p)
 
 -- the trailer: N, M, V, and the distances back
 unfoldable pub trailer : Program → List ℕ

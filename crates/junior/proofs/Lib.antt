@@ -1,5 +1,6 @@
 -- The laws, in the order in which they lean on one another.
 pub mod Little
+pub mod Parts
 pub mod Kept
 pub mod Deterministic
 pub mod Verdicts

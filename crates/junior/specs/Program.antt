@@ -1,4 +1,5 @@
--- Programs: the thirteen forms (01, "What the kernel holds"; 000, 2.1).
+-- Programs: the thirteen forms (01, "What the kernel holds"; 000, 2.1), and what each form has: a kind, an argument and parts
+-- (01, "The table").
 use Prim.Native.Nat.{ℕ, _+_}
 use Rattle.junior.specs.Configuration.{Config}
 
@@ -13,34 +14,84 @@ pub data Program : Type 0 where
   When Until : Config → Program → Program → Program
   Control Local : ℕ → Program → Program
 
--- the node and all below it
-unfoldable pub size : Program → ℕ
-size Nothing = 1
-size Stop = 1
-size (Atom a) = 1
-size (Seq p q) = 1 + size p + size q
-size (Par p q) = 1 + size p + size q
-size (Loop p) = 1 + size p
-size (Repeat n p) = 1 + size p
-size (Generate s) = 1
-size (Await c) = 1
-size (When c p q) = 1 + size p + size q
-size (Until c p q) = 1 + size p + size q
-size (Control s p) = 1 + size p
-size (Local s p) = 1 + size p
+-- an Atom's number or a Repeat's count, an event, a configuration
+pub data Argument : Type 0 where
+  no-argument : Argument
+  number event : ℕ → Argument
+  configuration : Config → Argument
 
--- the kind's number (01, "The table")
+pub record Head : Type 0 where
+  pub kind : ℕ
+  pub argument : Argument
+
+-- each form's kind and argument
+abbrev pub head : Program → Head
+head Nothing = record { kind = 0; argument = no-argument }
+head Stop = record { kind = 1; argument = no-argument }
+head (Atom a) = record { kind = 2; argument = number a }
+head (Seq p q) = record { kind = 3; argument = no-argument }
+head (Par p q) = record { kind = 4; argument = no-argument }
+head (Loop p) = record { kind = 5; argument = no-argument }
+head (Repeat n p) = record { kind = 6; argument = number n }
+head (Generate s) = record { kind = 7; argument = event s }
+head (Await c) = record { kind = 8; argument = configuration c }
+head (When c p q) = record { kind = 9; argument = configuration c }
+head (Until c p q) = record { kind = 10; argument = configuration c }
+head (Control s p) = record { kind = 11; argument = event s }
+head (Local s p) = record { kind = 12; argument = event s }
+
 unfoldable pub kind : Program → ℕ
-kind Nothing = 0
-kind Stop = 1
-kind (Atom a) = 2
-kind (Seq p q) = 3
-kind (Par p q) = 4
-kind (Loop p) = 5
-kind (Repeat n p) = 6
-kind (Generate s) = 7
-kind (Await c) = 8
-kind (When c p q) = 9
-kind (Until c p q) = 10
-kind (Control s p) = 11
-kind (Local s p) = 12
+kind p = head p .kind
+
+abbrev pub argument : Program → Argument
+argument p = head p .argument
+
+-- each form's parts: none, one or two
+pub data Leaf : Program → Type 0 where
+  nothing : Leaf Nothing
+  stop : Leaf Stop
+  atom : (a : ℕ) → Leaf (Atom a)
+  generate : (s : ℕ) → Leaf (Generate s)
+  await : (c : Config) → Leaf (Await c)
+
+pub data One : Program → Program → Type 0 where
+  loop : (p : Program) → One (Loop p) p
+  repeat : (n : ℕ) (p : Program) → One (Repeat n p) p
+  control : (s : ℕ) (p : Program) → One (Control s p) p
+  local : (s : ℕ) (p : Program) → One (Local s p) p
+
+pub data Two : Program → Program → Program → Type 0 where
+  seq : (p q : Program) → Two (Seq p q) p q
+  par : (p q : Program) → Two (Par p q) p q
+  when : (c : Config) (p q : Program) → Two (When c p q) p q
+  until : (c : Config) (p q : Program) → Two (Until c p q) p q
+
+-- A program taken apart, and its parts likewise: what holds or is defined for all forms alike goes by these three cases.
+pub data Parts : Program → Type 0 where
+  no-part : {p : Program} → Leaf p → Parts p
+  one-part : {p q : Program} → One p q → Parts q → Parts p
+  two-parts : {p q r : Program} → Two p q r → Parts q → Parts r → Parts p
+
+abbrev pub parts : (p : Program) → Parts p
+parts Nothing = no-part nothing
+parts Stop = no-part stop
+parts (Atom a) = no-part (atom a)
+parts (Seq p q) = two-parts (seq p q) (parts p) (parts q)
+parts (Par p q) = two-parts (par p q) (parts p) (parts q)
+parts (Loop p) = one-part (loop p) (parts p)
+parts (Repeat n p) = one-part (repeat n p) (parts p)
+parts (Generate s) = no-part (generate s)
+parts (Await c) = no-part (await c)
+parts (When c p q) = two-parts (when c p q) (parts p) (parts q)
+parts (Until c p q) = two-parts (until c p q) (parts p) (parts q)
+parts (Control s p) = one-part (control s p) (parts p)
+parts (Local s p) = one-part (local s p) (parts p)
+
+-- the node and all below it
+abbrev pub sizeOf : {p : Program} → Parts p → ℕ
+sizeOf (no-part l) = 1
+sizeOf (one-part f q) = 1 + sizeOf q
+sizeOf (two-parts f q r) = 1 + sizeOf q + sizeOf r
+
+unfoldable pub size : Program → ℕ
+size p = sizeOf (parts p)

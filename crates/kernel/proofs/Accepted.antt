@@ -7,7 +7,7 @@ use native.Mathlib.Omega.{arith}
 use lib.Dec.{ltb, leb}
 use borrow.Author.Tests.{leb-true, ltb-false}
 use Rattle.junior.specs.Program.{Program, Nothing, Stop, Atom, Seq, Par, Loop, Repeat, Generate, Await, When, Until}
-use Rattle.junior.specs.Program.{Control, Local, size}
+use Rattle.junior.specs.Program.{Control, Local, size, kind}
 use Rattle.junior.specs.Figures.{stops, LoopsStop, G, A, W}
 use Rattle.table.specs.declared.Checked.{Checked}
 use Rattle.table.specs.declared.Checked.the-variants.{TooDeep, EndlessLoop, TooHeavy, Accepted}
@@ -36,7 +36,7 @@ clean-two d p q f g k m h =
     ((a, b), y)
 
 loops-stop : (p : Program) (d : ℕ) → Clean d p
-unfolding size preorder firstSuch LoopsStop
+unfolding size kind preorder firstSuch LoopsStop
 loops-stop Nothing d k m h = (tt, omega arith)
 loops-stop Stop d k m h = (tt, omega arith)
 loops-stop (Atom a) d k m h = (tt, omega arith)

@@ -120,13 +120,13 @@ module _ (t s : List ℕ) (long : 4 * nodes t ≤ length s) where
 
   unbegun : (p : Program) (i : ℕ) → Spells t i p → i + size p ≤ nodes t → Below i (size p - 1) → Zero i p
   unfolding Spells size kind rests phaseRests flagsRest countRests
-  unbegun Nothing i sp h b = (λ o. simp (sp .0, o .0, o .1, o .2), no-nodes (i + 1))
-  unbegun Stop i sp h b = (λ o. simp (sp .0, o .0, o .1, o .2), no-nodes (i + 1))
+  unbegun Nothing i sp h b = (λ o. simp (sp .0 .0, o .0, o .1, o .2), no-nodes (i + 1))
+  unbegun Stop i sp h b = (λ o. simp (sp .0 .0, o .0, o .1, o .2), no-nodes (i + 1))
   unbegun (Atom a) i sp h b = (λ o. simp (sp .0 .0, o .0, o .1, o .2), no-nodes (i + 1))
   unbegun (Generate e) i sp h b = (λ o. simp (sp .0 .0, o .0, o .1, o .2), no-nodes (i + 1))
   unbegun (Await c) i sp h b = (λ o. simp (sp .0 .0, o .0, o .1, o .2), no-nodes (i + 1))
   unbegun (Loop p) i sp h b =
-      let z = one-zero i p (sp .1) h b (unbegun p (i + 1) (sp .1) (omega arith)) in
+      let z = one-zero i p (sp .2) h b (unbegun p (i + 1) (sp .2) (omega arith)) in
       (λ o. simp (sp .0 .0, o .0, o .1, o .2, z .0), z .1)
   unbegun (Repeat n p) i sp h b =
       let z = one-zero i p (sp .2) h b (unbegun p (i + 1) (sp .2) (omega arith)) in
@@ -138,12 +138,12 @@ module _ (t s : List ℕ) (long : 4 * nodes t ≤ length s) where
       let z = one-zero i p (sp .2) h b (unbegun p (i + 1) (sp .2) (omega arith)) in
       (λ o. simp (sp .0 .0, o .0, o .1, o .2), z .1)
   unbegun (Seq p q) i sp h b =
-      let at-second = unbegun q (i + 1 + size p) (second t i p q (sp .1) (sp .2)) (omega arith) in
-      let z = two-zero i p q (sp .1) (sp .2) h b (unbegun p (i + 1) (sp .1) (omega arith)) at-second in
+      let at-second = unbegun q (i + 1 + size p) (second t i p q (sp .2) (sp .3)) (omega arith) in
+      let z = two-zero i p q (sp .2) (sp .3) h b (unbegun p (i + 1) (sp .2) (omega arith)) at-second in
       (λ o. simp (sp .0 .0, o .0, o .1, o .2, z .1), z .2)
   unbegun (Par p q) i sp h b =
-      let at-second = unbegun q (i + 1 + size p) (second t i p q (sp .1) (sp .2)) (omega arith) in
-      let z = two-zero i p q (sp .1) (sp .2) h b (unbegun p (i + 1) (sp .1) (omega arith)) at-second in
+      let at-second = unbegun q (i + 1 + size p) (second t i p q (sp .2) (sp .3)) (omega arith) in
+      let z = two-zero i p q (sp .2) (sp .3) h b (unbegun p (i + 1) (sp .2) (omega arith)) at-second in
       (λ o. simp (sp .0 .0, o .0, o .1, o .2), z .2)
   unbegun (When c p q) i sp h b =
       let at-second = unbegun q (i + 1 + size p) (second t i p q (sp .2) (sp .3)) (omega arith) in
@@ -206,10 +206,10 @@ module _ (t s : List ℕ) (long : 4 * nodes t ≤ length s) where
       subst (λ (j : ℕ). Calm i j) (sym m) (with-below i (size p - 1) (simp (o .0, o .1, o .2, e)) (unbegun p i sp h z .1))
   calm nothing i sp h b a =
       let (o, z) = above-one i 0 h (in-phase 0) [] b in
-      with-below i 0 (simp (sp .0, o .0, o .1, o .2)) (no-nodes (i + 1))
+      with-below i 0 (simp (sp .0 .0, o .0, o .1, o .2)) (no-nodes (i + 1))
   calm stop i sp h b a =
       let (o, z) = above-one i 0 h (in-phase 0) [] b in
-      with-below i 0 (simp (sp .0, o .0, o .1, o .2)) (no-nodes (i + 1))
+      with-below i 0 (simp (sp .0 .0, o .0, o .1, o .2)) (no-nodes (i + 1))
   calm (atom n) i sp h b a =
       let (o, z) = above-one i 0 h (in-phase 0) [] b in
       with-below i 0 (simp (sp .0 .0, o .0, o .1, o .2)) (no-nodes (i + 1))
@@ -221,29 +221,29 @@ module _ (t s : List ℕ) (long : 4 * nodes t ≤ length s) where
       with-below i 0 (simp (sp .0 .0, o .0, o .1, o .2)) (no-nodes (i + 1))
   calm (seq0 u q) i sp h b a =
       let (o, x, y) = above-two i (size (prog u)) (size q) h (in-phase 0) (stateBytes u) (zeros q) (len-bytes u) b in
-      let z₂ = second-zero i (prog u) q (sp .1) (sp .2) (omega arith) y in
-      let first = calm u (i + 1) (sp .1) (omega arith) x a in
-      let later = idle q (i + 1 + size (prog u)) (second t i (prog u) q (sp .1) (sp .2)) (omega arith) y in
+      let z₂ = second-zero i (prog u) q (sp .2) (sp .3) (omega arith) y in
+      let first = calm u (i + 1) (sp .2) (omega arith) x a in
+      let later = idle q (i + 1 + size (prog u)) (second t i (prog u) q (sp .2) (sp .3)) (omega arith) y in
       with-both i (size (prog u)) (size q) (simp (sp .0 .0, o .0, o .1, o .2, z₂)) first later
   calm (seq2 p u) i sp h b a =
       let (o, x, y) = above-two i (size p) (size (prog u)) h (in-phase 2) (zeros p) (stateBytes u) (blank-len (size p)) b in
-      let z₁ = first-zero i p (sp .1) (omega arith) x in
-      let first = idle p (i + 1) (sp .1) (omega arith) x in
-      let later = calm u (i + 1 + size p) (second t i p (prog u) (sp .1) (sp .2)) (omega arith) y a in
+      let z₁ = first-zero i p (sp .2) (omega arith) x in
+      let first = idle p (i + 1) (sp .2) (omega arith) x in
+      let later = calm u (i + 1 + size p) (second t i p (prog u) (sp .2) (sp .3)) (omega arith) y a in
       with-both i (size p) (size (prog u)) (simp (sp .0 .0, o .0, o .1, o .2, z₁)) first later
   calm (par α β u v) i sp h b a =
       let (o, x, y) = above-two i (size (prog u)) (size (prog v)) h (head (par α β u v)) (stateBytes u) (stateBytes v) (len-bytes u) b in
-      let f = par-flags α β u v i (a .0) (a .1) (a .2) (sp .1) x y in
-      let first = calm u (i + 1) (sp .1) (omega arith) x (a .3) in
-      let later = calm v (i + 1 + size (prog u)) (second t i (prog u) (prog v) (sp .1) (sp .2)) (omega arith) y (a .4) in
+      let f = par-flags α β u v i (a .0) (a .1) (a .2) (sp .2) x y in
+      let first = calm u (i + 1) (sp .2) (omega arith) x (a .3) in
+      let later = calm v (i + 1 + size (prog u)) (second t i (prog u) (prog v) (sp .2) (sp .3)) (omega arith) y (a .4) in
       with-both i (size (prog u)) (size (prog v)) (simp (sp .0 .0, o .0, o .1, o .2, f)) first later
   calm (loop0 p) i sp h b a =
       let (o, x) = above-one i (size p) h (in-phase 0) (zeros p) b in
-      let z = first-zero i p (sp .1) (omega arith) x in
-      with-below i (size p) (simp (sp .0 .0, o .0, o .1, o .2, z)) (idle p (i + 1) (sp .1) (omega arith) x)
+      let z = first-zero i p (sp .2) (omega arith) x in
+      with-below i (size p) (simp (sp .0 .0, o .0, o .1, o .2, z)) (idle p (i + 1) (sp .2) (omega arith) x)
   calm (loop1 u) i sp h b a =
       let (o, x) = above-one i (size (prog u)) h (in-phase 1) (stateBytes u) b in
-      with-below i (size (prog u)) (simp (sp .0 .0, o .0, o .1, o .2)) (calm u (i + 1) (sp .1) (omega arith) x a)
+      with-below i (size (prog u)) (simp (sp .0 .0, o .0, o .1, o .2)) (calm u (i + 1) (sp .2) (omega arith) x a)
   calm (repeat0 n p) i sp h b a =
       let (o, x) = above-one i (size p) h (in-phase 0) (zeros p) b in
       let z = first-zero i p (sp .2) (omega arith) x in

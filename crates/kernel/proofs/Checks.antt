@@ -3,18 +3,18 @@ use Prim.Native.Nat.{ℕ, zero, suc, _+_, _*_, _≤_, _<_}
 use mathlib.Core.Bool.{Bool, true, false, cond, not, _&&_, and-false, false≢true}
 use mathlib.Core.Path.{_≡_, refl, ap, sym, _∙_}
 use mathlib.Core.Logic.{_≢_, _⊎_, inl, inr}
-use mathlib.Core.List.{List, [], _∷_, _++_}
+use mathlib.Core.List.{List, [], _∷_}
 use native.Mathlib.Nat.{le-of-lt}
 use native.Mathlib.Omega.{arith}
 use lib.Dec.{eqb, ltb, leb}
-use lib.ListN.{length, length-append}
+use lib.ListN.{length}
 use borrow.Author.Tests.{leb-true, leb-false, ltb-true, le-leb, lt-leb, lt-ltb, eqb-false, ne-eqb, not-true}
 use borrow.Author.Tests.{not-false}
 use Rattle.events.specs.Events.{Events, lowest}
 use Rattle.events.specs.Members.{places}
 use Rattle.events.proofs.Events.{before-lowest, at-lowest, lowest-is}
 use Rattle.junior.specs.Program.{Program, Nothing, Stop, Atom, Seq, Par, Loop, Repeat, Generate, Await, When, Until}
-use Rattle.junior.specs.Program.{Control, Local, size}
+use Rattle.junior.specs.Program.{Control, Local, size, kind}
 use Rattle.junior.specs.Figures.{stops, G, A, W}
 use Rattle.table.specs.declared.Checked.the-variants.{BadLength, BadCounts, BadDistances, BadConfiguration, BadNode}
 use Rattle.table.specs.declared.Checked.the-variants.{TooDeep, EndlessLoop, TooHeavy}
@@ -25,6 +25,7 @@ use Rattle.table.specs.Verdict.{lengthGood, countsGood, distancesGood, Node, pr
 use Rattle.table.specs.Verdict.{endless, light}
 use Rattle.table.specs.Verdict.{numberOf, indexOf}
 use Rattle.table.proofs.Laid.{both}
+use Rattle.table.proofs.Order.{length-preorder}
 use Rattle.kernel.specs.declared.Outcome.{Outcome}
 use Rattle.kernel.specs.declared.Outcome.the-variants.{Table, StateRoom, NotAtRest, UnlistedEvent, AtomRoom}
 use Rattle.kernel.specs.Resting.{rests, blamed}
@@ -170,39 +171,24 @@ module _ {So : Node → Type 0} {so : Node → Bool} (t : Tests So so) where
       go true e f = absurd (n (t .sound x e))
       go false e (a, b) = (omega arith, ap suc b)
 
-preorder-long : (p : Program) (d : ℕ) → length (preorder d p) ≡ size p
-unfolding preorder size
-preorder-long Nothing d = refl
-preorder-long Stop d = refl
-preorder-long (Atom a) d = refl
-preorder-long (Seq p q) d = simp length-append (omega (arith, preorder-long p (suc d), preorder-long q (suc d)))
-preorder-long (Par p q) d = simp length-append (omega (arith, preorder-long p (suc d), preorder-long q (suc d)))
-preorder-long (Loop p) d = omega (arith, preorder-long p (suc d))
-preorder-long (Repeat n p) d = omega (arith, preorder-long p (suc d))
-preorder-long (Generate s) d = refl
-preorder-long (Await c) d = refl
-preorder-long (When c p q) d = simp length-append (omega (arith, preorder-long p (suc d), preorder-long q (suc d)))
-preorder-long (Until c p q) d = simp length-append (omega (arith, preorder-long p (suc d), preorder-long q (suc d)))
-preorder-long (Control s p) d = omega (arith, preorder-long p (suc d))
-preorder-long (Local s p) d = omega (arith, preorder-long p (suc d))
-
 -- of the nodes of a program
 module _ {So : Node → Type 0} {so : Node → Bool} (t : Tests So so) (p : Program) where
   lowest-in : not (ltb (firstSuch so (preorder 1 p)) (size p)) ≡ false → LowestNode So (preorder 1 p) (firstSuch so (preorder 1 p))
   lowest-in e =
-      lowest-node t (preorder 1 p) (rw (preorder-long p 1) (ltb-true (firstSuch so (preorder 1 p)) (size p) (not-false _ e)))
+      lowest-node t (preorder 1 p) (rw (length-preorder p 1) (ltb-true (firstSuch so (preorder 1 p)) (size p) (not-false _ e)))
 
   only-in : (i : ℕ) → LowestNode So (preorder 1 p) i
       → (not (ltb (firstSuch so (preorder 1 p)) (size p)) ≡ false) × (i ≡ firstSuch so (preorder 1 p))
   only-in i b =
       let (inside, same) = only-node t (preorder 1 p) i b in
-      let below : firstSuch so (preorder 1 p) < size p = omega (arith, preorder-long p 1) in
+      let below : firstSuch so (preorder 1 p) < size p = omega (arith, length-preorder p 1) in
       (rw (lt-ltb (firstSuch so (preorder 1 p)) (size p) below), same)
 
 deep-test : Tests (λ x. 64 < x .depth) deep
 deep-test = record { sound = λ x e. ltb-true 64 (x .depth) e; whole = λ x h. lt-ltb 64 (x .depth) h }
 
 endless-so : (p : Program) → endlessLoop p ≡ true → (q : Program) × (p ≡ Loop q) × (stops q ≡ false)
+unfolding kind
 endless-so Nothing e = absurd (false≢true e)
 endless-so Stop e = absurd (false≢true e)
 endless-so (Atom a) e = absurd (false≢true e)
@@ -218,6 +204,7 @@ endless-so (Control s p) e = absurd (false≢true e)
 endless-so (Local s p) e = absurd (false≢true e)
 
 endless-test : Tests Endless endless
+unfolding kind
 endless-test =
     record {
       sound = λ x e. let (q, loop, through) = endless-so (x .part) e in record { body = q; loop = loop; runs-through = through };

@@ -141,9 +141,9 @@ module _ (t s : List ℕ) (small : (i : ℕ) → byte s i < 256) (long : 4 * nod
   find : (p : Program) (i : ℕ) → Spells t i p → i + size p ≤ nodes t → Stands s i p
   unfolding Spells size kind prog below AtRest phaseRests countRests flagsRest
   find Nothing i sp h =
-      split Nothing i (sp .0) (sp .1) h (λ c. stand nothing refl (alone i h (c .flags) (c .counts) (c .phases)) tt)
+      split Nothing i (sp .0 .0) (sp .0 .1) h (λ c. stand nothing refl (alone i h (c .flags) (c .counts) (c .phases)) tt)
   find Stop i sp h =
-      split Stop i (sp .0) (sp .1) h (λ c. stand stop refl (alone i h (c .flags) (c .counts) (c .phases)) tt)
+      split Stop i (sp .0 .0) (sp .0 .1) h (λ c. stand stop refl (alone i h (c .flags) (c .counts) (c .phases)) tt)
   find (Atom a) i sp h =
       split (Atom a) i (sp .0 .0) (sp .0 .1) h (λ c. stand (atom a) refl (alone i h (c .flags) (c .counts) (c .phases)) tt)
   find (Generate e) i sp h =
@@ -151,11 +151,11 @@ module _ (t s : List ℕ) (small : (i : ℕ) → byte s i < 256) (long : 4 * nod
   find (Await b) i sp h =
       split (Await b) i (sp .0 .0) (sp .0 .1) h (λ c. stand (await b) refl (alone i h (c .flags) (c .counts) (c .phases)) tt)
   find (Seq p q) i sp h = split (Seq p q) i (sp .0 .0) (sp .0 .1) h (λ c.
-      let x = find p (i + 1) (sp .1) (omega arith) in
-      let y = find q (i + 1 + size p) (second t i p q (sp .1) (sp .2)) (omega arith) in
+      let x = find p (i + 1) (sp .2) (omega arith) in
+      let y = find q (i + 1 + size p) (second t i p q (sp .2) (sp .3)) (omega arith) in
       let own = plain i (c .flags) (c .counts) in
-      let none₁ = first-none i p (sp .1) (omega arith) in
-      let none₂ = second-none i p q (sp .1) (sp .2) (omega arith) in
+      let none₁ = first-none i p (sp .2) (omega arith) in
+      let none₂ = second-none i p q (sp .2) (sp .3) (omega arith) in
       let write = two i (size p) (size q) h in
       either-true _ _ (c .phases)
       (λ e.
@@ -167,8 +167,8 @@ module _ (t s : List ℕ) (small : (i : ℕ) → byte s i < 256) (long : 4 * nod
       stand (seq2 p (y .term)) (ap (Seq p) (y .of-program)) (write (in-phase 2) (own 2 ph) _ _ (none₁ z) (y .bytes))
       (y .at-rest)))
   find (Par p q) i sp h = split (Par p q) i (sp .0 .0) (sp .0 .1) h (λ c.
-      let x = find p (i + 1) (sp .1) (omega arith) in
-      let y = find q (i + 1 + size p) (second t i p q (sp .1) (sp .2)) (omega arith) in
+      let x = find p (i + 1) (sp .2) (omega arith) in
+      let y = find q (i + 1 + size p) (second t i p q (sp .2) (sp .3)) (omega arith) in
       let own : (n : ℕ) → eqb (flagsAt s i) n ≡ true → Owns s i (flagged n) =
       λ n e. (eqb-true _ 0 (c .phases), eqb-true _ n e, eqb-true _ 0 (c .counts)) in
       let write = two i (size p) (size q) h in
@@ -184,14 +184,14 @@ module _ (t s : List ℕ) (small : (i : ℕ) → byte s i < 256) (long : 4 * nod
       let (f, d) = both e in
       stand (par SUSP TERM (x .term) (y .term)) (ap₂ Par (x .of-program) (y .of-program))
       (write (flagged 8) (own 8 f) _ _ (x .bytes) (y .bytes))
-      (tt, tt, phase-3 (i + 1 + size p) q y (rw (second-is t i p (sp .1)) at d), x .at-rest, y .at-rest))))
+      (tt, tt, phase-3 (i + 1 + size p) q y (rw (second-is t i p (sp .2)) at d), x .at-rest, y .at-rest))))
   find (Loop p) i sp h = split (Loop p) i (sp .0 .0) (sp .0 .1) h (λ c.
-      let x = find p (i + 1) (sp .1) (omega arith) in
+      let x = find p (i + 1) (sp .2) (omega arith) in
       let own = plain i (c .flags) (c .counts) in
       either-true _ _ (c .phases)
       (λ e.
       let (ph, z) = both e in
-      stand (loop0 p) refl (one i (size p) h (in-phase 0) (own 0 ph) _ (first-none i p (sp .1) (omega arith) z)) tt)
+      stand (loop0 p) refl (one i (size p) h (in-phase 0) (own 0 ph) _ (first-none i p (sp .2) (omega arith) z)) tt)
       (λ ph. stand (loop1 (x .term)) (ap Loop (x .of-program)) (one i (size p) h (in-phase 1) (own 1 ph) _ (x .bytes))
       (x .at-rest)))
   find (Repeat n p) i sp h = split (Repeat n p) i (sp .0 .0) (sp .0 .1) h (λ c.

@@ -8,12 +8,11 @@ use lib.Dec.{eqb, leb}
 use Rattle.letters.specs.Text.{bytes}
 use Rattle.letters.proofs.Decimal.{decimal-few}
 use Rattle.junior.specs.Program.{Program, size, kind}
-use Rattle.table.specs.Records.{events, configurations, argumentAt, secondAt}
-use Rattle.table.specs.Good.{argumentLimit}
-use Rattle.table.specs.Inside.{Loaded, Placed}
+use Rattle.table.specs.Records.{argumentAt, secondAt}
+use Rattle.table.specs.Inside.{Placed}
 use Rattle.table.proofs.Tree.{written}
 use Rattle.table.proofs.TestParts.{ends-inside}
-use Rattle.table.proofs.Loaded.{fine-at}
+use Rattle.table.proofs.Loaded.{limit-few, fine-at}
 use Rattle.form.specs.Spelling.{spell}
 use Rattle.printer.specs.Printing.{argument, link, head, rest, Fits}
 use Rattle.printer.proofs.SpelledBy.{spelled-by, Parts, no-part, one-part, two-parts, parts-of}
@@ -28,16 +27,6 @@ link-few k = go (eqb k 6 || leb 9 k)
     go : (b : Bool) → length (cond b (bytes ", ") []) ≤ 2
     go true = omega arith
     go false = omega arith
-
-limit-few : {t : List ℕ} → Loaded t → (k : ℕ) → argumentLimit t k ≤ 65536
-unfolding argumentLimit
-limit-few {t} l k = go (eqb k 2 || eqb k 6) ((eqb k 7 || eqb k 11) || eqb k 12) ((eqb k 8 || eqb k 9) || eqb k 10)
-  where
-    go : (a b c : Bool) → cond a 65536 (cond b (events t) (cond c (configurations t) 1)) ≤ 65536
-    go true b c = omega arith
-    go false true c = omega (arith, l .framed .v-most)
-    go false false true = omega (arith, l .framed .m-most)
-    go false false false = omega arith
 
 argument-few : {t : List ℕ} {i : ℕ} {p : Program} → Placed t i p → length (argument p) ≤ 614400
 argument-few {t} {i} {p} h = go (argued t i p (h .spelled))

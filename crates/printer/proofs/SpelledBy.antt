@@ -44,9 +44,9 @@ unfolding Spells kind size children rest
 parts-of t i Nothing h = no-part refl refl
 parts-of t i Stop h = no-part refl refl
 parts-of t i (Atom a) h = no-part refl refl
-parts-of t i (Seq p q) h = two-parts p q (h .1) (h .2) refl refl
-parts-of t i (Par p q) h = two-parts p q (h .1) (h .2) refl refl
-parts-of t i (Loop p) h = one-part p (h .1) refl refl
+parts-of t i (Seq p q) h = two-parts p q (h .2) (h .3) refl refl
+parts-of t i (Par p q) h = two-parts p q (h .2) (h .3) refl refl
+parts-of t i (Loop p) h = one-part p (h .2) refl refl
 parts-of t i (Repeat n p) h = one-part p (h .2) refl refl
 parts-of t i (Generate s) h = no-part refl refl
 parts-of t i (Await c) h = no-part refl refl

@@ -124,17 +124,17 @@ module _ {table : List ℕ} {i : ℕ} {p q : Program} (h : Placed table i (Par p
   module _ {n : ℕ} (m : n ≡ sizeAt table (i + 1)) where
     first-size : n ≡ size p
     unfolding Spells
-    first-size = m ∙ written table (i + 1) p (h .spelled .1)
+    first-size = m ∙ written table (i + 1) p (h .spelled .2)
 
     first-placed : Placed table (i + 1) p
     unfolding Spells size
     first-placed =
-        record { loaded = h .loaded; spelled = h .spelled .1; inside = omega (arith, h .inside) }
+        record { loaded = h .loaded; spelled = h .spelled .2; inside = omega (arith, h .inside) }
 
     second-placed : Placed table (i + 1 + n) q
     unfolding Spells size
     second-placed =
-        record { loaded = h .loaded; spelled = rw m (h .spelled .2); inside = omega (arith, h .inside, first-size) }
+        record { loaded = h .loaded; spelled = rw m (h .spelled .3); inside = omega (arith, h .inside, first-size) }
 
 module _ {table : List ℕ} {i : ℕ} {state words row tally : List ℕ} where
   -- the first child's size can be read

@@ -43,7 +43,7 @@ pub data Second : Term → Type 0 where
 second-of : {t : Term} {k : ℕ} → Shape t k 2 → Second t
 unfolding Going prog Spells
 second-of (is-seq2 p x) =
-    in-second p (seq-second p) x (λ table i h. written table (i + 1) p (h .spelled .1)) (λ X g. g) (λ P E r d. r4-on d)
+    in-second p (seq-second p) x (λ table i h. written table (i + 1) p (h .spelled .2)) (λ X g. g) (λ P E r d. r4-on d)
 second-of (is-when2 c p x) =
     in-second p (when-second c p) x (λ table i h. written table (i + 1) p (h .spelled .2)) (λ X g. g) (λ P E r d. r19-on d)
 second-of (is-until2 c p x) =

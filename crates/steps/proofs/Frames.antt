@@ -36,7 +36,7 @@ seq-first q = record {
   head-is = λ x. refl;
   below-is = λ x. refl;
   size-is = λ x. omega arith;
-  spells = λ table i x h. next-record table i (prog x) (h .1);
+  spells = λ table i x h. next-record table i (prog x) (h .2);
   loops = λ x h. h .0;
   pot-in = λ x. omega arith;
 }
@@ -47,7 +47,7 @@ seq-second p = record {
   head-is = λ x. refl;
   below-is = λ x. simp append-nil;
   size-is = λ x. omega arith;
-  spells = λ table i x h. second table i p (prog x) (h .1) (h .2);
+  spells = λ table i x h. second table i p (prog x) (h .2) (h .3);
   loops = λ x h. h .1;
   pot-in = λ x. omega arith;
 }
@@ -58,7 +58,7 @@ loop-body = record {
   head-is = λ x. refl;
   below-is = λ x. simp append-nil;
   size-is = λ x. omega arith;
-  spells = λ table i x h. next-record table i (prog x) (h .1);
+  spells = λ table i x h. next-record table i (prog x) (h .2);
   loops = λ x h. h .1;
   pot-in = λ x. omega arith;
 }

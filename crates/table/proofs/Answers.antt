@@ -96,7 +96,7 @@ module _ {t : List ℕ} {n m v : ℕ} (P : Whole t n m v) (g : AllGood t) where
   unfolding programVerdict
   deep-answer h r e =
       let n : r ≡ firstSuch deep (preorder 1 (treeAt t 0)) = omega arith in
-      rw (good-answer, lt-ltb _ _ (some-too-deep the-tree h), n)
+      rw (good-answer, lt-ltb _ _ (some-too-deep (treeAt t 0) h), n)
 
   module _ (h : height (treeAt t 0) ≤ 64) (r : ℕ) (low : Lowest (λ k. endlessLoop (treeAt t k)) (nodes t) r) where
     first-endless : firstSuch endless (preorder 1 (treeAt t 0)) ≡ r
@@ -118,7 +118,7 @@ module _ {t : List ℕ} {n m v : ℕ} (P : Whole t n m v) (g : AllGood t) where
 
     none-deep : ltb (firstSuch deep (preorder 1 (treeAt t 0))) (size (treeAt t 0)) ≡ false
     none-deep =
-        let e = none-too-deep the-tree h in
+        let e = none-too-deep (treeAt t 0) h in
         le-ltb (firstSuch deep (preorder 1 (treeAt t 0))) (size (treeAt t 0)) (omega arith)
 
     pub endless-answer : r < nodes t → EndlessLoop r ≡ nodesVerdict t

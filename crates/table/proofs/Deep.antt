@@ -11,7 +11,7 @@ use Rattle.table.specs.Records.{nodes, kindAt, sizeAt, secondAt}
 use Rattle.table.specs.Good.{children, goodNode}
 use Rattle.table.specs.Verdict.{preorder, firstSuch, deep}
 use Rattle.table.specs.Inside.Weighing.{treeAt, AllGood}
-use Rattle.table.proofs.Here.{Here, no-part, one-part, two-parts, here, sized-here, tree-here}
+use Rattle.table.proofs.Here.{Here, no-part, one-part, two-parts, here, sized-here}
 use Rattle.table.proofs.Order.{first-in, first-out, length-preorder}
 use Rattle.table.proofs.Parts.{of-none, of-one, of-two}
 
@@ -77,7 +77,7 @@ module _ {t : List ℕ} (g : AllGood t) {i : ℕ} (l : i < nodes t) where
       module _ (n : c ≡ 0 → ⊥) (o : c ≡ 1 → ⊥) (r : ℕ) (q : r ≡ found t (d + 1) (i + 1)) where
         first-long : i + 1 < nodes t → length (preorder (suc d) (treeAt t (i + 1))) ≡ sizeAt t (i + 1)
         first-long m =
-            length-preorder (tree-here t (g .configurations-good) 0 good-from (i + 1) (omega arith) m) (suc d)
+            length-preorder (treeAt t (i + 1)) (suc d)
             ∙ sym (sized-here t (g .configurations-good) 0 good-from (i + 1) (omega arith) m)
 
         pub found-first : r < secondAt t i → r ≡ found t d i

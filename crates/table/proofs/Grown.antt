@@ -2,20 +2,22 @@
 use Prim.Native.Nat.{ℕ, zero, suc, _+_, _≤_, _<_}
 use mathlib.Core.Bool.{true, _||_}
 use lib.Dec.{eqb, ltb}
-use mathlib.Core.Path.{_≡_, refl}
+use mathlib.Core.Path.{_≡_, refl, sym, _∙_}
 use mathlib.Core.List.{List}
 use native.Mathlib.Omega.{arith}
 use borrow.Author.Tests.{leb-true, ltb-true}
-use Rattle.junior.specs.Program.{Program}
-use Rattle.junior.specs.Program.{size, kind}
+use Rattle.junior.specs.Program.{Program, kind, argument, Leaf, nothing, stop, atom, generate, await, One, loop, repeat}
+use Rattle.junior.specs.Program.{control, local, Two, seq, par, when, until, size}
+use Rattle.junior.proofs.Parts.{parts-none, parts-one, parts-two}
 use Rattle.table.specs.Records.{nodes, configurations, kindAt, zeroAt, argumentAt, sizeAt, secondAt}
 use Rattle.table.specs.Records.{configurationAt}
 use Rattle.table.specs.Good.{children, argumentLimit, goodNode}
-use Rattle.table.specs.Spells.{Configured, configurationOf, Spells, form, programOf, tested, treeOf}
+use Rattle.table.specs.Spells.{Configured, configurationOf, Argues, Spells, form, programOf, tested, treeOf}
 use Rattle.table.specs.Inside.{ConfigurationsGood, NodesGood}
 use Rattle.table.specs.Inside.Weighing.{treeAt}
 use Rattle.table.proofs.Spelled.{configured}
 use Rattle.table.proofs.Laid.{both, Laid, none, one, two, laid}
+use Rattle.table.proofs.Parts.{of-none, of-one, of-two}
 
 -- the kinds that there are
 pub data Kind : ℕ → Type 0 where
@@ -78,86 +80,63 @@ pub record Grown (t : List ℕ) (i : ℕ) (p : Program) : Type 0 where
   pub sized : sizeAt t i ≡ size p
   pub ends : i + size p ≤ nodes t
 
--- the parts of node i, if p or p and q stand there
-record Body (t : List ℕ) (i : ℕ) (p : Program) : Type 0 where
-  first : Spells t (i + 1) p
-  sized : sizeAt t i ≡ 1 + size p
-  ends : i + (1 + size p) ≤ nodes t
+-- the form F of a kind with so many children, over p, or over p and q
+data Shape (p q F : Program) : ℕ → Type 0 where
+  leaf-form : Leaf F → Shape p q F 0
+  one-form : One F p → Shape p q F 1
+  two-form : Two F p q → Shape p q F 2
 
-record Pair (t : List ℕ) (i : ℕ) (p q : Program) : Type 0 where
-  first : Spells t (i + 1) p
-  second : Spells t (secondAt t i) q
-  sized : sizeAt t i ≡ 1 + size p + size q
-  ends : i + (1 + size p + size q) ≤ nodes t
-
-over : {t : List ℕ} {i : ℕ} {p : Program} → Grown t (i + 1) p → sizeAt t i ≡ 1 + sizeAt t (i + 1) → Body t i p
-over g s =
-    let z = g .sized in
-    let e = g .ends in
-    record { first = g .spells; sized = omega arith; ends = omega arith }
-
-over-both : {t : List ℕ} {i : ℕ} {p q : Program} → Grown t (i + 1) p → Grown t (secondAt t i) q
-    → sizeAt t i ≡ 1 + sizeAt t (i + 1) + sizeAt t (secondAt t i) → Pair t i p q
-over-both g h s =
-    let z = g .sized in
-    let y = h .sized in
-    let e = h .ends in
-    record { first = g .spells; second = h .spells; sized = omega arith; ends = omega arith }
+record Formed (t : List ℕ) (i : ℕ) (p q : Program) (k : ℕ) (F : Program) : Type 0 where
+  of-kind : kind F ≡ k
+  shape : Shape p q F (children k)
+  argued : argumentAt t i < argumentLimit t k → Argues t i (argument F)
 
 module _ (t : List ℕ)
     (spelled : (j : ℕ) → j < configurations t
     → Configured t (configurationAt t j) (configurationOf t 16 (configurationAt t j)))
   where
+    formed : (i : ℕ) (p q : Program) (k : ℕ) → Kind k
+        → Formed t i p q k (form k (argumentAt t i) (configurationOf t 16 (tested t i)) p q)
+    unfolding form kind children argumentLimit
+    formed i p q k k0 = record { of-kind = refl; shape = leaf-form nothing; argued = λ h. tt }
+    formed i p q k k1 = record { of-kind = refl; shape = leaf-form stop; argued = λ h. tt }
+    formed i p q k k2 = record { of-kind = refl; shape = leaf-form (atom _); argued = λ h. refl }
+    formed i p q k k3 = record { of-kind = refl; shape = two-form (seq p q); argued = λ h. tt }
+    formed i p q k k4 = record { of-kind = refl; shape = two-form (par p q); argued = λ h. tt }
+    formed i p q k k5 = record { of-kind = refl; shape = one-form (loop p); argued = λ h. tt }
+    formed i p q k k6 = record { of-kind = refl; shape = one-form (repeat _ p); argued = λ h. refl }
+    formed i p q k k7 = record { of-kind = refl; shape = leaf-form (generate _); argued = λ h. refl }
+    formed i p q k k8 = record { of-kind = refl; shape = leaf-form (await _); argued = spelled _ }
+    formed i p q k k9 = record { of-kind = refl; shape = two-form (when _ p q); argued = spelled _ }
+    formed i p q k k10 = record { of-kind = refl; shape = two-form (until _ p q); argued = spelled _ }
+    formed i p q k k11 = record { of-kind = refl; shape = one-form (control _ p); argued = λ h. refl }
+    formed i p q k k12 = record { of-kind = refl; shape = one-form (local _ p); argued = λ h. refl }
+
     grown-at : (f i : ℕ) → ((j : ℕ) → i < j → j < nodes t → Grown t j (programOf t f j)) → i < nodes t → (k : ℕ)
         → kindAt t i ≡ k → Fine t i k → Grown t i (programOf t (suc f) i)
-    unfolding programOf form Spells size kind children argumentLimit
-    grown-at f i below l k e g = rw e (go k (g .known) e (g .argument-below) (g .laid-out))
+    unfolding programOf Spells
+    grown-at f i below l k e g =
+        let o = formed i (programOf t f (i + 1)) (programOf t f (secondAt t i)) k (g .known) in
+        rw e (go (e ∙ sym (o .of-kind)) (o .argued (g .argument-below)) (o .shape) (g .laid-out))
       where
-        P : Program
-        P = programOf t f (i + 1)
-
-        Q : Program
-        Q = programOf t f (secondAt t i)
-
-        body : i + 1 < nodes t → sizeAt t i ≡ 1 + sizeAt t (i + 1) → Body t i P
-        body h s = over (below (i + 1) (omega arith) h) s
-
-        pair : i + 1 < nodes t → secondAt t i < nodes t → sizeAt t i ≡ 1 + sizeAt t (i + 1) + sizeAt t (secondAt t i)
-            → Pair t i P Q
-        pair h h′ s = over-both (below (i + 1) (omega arith) h) (below (secondAt t i) (omega arith) h′) s
-
-        go : (k : ℕ) → Kind k → kindAt t i ≡ k → argumentAt t i < argumentLimit t k
-            → Laid (sizeAt t) (nodes t) i (children k)
-            → Grown t i (form k (argumentAt t i) (configurationOf t 16 (tested t i)) P Q)
-        go k k0 e a (none s) = record { spells = (e, s); sized = s; ends = omega arith }
-        go k k1 e a (none s) = record { spells = (e, s); sized = s; ends = omega arith }
-        go k k2 e a (none s) = record { spells = ((e, s), refl); sized = s; ends = omega arith }
-        go k k3 e a (two h h′ s) =
-            let o = pair h h′ s in
-            record { spells = ((e, o .sized), o .first, o .second); sized = o .sized; ends = o .ends }
-        go k k4 e a (two h h′ s) =
-            let o = pair h h′ s in
-            record { spells = ((e, o .sized), o .first, o .second); sized = o .sized; ends = o .ends }
-        go k k5 e a (one h s) =
-            let o = body h s in
-            record { spells = ((e, o .sized), o .first); sized = o .sized; ends = o .ends }
-        go k k6 e a (one h s) =
-            let o = body h s in
-            record { spells = ((e, o .sized), refl, o .first); sized = o .sized; ends = o .ends }
-        go k k7 e a (none s) = record { spells = ((e, s), refl); sized = s; ends = omega arith }
-        go k k8 e a (none s) = record { spells = ((e, s), spelled _ a); sized = s; ends = omega arith }
-        go k k9 e a (two h h′ s) =
-            let o = pair h h′ s in
-            record { spells = ((e, o .sized), spelled _ a, o .first, o .second); sized = o .sized; ends = o .ends }
-        go k k10 e a (two h h′ s) =
-            let o = pair h h′ s in
-            record { spells = ((e, o .sized), spelled _ a, o .first, o .second); sized = o .sized; ends = o .ends }
-        go k k11 e a (one h s) =
-            let o = body h s in
-            record { spells = ((e, o .sized), refl, o .first); sized = o .sized; ends = o .ends }
-        go k k12 e a (one h s) =
-            let o = body h s in
-            record { spells = ((e, o .sized), refl, o .first); sized = o .sized; ends = o .ends }
+        go : {c : ℕ} {F : Program} → kindAt t i ≡ kind F → Argues t i (argument F)
+            → Shape (programOf t f (i + 1)) (programOf t f (secondAt t i)) F c → Laid (sizeAt t) (nodes t) i c → Grown t i F
+        go {F = F} e a (leaf-form v) (none s) =
+            let z : sizeAt t i ≡ size F = s ∙ sym (of-none v .size-is) in
+            record { spells = rw (parts-none v) ((e, z), a); sized = z; ends = omega arith }
+        go {F = F} e a (one-form v) (one h s) =
+            let o = below (i + 1) (omega arith) h in
+            let z : sizeAt t i ≡ size F = omega (arith, of-one v .size-is, o .sized) in
+            record { spells = rw (parts-one v) ((e, z), a, o .spells); sized = z; ends = omega (arith, o .ends, o .sized) }
+        go {F = F} e a (two-form v) (two h h′ s) =
+            let o = below (i + 1) (omega arith) h in
+            let o′ = below (secondAt t i) (omega arith) h′ in
+            let z : sizeAt t i ≡ size F = omega (arith, of-two v .size-is, o .sized, o′ .sized) in
+            record {
+              spells = rw (parts-two v) ((e, z), a, o .spells, o′ .spells);
+              sized = z;
+              ends = omega (arith, o′ .ends, o′ .sized);
+            }
 
     grown : (b : ℕ) → ((i : ℕ) → b ≤ i → i < nodes t → goodNode t i ≡ true) → (f i : ℕ) → nodes t ≤ f + i → b ≤ i
         → i < nodes t → Grown t i (programOf t f i)

@@ -4,23 +4,22 @@ use mathlib.Core.Bool.{true}
 use mathlib.Core.Path.{_≡_, refl}
 use mathlib.Core.List.{List}
 use native.Mathlib.Omega.{arith}
-use Rattle.junior.specs.Program.{Program, size, kind}
-use Rattle.table.specs.Records.{nodes, kindAt, argumentAt, sizeAt, secondAt}
+use Rattle.junior.specs.Program.{Program, kind, argument, Leaf, One, Two, size}
+use Rattle.table.specs.Records.{nodes, kindAt, sizeAt, secondAt}
 use Rattle.table.specs.Good.{children, goodNode}
-use Rattle.table.specs.Spells.{Spells}
+use Rattle.table.specs.Spells.{Argues, Spells}
 use Rattle.table.specs.Inside.{ConfigurationsGood}
-use Rattle.table.specs.Inside.Weighing.{Leaf, One, Two, treeAt}
+use Rattle.table.specs.Inside.Weighing.{treeAt}
 use Rattle.table.proofs.Laid.{Laid, none, one, two}
 use Rattle.table.proofs.Grown.{fine, spells-from}
 use Rattle.table.proofs.OneTree.{one-tree}
-use Rattle.table.proofs.Tree.{Tree, tree, spelled, heads}
+use Rattle.table.proofs.Tree.{Tree, tree, spelled, kind-is, argued}
 use Rattle.table.proofs.Tree
 
 -- node i has that many children, and these are their programs
 pub data Here (t : List ℕ) (i : ℕ) : ℕ → Type 0 where
   no-part : sizeAt t i ≡ 1 → Leaf (treeAt t i) → Here t i 0
-  one-part : i + 1 < nodes t → sizeAt t i ≡ 1 + sizeAt t (i + 1) → One (argumentAt t i) (treeAt t i) (treeAt t (i + 1))
-      → Here t i 1
+  one-part : i + 1 < nodes t → sizeAt t i ≡ 1 + sizeAt t (i + 1) → One (treeAt t i) (treeAt t (i + 1)) → Here t i 1
   two-parts : i + 1 < nodes t → secondAt t i < nodes t → sizeAt t i ≡ 1 + sizeAt t (i + 1) + sizeAt t (secondAt t i)
       → Two (treeAt t i) (treeAt t (i + 1)) (treeAt t (secondAt t i)) → Here t i 2
 
@@ -36,17 +35,20 @@ module _ (t : List ℕ) (c : ConfigurationsGood t) (b : ℕ)
   tree-here i g l = tree t i (treeAt t i) (spells-from t c b good i g l .spells)
 
   pub kind-here : (i : ℕ) → b ≤ i → i < nodes t → kindAt t i ≡ kind (treeAt t i)
-  kind-here i g l = heads (tree-here i g l) .0
+  kind-here i g l = kind-is t i (treeAt t i) (spells-from t c b good i g l .spells)
+
+  pub argued-here : (i : ℕ) → b ≤ i → i < nodes t → Argues t i (argument (treeAt t i))
+  argued-here i g l = argued t i (treeAt t i) (spells-from t c b good i g l .spells)
 
   pub here : (i : ℕ) → b ≤ i → i < nodes t → Here t i (children (kindAt t i))
   here i g l =
       go (tree-here i g l) (fine t i (kindAt t i) refl (good i g l) .laid-out)
     where
       go : {k : ℕ} → Tree t i k (treeAt t i) → Laid (sizeAt t) (nodes t) i k → Here t i k
-      go (Tree.leaf h z v) (none s) = no-part s v
-      go (Tree.one {q = q} h z v x) (one m s) =
+      go (Tree.leaf h v) (none s) = no-part s v
+      go (Tree.one {q = q} h v x) (one m s) =
           one-part m s (rw (stands (i + 1) q (omega arith) m (spelled x)) v)
-      go (Tree.two {q = q} {r = r} h z v x y) (two m m′ s) =
+      go (Tree.two {q = q} {r = r} h v x y) (two m m′ s) =
           two-parts m m′ s
           (rw
           (stands (i + 1) q (omega arith) m (spelled x), stands (secondAt t i) r (omega arith) m′ (spelled y))

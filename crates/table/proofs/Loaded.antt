@@ -1,16 +1,18 @@
 -- What is known of a loaded table's nodes: a program stands at each, and that at node 0 is all of them.
-use Prim.Native.Nat.{ℕ, _+_, _*_, _<_}
+use Prim.Native.Nat.{ℕ, _+_, _*_, _≤_, _<_}
 use mathlib.Core.Path.{_≡_, refl, sym, _∙_}
 use mathlib.Core.List.{List}
 use native.Mathlib.Omega.{arith}
 use lib.ListN.{length}
 use borrow.Author.Tests.{eqb-true}
 use Rattle.junior.specs.Program.{Program, size, kind}
-use Rattle.table.specs.Records.{nodes, kindAt, sizeAt}
+use Rattle.table.specs.Records.{nodes, configurations, events, kindAt, sizeAt}
+use Rattle.table.specs.Good.{argumentLimits, argumentLimit}
 use Rattle.table.specs.Spells.{treeOf}
 use Rattle.table.specs.Inside.{Loaded, Placed}
 use Rattle.table.specs.Inside.Weighing.{treeAt}
 use Rattle.table.proofs.Grown.{Fine, fine, spells-from}
+use Rattle.table.proofs.Judged.{most-at}
 use Rattle.table.proofs.Tree.{kind-is, written, size-pos}
 
 module _ {t : List ℕ} (l : Loaded t) where
@@ -20,6 +22,14 @@ module _ {t : List ℕ} (l : Loaded t) where
 
   pub root-size : sizeAt t 0 ≡ nodes t
   root-size = eqb-true _ _ (fine-node 0 (l .framed .n-least) .root)
+
+  -- whatever its kind, its argument is a number of 16 bits
+  pub limit-few : (k : ℕ) → argumentLimit t k ≤ 65536
+  unfolding argumentLimit
+  limit-few k =
+      let v = l .framed .v-most in
+      let m = l .framed .m-most in
+      most-at 65536 (argumentLimits (events t) (configurations t)) 0 (omega arith) (omega arith) k
 
   pub node-placed : (i : ℕ) → i < nodes t → Placed t i (treeAt t i)
   node-placed i h =

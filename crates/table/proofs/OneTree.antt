@@ -1,15 +1,17 @@
 -- The records spell one tree only: `one-tree`.
 use Prim.Native.Nat.{ℕ, zero, suc, _+_}
-use mathlib.Core.Path.{_≡_, ap, ap₂, sym, _∙_}
+use mathlib.Core.Path.{_≡_, refl, ap, sym, _∙_}
 use mathlib.Core.List.{List}
 use native.Mathlib.Omega.{arith}
 use Rattle.junior.specs.Configuration.{Config}
-use Rattle.junior.specs.Program.{Program, Nothing, Stop, Atom, Seq, Par, Loop, Repeat, Generate, Await, When, Until}
-use Rattle.junior.specs.Program.{Control, Local, size, kind}
+use Rattle.junior.specs.Program.{Program, Nothing, Atom, Repeat, Generate, Await, When, Until, Control, Local}
+use Rattle.junior.specs.Program.{Argument, no-argument, number, event, configuration, argument, kind}
+use Rattle.junior.specs.Program.{Leaf, nothing, stop, atom, generate, await, One, loop, repeat, control, local}
+use Rattle.junior.specs.Program.{Two, seq, par, when, until, Parts, no-part, one-part, two-parts, parts, sizeOf, size}
 use Rattle.table.proofs.ByParts.{written}
 use Rattle.table.proofs.Spelled.{configuration-is}
 use Rattle.table.specs.Records.{kindAt, argumentAt, secondAt, partSize}
-use Rattle.table.specs.Spells.{weight, Configured, configurationOf, Spells, form, tested}
+use Rattle.table.specs.Spells.{weight, Configured, configurationOf, Argues, SpellsParts, Spells, form, tested}
 
 -- the program at node i, found by the sizes written there
 reading : List ℕ → ℕ → ℕ → Program
@@ -35,47 +37,65 @@ two-levels x y f = omega arith
 exchange : (x y f : ℕ) → x + (y + f) ≡ y + (x + f)
 exchange x y f = omega arith
 
+-- the argument a or c is this one
+abbrev Fits : ℕ → Config → Argument → Type 0
+Fits a c no-argument = Unit {0}
+Fits a c (number n) = a ≡ n
+Fits a c (event s) = a ≡ s
+Fits a c (configuration d) = c ≡ d
+
+-- each form is the form of its kind with its argument and its parts
+module _ (a : ℕ) (c : Config) where
+  form-none : {p : Program} → Leaf p → (q r : Program) → Fits a c (argument p) → form (kind p) a c q r ≡ p
+  unfolding form kind
+  form-none nothing q r e = refl
+  form-none stop q r e = refl
+  form-none (atom n) q r e = ap Atom e
+  form-none (generate s) q r e = ap Generate e
+  form-none (await d) q r e = ap Await e
+
+  form-one : {p q : Program} → One p q → (r : Program) → Fits a c (argument p) → form (kind p) a c q r ≡ p
+  unfolding form kind
+  form-one (loop q) r e = refl
+  form-one (repeat n q) r e = ap (λ n. Repeat n q) e
+  form-one (control s q) r e = ap (λ s. Control s q) e
+  form-one (local s q) r e = ap (λ s. Local s q) e
+
+  form-two : {p q r : Program} → Two p q r → Fits a c (argument p) → form (kind p) a c q r ≡ p
+  unfolding form kind
+  form-two (seq q r) e = refl
+  form-two (par q r) e = refl
+  form-two (when d q r) e = ap (λ d. When d q r) e
+  form-two (until d q r) e = ap (λ d. Until d q r) e
+
 module _ (t : List ℕ) where
   tested-is : (c : ℕ) (d : Config) → Configured t c d → configurationOf t (partSize t c) c ≡ d
   tested-is c d h =
       let n : partSize t c ≡ weight d + 0 = let w = written t c d h in omega arith in
       rw n (configuration-is t c 0 d h)
 
-  reading-is : (f i : ℕ) (p : Program) → Spells t i p → reading t (size p + f) i ≡ p
-  unfolding reading form Spells kind size
-  reading-is f i Nothing (k, s) = rw (leaf-level f, k)
-  reading-is f i Stop (k, s) = rw (leaf-level f, k)
-  reading-is f i (Atom a) ((k, s), e) = rw (leaf-level f, k) (ap Atom e)
-  reading-is f i (Seq p q) ((k, s), h, g) =
+  fits : (i : ℕ) (a : Argument) → Argues t i a
+      → Fits (argumentAt t i) (configurationOf t (partSize t (tested t i)) (tested t i)) a
+  fits i no-argument h = tt
+  fits i (number n) h = h
+  fits i (event s) h = h
+  fits i (configuration c) h = tested-is (tested t i) c h
+
+  reading-is : (f i : ℕ) {p : Program} (v : Parts p) → SpellsParts t i v → reading t (sizeOf v + f) i ≡ p
+  unfolding reading
+  reading-is f i {p} (no-part g) ((k, s), a) = rw (leaf-level f, k) (form-none _ _ g _ _ (fits i (argument p) a))
+  reading-is f i {p} (one-part g q) ((k, s), a, h) =
+      rw (one-level (sizeOf q) f, k, reading-is f _ q h) (form-one _ _ g _ (fits i (argument p) a))
+  reading-is f i {p} (two-parts g q r) ((k, s), a, h, u) =
       rw
-      (two-levels (size p) (size q) f, k)
-      (ap₂ Seq (reading-is (size q + f) _ p h) (rw (exchange (size p) (size q) f) (reading-is (size p + f) _ q g)))
-  reading-is f i (Par p q) ((k, s), h, g) =
-      rw
-      (two-levels (size p) (size q) f, k)
-      (ap₂ Par (reading-is (size q + f) _ p h) (rw (exchange (size p) (size q) f) (reading-is (size p + f) _ q g)))
-  reading-is f i (Loop p) ((k, s), h) = rw (one-level (size p) f, k) (ap Loop (reading-is f _ p h))
-  reading-is f i (Repeat a p) ((k, s), e, h) = rw (one-level (size p) f, k) (ap₂ Repeat e (reading-is f _ p h))
-  reading-is f i (Generate a) ((k, s), e) = rw (leaf-level f, k) (ap Generate e)
-  reading-is f i (Await c) ((k, s), d) = rw (leaf-level f, k) (ap Await (tested-is _ c d))
-  reading-is f i (When c p q) ((k, s), d, h, g) =
-      rw
-      (two-levels (size p) (size q) f, k, tested-is _ c d)
-      (ap₂
-      (When c)
-      (reading-is (size q + f) _ p h)
-      (rw (exchange (size p) (size q) f) (reading-is (size p + f) _ q g)))
-  reading-is f i (Until c p q) ((k, s), d, h, g) =
-      rw
-      (two-levels (size p) (size q) f, k, tested-is _ c d)
-      (ap₂
-      (Until c)
-      (reading-is (size q + f) _ p h)
-      (rw (exchange (size p) (size q) f) (reading-is (size p + f) _ q g)))
-  reading-is f i (Control a p) ((k, s), e, h) = rw (one-level (size p) f, k) (ap₂ Control e (reading-is f _ p h))
-  reading-is f i (Local a p) ((k, s), e, h) = rw (one-level (size p) f, k) (ap₂ Local e (reading-is f _ p h))
+      (two-levels (sizeOf q) (sizeOf r) f, k, reading-is (sizeOf r + f) _ q h, exchange (sizeOf q) (sizeOf r) f)
+      (rw (reading-is (sizeOf q + f) _ r u) (form-two _ _ g (fits i (argument p) a)))
+
+  whole-is : (f i : ℕ) (p : Program) → Spells t i p → reading t (size p + f) i ≡ p
+  unfolding Spells size
+  whole-is f i p h = reading-is f i (parts p) h
 
 pub one-tree : (t : List ℕ) (i : ℕ) (p q : Program) → Spells t i p → Spells t i q → p ≡ q
 one-tree t i p q h g =
     let n : size q + size p ≡ size p + size q = omega arith in
-    sym (reading-is t (size q) i p h) ∙ rw n at (reading-is t (size p) i q g)
+    sym (whole-is t (size q) i p h) ∙ rw n at (whole-is t (size p) i q g)

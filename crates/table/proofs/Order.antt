@@ -7,11 +7,11 @@ use native.Mathlib.Omega.{arith}
 use lib.ListN.{length, getD, length-append, List·getD-append}
 use lib.Seq.{getD-append-add}
 use borrow.Author.Tests.{le-ltb, ltb-false}
-use Rattle.junior.specs.Program.{Program, size}
+use Rattle.junior.specs.Program.{Program, Parts, no-part, one-part, two-parts, parts, sizeOf, size}
 use Rattle.table.specs.Records.{nodes, secondAt}
 use Rattle.table.specs.Spells.{Spells}
-use Rattle.table.specs.Verdict.{Node, preorder, firstSuch, deep}
-use Rattle.table.specs.Inside.Weighing.{height}
+use Rattle.table.specs.Verdict.{Node, partsInOrder, preorder, firstSuch, deep}
+use Rattle.table.specs.Inside.Weighing.{levels, height}
 use Rattle.events.proofs.Events.{lowest-is}
 use Rattle.table.proofs.Little.{below-or}
 use Rattle.table.proofs.Parts.{of-none, of-one, of-two}
@@ -82,15 +82,14 @@ unfolding deepest
 deepest-both [] m = omega arith
 deepest-both (x ∷ l) m = rw (deepest-both l m) (omega arith)
 
-deepest-is : {t : List ℕ} {i c : ℕ} {p : Program} → Tree t i c p → (d : ℕ) → suc (deepest (preorder d p)) ≡ d + height p
+deepest-is : {p : Program} (v : Parts p) (d : ℕ) → suc (deepest (partsInOrder d v)) ≡ d + levels v
 unfolding deepest
-deepest-is (leaf h z v) d = rw (of-none v .nodes-are d, of-none v .height-is) (omega arith)
-deepest-is (one h z v x) d =
-    rw (of-one v .nodes-are d, of-one v .height-is) (let e = deepest-is x (suc d) in omega arith)
-deepest-is (two {q = q} {r = r} h z v x y) d =
+deepest-is (no-part f) d = omega arith
+deepest-is (one-part f q) d = omega (arith, deepest-is q (suc d))
+deepest-is (two-parts f q r) d =
     rw
-    (of-two v .nodes-are d, of-two v .height-is, deepest-both (preorder (suc d) q) (preorder (suc d) r))
-    (let e = deepest-is x (suc d) in let f = deepest-is y (suc d) in omega arith)
+    (deepest-both (partsInOrder (suc d) q) (partsInOrder (suc d) r))
+    (omega (arith, deepest-is q (suc d), deepest-is r (suc d)))
 
 none-deep : (l : List Node) → deepest l ≤ 64 → firstSuch deep l ≡ length l
 unfolding deepest firstSuch
@@ -107,25 +106,26 @@ some-deep (x ∷ l) h = go (deep x) refl (some-deep l)
     go true e f = omega arith
     go false e f = let s = ltb-false 64 (x .depth) e in let z = f (omega arith) in omega arith
 
-pub length-preorder : {t : List ℕ} {i c : ℕ} {p : Program} → Tree t i c p → (d : ℕ) → length (preorder d p) ≡ size p
-length-preorder (leaf h z v) d = rw (of-none v .nodes-are d, of-none v .size-is)
-length-preorder (one h z v x) d =
-    rw (of-one v .nodes-are d, of-one v .size-is) (let e = length-preorder x (suc d) in omega arith)
-length-preorder (two {q = q} {r = r} h z v x y) d =
-    rw
-    (of-two v .nodes-are d, of-two v .size-is, length-append (preorder (suc d) q) (preorder (suc d) r))
-    (let e = length-preorder x (suc d) in let f = length-preorder y (suc d) in omega arith)
+long : {p : Program} (v : Parts p) (d : ℕ) → length (partsInOrder d v) ≡ sizeOf v
+long (no-part f) d = refl
+long (one-part f q) d = omega (arith, long q (suc d))
+long (two-parts f q r) d = simp length-append (omega (arith, long q (suc d), long r (suc d)))
 
--- a tree of at most 64 levels has no node that is too deep, and a higher one has
-pub none-too-deep : {t : List ℕ} {i c : ℕ} {p : Program} → Tree t i c p → height p ≤ 64
-    → firstSuch deep (preorder 1 p) ≡ size p
-none-too-deep {p = p} x h =
-    none-deep (preorder 1 p) (let e = deepest-is x 1 in omega arith) ∙ length-preorder x 1
+module _ (p : Program) where
+  pub length-preorder : (d : ℕ) → length (preorder d p) ≡ size p
+  unfolding preorder size
+  length-preorder d = long (parts p) d
 
-pub some-too-deep : {t : List ℕ} {i c : ℕ} {p : Program} → Tree t i c p → 64 < height p
-    → firstSuch deep (preorder 1 p) < size p
-some-too-deep {p = p} x h =
-    rw (length-preorder x 1) at (some-deep (preorder 1 p) (let e = deepest-is x 1 in omega arith))
+  deepest-node : suc (deepest (preorder 1 p)) ≡ 1 + height p
+  unfolding preorder height
+  deepest-node = deepest-is (parts p) 1
+
+  -- a program of at most 64 levels has no node that is too deep, and a higher one has
+  pub none-too-deep : height p ≤ 64 → firstSuch deep (preorder 1 p) ≡ size p
+  none-too-deep h = none-deep (preorder 1 p) (let e = deepest-node in omega arith) ∙ length-preorder 1
+
+  pub some-too-deep : 64 < height p → firstSuch deep (preorder 1 p) < size p
+  some-too-deep h = rw (length-preorder 1) at (some-deep (preorder 1 p) (let e = deepest-node in omega arith))
 
 -- the k-th node of a tree is the program at the k-th node from its first
 module _ (t : List ℕ) (P : ℕ → Program) (stands : (j : ℕ) (q : Program) → j < nodes t → Spells t j q → P j ≡ q)
@@ -135,17 +135,17 @@ module _ (t : List ℕ) (P : ℕ → Program) (stands : (j : ℕ) (q : Program) 
 
   pub node-at : {i c : ℕ} {p : Program} → Tree t i c p → i + size p ≤ nodes t → (d k : ℕ) → k < size p
       → getD (preorder d p) k none .part ≡ P (i + k)
-  node-at {i} {p = p} (leaf h z v) b d zero l = rw (of-none v .nodes-are d) (first-node i p (omega arith) h)
-  node-at (leaf h z v) b d (suc k) l = let s = of-none v .size-is in absurd (omega arith)
-  node-at {i} {p = p} (one h z v x) b d zero l = rw (of-one v .nodes-are d) (first-node i p (omega arith) h)
-  node-at {i} (one h z v x) b d (suc k) l =
+  node-at {i} {p = p} (leaf h v) b d zero l = rw (of-none v .nodes-are d) (first-node i p (omega arith) h)
+  node-at (leaf h v) b d (suc k) l = let s = of-none v .size-is in absurd (omega arith)
+  node-at {i} {p = p} (one h v x) b d zero l = rw (of-one v .nodes-are d) (first-node i p (omega arith) h)
+  node-at {i} (one h v x) b d (suc k) l =
       let s = of-one v .size-is in
       let e : i + suc k ≡ i + 1 + k = omega arith in
       rw (of-one v .nodes-are d, e) (node-at x (omega arith) (suc d) k (omega arith))
-  node-at {i} {p = p} (two h z v x y) b d zero l = rw (of-two v .nodes-are d) (first-node i p (omega arith) h)
-  node-at {i} (two {q = q} {r = r} h z v x y) b d (suc k) l =
+  node-at {i} {p = p} (two h v x y) b d zero l = rw (of-two v .nodes-are d) (first-node i p (omega arith) h)
+  node-at {i} (two {q = q} {r = r} h v x y) b d (suc k) l =
       let s = of-two v .size-is in
-      let w = length-preorder x (suc d) in
+      let w = length-preorder q (suc d) in
       let z′ = sized x in
       let p = preorder (suc d) q in
       let p′ = preorder (suc d) r in
@@ -168,7 +168,7 @@ module _ (t : List ℕ) (P : ℕ → Program) (stands : (j : ℕ) (q : Program) 
   pub first-in-table : (so : Program → Bool) {i c : ℕ} {p : Program} → Tree t i c p → i + size p ≤ nodes t → (d : ℕ)
       → Lowest (λ k. so (P (i + k))) (size p) (firstSuch (λ x. so (x .part)) (preorder d p))
   first-in-table so {i} {p = p} x b d =
-      let f = rw (length-preorder x d) at (first-lowest (λ x. so (x .part)) none (preorder d p)) in
+      let f = rw (length-preorder p d) at (first-lowest (λ x. so (x .part)) none (preorder d p)) in
       let w = f .within in
       record {
         within = w;

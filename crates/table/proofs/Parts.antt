@@ -1,79 +1,138 @@
 -- What a program of a kind with no part, one or two is made of: its size, its nodes in order, its figures, whether it stops.
-use Prim.Native.Nat.{ℕ, suc, _+_, _*_, max}
+use Prim.Native.Nat.{ℕ, suc, _+_, _*_, _≤_, max}
 use mathlib.Core.Bool.{Bool, true, false, cond, not, _&&_, _||_}
-use mathlib.Core.Path.{_≡_, refl}
-use mathlib.Core.List.{[], _∷_, _++_}
-use lib.Dec.{eqb, leb}
-use Rattle.junior.specs.Program.{Program, size, kind}
+use mathlib.Core.Path.{_≡_, refl, ap, _∙_}
+use mathlib.Core.List.{List, [], _∷_, _++_}
 use native.Mathlib.Omega.{arith}
+use lib.Dec.{eqb, leb}
+use Rattle.junior.specs.Program.{Program, Nothing, Stop, Atom, Seq, Par, Loop, Repeat, Generate, Await, When, Until}
+use Rattle.junior.specs.Program.{Control, Local, Argument, no-argument, number, event, configuration, argument, kind}
+use Rattle.junior.specs.Program.{Leaf, nothing, stop, atom, generate, await, One, loop, repeat, control, local}
+use Rattle.junior.specs.Program.{Two, seq, par, when, until, Parts, no-part, one-part, two-parts, parts, sizeOf, size}
 use Rattle.junior.specs.Figures.{stops, figure, times, per}
-use Rattle.table.specs.Verdict.{Node, preorder, endlessLoop}
-use Rattle.table.specs.Inside.Weighing.{Leaf, nothing, stop, atom, generate, await, One, loop, repeat, control}
-use Rattle.table.specs.Inside.Weighing.{local}
-use Rattle.table.specs.Inside.Weighing.{Two, seq, par, when, until, height}
+use Rattle.junior.proofs.Parts.{parts-none, parts-one, parts-two, only-parts}
+use Rattle.table.specs.Records.{configurations, events}
+use Rattle.table.specs.Good.{children, argumentLimit}
+use Rattle.table.specs.Verdict.{Node, partsInOrder, preorder, endlessParts, endlessLoop}
+use Rattle.table.specs.Inside.Weighing.{Counts, levels, height}
+
+abbrev pub partCount : {p : Program} → Parts p → ℕ
+partCount (no-part f) = 0
+partCount (one-part f q) = 1
+partCount (two-parts f q r) = 2
+
+-- what an argument is below
+abbrev pub limitOf : List ℕ → Argument → ℕ
+limitOf t no-argument = 1
+limitOf t (number n) = 65536
+limitOf t (event s) = events t
+limitOf t (configuration c) = configurations t
+
+-- what a program's kind says of it
+pub record ByKind (p : Program) : Type 0 where
+  pub known : kind p ≤ 12
+  pub count-is : children (kind p) ≡ partCount (parts p)
+  pub limit-is : (t : List ℕ) → argumentLimit t (kind p) ≡ limitOf t (argument p)
+
+pub by-kind : (p : Program) → ByKind p
+unfolding kind children argumentLimit
+by-kind Nothing = record { known = omega arith; count-is = refl; limit-is = λ t. refl }
+by-kind Stop = record { known = omega arith; count-is = refl; limit-is = λ t. refl }
+by-kind (Atom a) = record { known = omega arith; count-is = refl; limit-is = λ t. refl }
+by-kind (Seq p q) = record { known = omega arith; count-is = refl; limit-is = λ t. refl }
+by-kind (Par p q) = record { known = omega arith; count-is = refl; limit-is = λ t. refl }
+by-kind (Loop p) = record { known = omega arith; count-is = refl; limit-is = λ t. refl }
+by-kind (Repeat n p) = record { known = omega arith; count-is = refl; limit-is = λ t. refl }
+by-kind (Generate s) = record { known = omega arith; count-is = refl; limit-is = λ t. refl }
+by-kind (Await c) = record { known = omega arith; count-is = refl; limit-is = λ t. refl }
+by-kind (When c p q) = record { known = omega arith; count-is = refl; limit-is = λ t. refl }
+by-kind (Until c p q) = record { known = omega arith; count-is = refl; limit-is = λ t. refl }
+by-kind (Control s p) = record { known = omega arith; count-is = refl; limit-is = λ t. refl }
+by-kind (Local s p) = record { known = omega arith; count-is = refl; limit-is = λ t. refl }
+
+pub children-are : {p : Program} (v : Parts p) → children (kind p) ≡ partCount v
+children-are {p} v = by-kind p .count-is ∙ ap partCount (only-parts v)
 
 abbrev node : ℕ → Program → Node
 node d p = record { depth = d; part = p }
-
-pub record OfNone (p : Program) : Type 0 where
-  pub size-is : size p ≡ 1
-  pub height-is : height p ≡ 1
-  pub nodes-are : (d : ℕ) → preorder d p ≡ node d p ∷ []
-  pub figure-is : (k : Program → ℕ) → figure k p ≡ k p
-  pub stops-is : stops p ≡ eqb (kind p) 1
-  pub endless-is : endlessLoop p ≡ false
-
-pub of-none : {p : Program} → Leaf p → OfNone p
-unfolding size height preorder figure stops kind
-of-none nothing = record { size-is = refl; height-is = refl; nodes-are = λ d. refl; figure-is = λ k. refl; stops-is = refl; endless-is = refl }
-of-none stop = record { size-is = refl; height-is = refl; nodes-are = λ d. refl; figure-is = λ k. refl; stops-is = refl; endless-is = refl }
-of-none (atom a) = record { size-is = refl; height-is = refl; nodes-are = λ d. refl; figure-is = λ k. refl; stops-is = refl; endless-is = refl }
-of-none (generate s) = record { size-is = refl; height-is = refl; nodes-are = λ d. refl; figure-is = λ k. refl; stops-is = refl; endless-is = refl }
-of-none (await c) = record { size-is = refl; height-is = refl; nodes-are = λ d. refl; figure-is = λ k. refl; stops-is = refl; endless-is = refl }
 
 -- how often a figure counts the part of a program of kind k, a being its argument
 abbrev pub often : ℕ → ℕ → Bool → ℕ
 often k a part-stops = cond (eqb k 5) 2 (cond (eqb k 6) (times a part-stops) 1)
 
-pub record OfOne (a : ℕ) (p q : Program) : Type 0 where
-  pub size-is : size p ≡ 1 + size q
-  pub height-is : height p ≡ 1 + height q
-  pub nodes-are : (d : ℕ) → preorder d p ≡ node d p ∷ preorder (suc d) q
+-- the figures of each form, and whether it stops, by its kind
+pub record FiguresOfNone (p : Program) : Type 0 where
+  pub figure-is : (k : Program → ℕ) → figure k p ≡ k p
+  pub stops-is : stops p ≡ eqb (kind p) 1
+
+pub record FiguresOfOne (a : ℕ) (p q : Program) : Type 0 where
   pub figure-is : (k : Program → ℕ) → figure k p ≡ k p + often (kind p) a (stops q) * figure k q
   pub stops-is : stops p ≡ cond (eqb (kind p) 5) true (cond (eqb (kind p) 6) (leb 1 a && stops q) (stops q))
-  pub endless-is : endlessLoop p ≡ (eqb (kind p) 5 && not (stops q))
   pub no-generation : per 7 p ≡ 0
   pub no-atom : per 2 p ≡ 0
 
-pub of-one : {a : ℕ} {p q : Program} → One a p q → OfOne a p q
-unfolding size height preorder figure stops kind
-of-one (loop p) =
-    record { size-is = refl; height-is = refl; nodes-are = λ d. refl; figure-is = λ k. refl; stops-is = refl; endless-is = refl; no-generation = refl; no-atom = refl }
-of-one (repeat p) =
-    record { size-is = refl; height-is = refl; nodes-are = λ d. refl; figure-is = λ k. refl; stops-is = refl; endless-is = refl; no-generation = refl; no-atom = refl }
-of-one (control s p) =
-    record { size-is = refl; height-is = refl; nodes-are = λ d. refl; figure-is = λ k. omega arith; stops-is = refl; endless-is = refl; no-generation = refl; no-atom = refl }
-of-one (local s p) =
-    record { size-is = refl; height-is = refl; nodes-are = λ d. refl; figure-is = λ k. omega arith; stops-is = refl; endless-is = refl; no-generation = refl; no-atom = refl }
+pub record FiguresOfTwo (p q r : Program) : Type 0 where
+  pub figure-is : (k : Program → ℕ)
+      → figure k p ≡ k p + cond (eqb (kind p) 9) (max (figure k q) (figure k r)) (figure k q + figure k r)
+  pub stops-is : stops p ≡ cond (eqb (kind p) 9 || eqb (kind p) 10) (stops q && stops r) (stops q || stops r)
+  pub no-generation : per 7 p ≡ 0
+  pub no-atom : per 2 p ≡ 0
+
+pub figures-of-none : {p : Program} → Leaf p → FiguresOfNone p
+unfolding figure stops kind
+figures-of-none nothing = record { figure-is = λ k. refl; stops-is = refl }
+figures-of-none stop = record { figure-is = λ k. refl; stops-is = refl }
+figures-of-none (atom a) = record { figure-is = λ k. refl; stops-is = refl }
+figures-of-none (generate s) = record { figure-is = λ k. refl; stops-is = refl }
+figures-of-none (await c) = record { figure-is = λ k. refl; stops-is = refl }
+
+pub figures-of-one : {a : ℕ} {p q : Program} → One p q → Counts a p → FiguresOfOne a p q
+unfolding figure stops kind
+figures-of-one (loop p) e = record { figure-is = λ k. refl; stops-is = refl; no-generation = refl; no-atom = refl }
+figures-of-one (repeat n p) e = rw (e .same n refl) (record { figure-is = λ k. refl; stops-is = refl; no-generation = refl; no-atom = refl })
+figures-of-one (control s p) e = record { figure-is = λ k. omega arith; stops-is = refl; no-generation = refl; no-atom = refl }
+figures-of-one (local s p) e = record { figure-is = λ k. omega arith; stops-is = refl; no-generation = refl; no-atom = refl }
+
+pub figures-of-two : {p q r : Program} → Two p q r → FiguresOfTwo p q r
+unfolding figure stops kind
+figures-of-two (seq p q) = record { figure-is = λ k. refl; stops-is = refl; no-generation = refl; no-atom = refl }
+figures-of-two (par p q) = record { figure-is = λ k. refl; stops-is = refl; no-generation = refl; no-atom = refl }
+figures-of-two (when c p q) = record { figure-is = λ k. refl; stops-is = refl; no-generation = refl; no-atom = refl }
+figures-of-two (until c p q) = record { figure-is = λ k. refl; stops-is = refl; no-generation = refl; no-atom = refl }
+
+-- what goes by the parts alone
+pub record OfNone (p : Program) : Type 0 where
+  pub size-is : size p ≡ 1
+  pub height-is : height p ≡ 1
+  pub nodes-are : (d : ℕ) → preorder d p ≡ node d p ∷ []
+  pub endless-is : endlessLoop p ≡ false
+
+pub record OfOne (p q : Program) : Type 0 where
+  pub size-is : size p ≡ 1 + size q
+  pub height-is : height p ≡ 1 + height q
+  pub nodes-are : (d : ℕ) → preorder d p ≡ node d p ∷ preorder (suc d) q
+  pub endless-is : endlessLoop p ≡ (eqb (kind p) 5 && not (stops q))
 
 pub record OfTwo (p q r : Program) : Type 0 where
   pub size-is : size p ≡ 1 + size q + size r
   pub height-is : height p ≡ 1 + max (height q) (height r)
   pub nodes-are : (d : ℕ) → preorder d p ≡ node d p ∷ (preorder (suc d) q ++ preorder (suc d) r)
-  pub figure-is : (k : Program → ℕ)
-      → figure k p ≡ k p + cond (eqb (kind p) 9) (max (figure k q) (figure k r)) (figure k q + figure k r)
-  pub stops-is : stops p ≡ cond (eqb (kind p) 9 || eqb (kind p) 10) (stops q && stops r) (stops q || stops r)
   pub endless-is : endlessLoop p ≡ false
-  pub no-generation : per 7 p ≡ 0
-  pub no-atom : per 2 p ≡ 0
+
+pub of-none : {p : Program} → Leaf p → OfNone p
+unfolding size height preorder
+of-none f =
+    let e = parts-none f in
+    record { size-is = ap sizeOf e; height-is = ap levels e; nodes-are = λ d. ap (partsInOrder d) e; endless-is = ap endlessParts e }
+
+pub of-one : {p q : Program} → One p q → OfOne p q
+unfolding size height preorder
+of-one f =
+    let e = parts-one f in
+    record { size-is = ap sizeOf e; height-is = ap levels e; nodes-are = λ d. ap (partsInOrder d) e; endless-is = ap endlessParts e }
 
 pub of-two : {p q r : Program} → Two p q r → OfTwo p q r
-unfolding size height preorder figure stops kind
-of-two (seq p q) =
-    record { size-is = refl; height-is = refl; nodes-are = λ d. refl; figure-is = λ k. refl; stops-is = refl; endless-is = refl; no-generation = refl; no-atom = refl }
-of-two (par p q) =
-    record { size-is = refl; height-is = refl; nodes-are = λ d. refl; figure-is = λ k. refl; stops-is = refl; endless-is = refl; no-generation = refl; no-atom = refl }
-of-two (when c p q) =
-    record { size-is = refl; height-is = refl; nodes-are = λ d. refl; figure-is = λ k. refl; stops-is = refl; endless-is = refl; no-generation = refl; no-atom = refl }
-of-two (until c p q) =
-    record { size-is = refl; height-is = refl; nodes-are = λ d. refl; figure-is = λ k. refl; stops-is = refl; endless-is = refl; no-generation = refl; no-atom = refl }
+unfolding size height preorder
+of-two f =
+    let e = parts-two f in
+    record { size-is = ap sizeOf e; height-is = ap levels e; nodes-are = λ d. ap (partsInOrder d) e; endless-is = ap endlessParts e }

@@ -6,15 +6,15 @@ use mathlib.Core.List.{List}
 use native.Mathlib.Omega.{arith}
 use lib.Dec.{eqb}
 use lib.ListN.{length, getD, set, length-set}
-use Rattle.junior.specs.Program.{Program, kind}
+use Rattle.junior.specs.Program.{Program, kind, Leaf, One, Two}
 use Rattle.junior.specs.Figures.{stops}
 use Rattle.table.specs.Records.{nodes, kindAt, argumentAt, sizeAt, secondAt}
 use Rattle.table.specs.Good.{children, goodNode}
 use Rattle.table.specs.declared.weights.Weight.{Weight}
-use Rattle.table.specs.Inside.Weighing.{Leaf, One, Two, Weighs, Small, weightAt, put, Row, treeAt, OfKind}
+use Rattle.table.specs.Inside.Weighing.{Counts, Weighs, Small, weightAt, put, Row, treeAt, OfKind}
 use Rattle.table.specs.Inside.Weighing.{Ready, Placed, bit}
 use Rattle.table.proofs.Grown.{spells-from}
-use Rattle.table.proofs.Here.{Here, no-part, one-part, two-parts, here, kind-here, tree-here}
+use Rattle.table.proofs.Here.{Here, no-part, one-part, two-parts, here, kind-here, argued-here}
 use Rattle.table.proofs.Little.{below-or}
 use Rattle.table.proofs.Parts.{of-none, of-one, of-two}
 use Rattle.table.proofs.Rows.{height-most, row-more}
@@ -56,6 +56,10 @@ module _ {t w : List ℕ} {n i k limit count top : ℕ} (R : Ready t w n i top) 
   kind-is : k ≡ kind (treeAt t i)
   kind-is = sym (K .kind-is) ∙ kind-here t (R .configurations-good) i good-from i (omega arith) here-below
 
+  count-is : Counts (argumentAt t i) (treeAt t i)
+  count-is =
+      record { same = λ n e. rw e at (argued-here t (R .configurations-good) i good-from i (omega arith) here-below) }
+
   small-here : (x : Weight) (j : ℕ) → i ≤ j → j < nodes t → Weighs x (treeAt t j) → Small x
   small-here x j h l y =
       let G = spells-from t (R .configurations-good) i good-from j h l in
@@ -67,7 +71,7 @@ module _ {t w : List ℕ} {n i k limit count top : ℕ} (R : Ready t w n i top) 
         atoms-small = omega (arith, y .atoms-are .small);
         nodes-small = omega (arith, y .nodes-are .small);
         height-small =
-            omega (arith, y .height-is, height-most (tree-here t (R .configurations-good) i good-from j h l));
+            omega (arith, y .height-is, height-most (treeAt t j), G .sized);
       }
 
   pub leaf-full : count ≡ 0 → top ≡ 64 → Row t 65 i
@@ -155,7 +159,7 @@ module _ {t w : List ℕ} {n i k limit count top : ℕ} (R : Ready t w n i top) 
 
   pub body-placed : count ≡ 1 → (w′ : List ℕ)
       → w′ ≡ cond (eqb k 5 && eqb (weightAt w (top - 1) .stops) 0) (set w 320 i) w → (z : Weight)
-      → ((p q : Program) → One (argumentAt t i) p q → k ≡ kind p → Weighs (weightAt w (top - 1)) q → Weighs z p)
+      → ((p q : Program) → One p q → Counts (argumentAt t i) p → k ≡ kind p → Weighs (weightAt w (top - 1)) q → Weighs z p)
       → Placed t w (put w′ (top - 1) z) i top
   body-placed c w′ d z f = go (rw c at at-node)
     where
@@ -172,7 +176,7 @@ module _ {t w : List ℕ} {n i k limit count top : ℕ} (R : Ready t w n i top) 
             long-row = length-put w′ (top - 1) z ∙ y .long;
             waits =
                 rw e at (waits-more t w′ (top - 1) i z (y .long) (omega arith) here-below
-                (f _ _ v kind-is (a .weighs))
+                (f _ _ v count-is kind-is (a .weighs))
                 (waiting-kept t w w′ (top - 1) (i + sizeAt t i) (λ j h. y .below j (omega arith)) (rw g at (a .rest))));
             room = o;
             endless =

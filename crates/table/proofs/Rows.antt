@@ -3,9 +3,9 @@ use Prim.Native.Nat.{ℕ, zero, suc, _+_, _≤_, _<_}
 use mathlib.Core.Path.{_≡_, refl}
 use mathlib.Core.List.{List}
 use native.Mathlib.Omega.{arith}
-use Rattle.junior.specs.Program.{Program, size}
+use Rattle.junior.specs.Program.{Program, Parts, no-part, one-part, two-parts, parts, sizeOf, size}
 use Rattle.table.specs.Records.{nodes, sizeAt, secondAt}
-use Rattle.table.specs.Inside.Weighing.{Row, height}
+use Rattle.table.specs.Inside.Weighing.{Row, levels, height}
 use Rattle.table.proofs.Little.{below-or}
 use Rattle.table.proofs.Parts.{of-none, of-one, of-two}
 use Rattle.table.proofs.Tree.{Tree, leaf, one, two, sized, size-pos}
@@ -16,24 +16,18 @@ record Beyond (t : List ℕ) (k e h : ℕ) : Type 0 where
   row : Row t rest e
   few : k ≤ rest + h
 
-height-positive : {t : List ℕ} {i c : ℕ} {p : Program} → Tree t i c p → 0 < height p
-height-positive (leaf h z v) = let s = of-none v .height-is in omega arith
-height-positive (one h z v x) = let s = of-one v .height-is in omega arith
-height-positive (two h z v x y) = let s = of-two v .height-is in omega arith
+some-levels : {p : Program} (v : Parts p) → (0 < levels v) × (levels v ≤ sizeOf v)
+some-levels (no-part f) = (omega arith, omega arith)
+some-levels (one-part f q) = (omega arith, omega (arith, some-levels q .1))
+some-levels (two-parts f q r) = (omega arith, omega (arith, some-levels q .1, some-levels r .1))
 
-pub height-most : {t : List ℕ} {i c : ℕ} {p : Program} → Tree t i c p → height p ≤ size p
-height-most (leaf h z v) = let s = of-none v .size-is in let k = of-none v .height-is in omega arith
-height-most (one h z v x) =
-    let s = of-one v .size-is in
-    let k = of-one v .height-is in
-    let m = height-most x in
-    omega arith
-height-most (two h z v x y) =
-    let s = of-two v .size-is in
-    let k = of-two v .height-is in
-    let m = height-most x in
-    let n = height-most y in
-    omega arith
+height-positive : (p : Program) → 0 < height p
+unfolding height
+height-positive p = some-levels (parts p) .0
+
+pub height-most : (p : Program) → height p ≤ size p
+unfolding height size
+height-most p = some-levels (parts p) .1
 
 -- from a tree's first node on, the tree is one of them
 beyond-whole : {t : List ℕ} {b c : ℕ} {p : Program} → Tree t b c p → b + size p ≤ nodes t → (k : ℕ) → Row t k b
@@ -54,22 +48,22 @@ chained f g =
 -- from any of its nodes on: the first, or one behind it
 split : {t : List ℕ} {b c : ℕ} {p : Program} → Tree t b c p → b + size p ≤ nodes t → (k i : ℕ) → b ≤ i → Row t k i
     → (b < i → Beyond t k (b + size p) (height p)) → Beyond t k (b + size p) (height p)
-split {b = b} x l k i g r inner =
+split {b = b} {p = p} x l k i g r inner =
     below-or b i inner λ u.
     let n : i ≡ b = omega arith in
-    moved (beyond-whole x l k (rw n at r)) _ _ refl (height-positive x)
+    moved (beyond-whole x l k (rw n at r)) _ _ refl (height-positive p)
 
 beyond : {t : List ℕ} {b c : ℕ} {p : Program} → Tree t b c p → b + size p ≤ nodes t → (k i : ℕ) → b ≤ i → i < b + size p
     → Row t k i → Beyond t k (b + size p) (height p)
-beyond (leaf h z v) l k i g m r =
-    split (leaf h z v) l k i g r λ n. let s = of-none v .size-is in absurd (omega arith)
-beyond (one h z v x) l k i g m r =
-    split (one h z v x) l k i g r λ n.
+beyond (leaf h v) l k i g m r =
+    split (leaf h v) l k i g r λ n. let s = of-none v .size-is in absurd (omega arith)
+beyond (one h v x) l k i g m r =
+    split (one h v x) l k i g r λ n.
     let s = of-one v .size-is in
     let s′ = of-one v .height-is in
     moved (beyond x (omega arith) k i (omega arith) (omega arith) r) _ _ (omega arith) (omega arith)
-beyond {t} {b} (two {q = q} h z v x y) l k i g m r =
-    split (two h z v x y) l k i g r λ n.
+beyond {t} {b} (two {q = q} h v x y) l k i g m r =
+    split (two h v x y) l k i g r λ n.
     let s = of-two v .size-is in
     let s′ = of-two v .height-is in
     let s″ = sized x in

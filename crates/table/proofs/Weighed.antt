@@ -7,13 +7,13 @@ use native.Mathlib.Omega.{arith}
 use lib.Bits.{bitAnd, bitOr}
 use lib.Dec.{eqb}
 use borrow.Author.Tests.{eq-eqb, ne-eqb, le-leb}
-use Rattle.junior.specs.Program.{Program, kind}
+use Rattle.junior.specs.Program.{Program, kind, Leaf, One, Two}
 use Rattle.junior.specs.Figures.{stops, figure, times}
 use Rattle.table.specs.declared.weights.Weight.{Weight}
-use Rattle.table.specs.Inside.Weighing.{Leaf, One, Two, Figure, Weighs, height, bit, counted, repeatedly}
+use Rattle.table.specs.Inside.Weighing.{Counts, Figure, Weighs, height, bit, counted, repeatedly}
 use Rattle.table.specs.Inside.Weighing.{together}
 use Rattle.table.proofs.Little.{below-or}
-use Rattle.table.proofs.Parts.{OfNone, of-none, OfOne, of-one, often, OfTwo, of-two}
+use Rattle.table.proofs.Parts.{often, of-none, of-one, of-two, figures-of-none, FiguresOfOne, figures-of-one, figures-of-two}
 
 counted-exact : (c x f : ℕ) → min x 65536 ≡ min f 65536 → min (counted c x) 65536 ≡ min (c * f) 65536
 counted-exact zero x f e = rw (zero-mul (min x 65536), zero-mul f) (omega arith)
@@ -34,42 +34,44 @@ larger-exact : (x y f g : ℕ) → min x 65536 ≡ min f 65536 → min y 65536 �
 larger-exact x y f g a b = rw (larger-capped x y, larger-capped f g, a, b)
 
 module _ {k : Program → ℕ} where
-  pub alone : {p : Program} → OfNone p → (x : ℕ) → x ≡ k p → x ≤ 1 → Figure k p x
-  alone v x e l = let s = v .size-is in record { exact = rw (v .figure-is k, e); small = omega arith }
+  pub alone : {p : Program} → Leaf p → (x : ℕ) → x ≡ k p → x ≤ 1 → Figure k p x
+  alone v x e l =
+      let s = of-none v .size-is in
+      record { exact = rw (figures-of-none v .figure-is k, e); small = omega arith }
 
-  pub under : {a : ℕ} {p q : Program} → OfOne a p q → often (kind p) a (stops q) ≡ 1 → (x z : ℕ) → k p ≤ 1
-      → z ≡ x + k p → Figure k q x → Figure k p z
-  under v o x z l e f =
-      let s = v .size-is in
+  pub under : {a : ℕ} {p q : Program} → One p q → FiguresOfOne a p q → often (kind p) a (stops q) ≡ 1 → (x z : ℕ)
+      → k p ≤ 1 → z ≡ x + k p → Figure k q x → Figure k p z
+  under u v o x z l e f =
+      let s = of-one u .size-is in
       let g = f .exact in
       let h = f .small in
       record { exact = rw (v .figure-is k, o) (omega arith); small = omega arith }
 
-  pub over : {a : ℕ} {p q : Program} → OfOne a p q → (c : ℕ) → often (kind p) a (stops q) ≡ c → (x z : ℕ) → k p ≤ 1
-      → z ≡ counted c x + k p → Figure k q x → Figure k p z
-  over {q = q} v c o x z l e f =
-      let s = v .size-is in
+  pub over : {a : ℕ} {p q : Program} → One p q → FiguresOfOne a p q → (c : ℕ) → often (kind p) a (stops q) ≡ c
+      → (x z : ℕ) → k p ≤ 1 → z ≡ counted c x + k p → Figure k q x → Figure k p z
+  over {q = q} u v c o x z l e f =
+      let s = of-one u .size-is in
       let g = counted-exact c x (figure k q) (f .exact) in
       record { exact = rw (v .figure-is k, o) (omega arith); small = omega arith }
 
-  pub added : {p q r : Program} → OfTwo p q r → eqb (kind p) 9 ≡ false → (x y z : ℕ) → k p ≤ 1 → z ≡ x + y + k p
+  pub added : {p q r : Program} → Two p q r → eqb (kind p) 9 ≡ false → (x y z : ℕ) → k p ≤ 1 → z ≡ x + y + k p
       → Figure k q x → Figure k r y → Figure k p z
   added v o x y z l e f g =
-      let s = v .size-is in
+      let s = of-two v .size-is in
       let a = f .exact in
       let a′ = f .small in
       let b = g .exact in
       let b′ = g .small in
-      record { exact = rw (v .figure-is k, o) (omega arith); small = omega arith }
+      record { exact = rw (figures-of-two v .figure-is k, o) (omega arith); small = omega arith }
 
-  pub larger : {p q r : Program} → OfTwo p q r → eqb (kind p) 9 ≡ true → (x y z : ℕ) → k p ≤ 1 → z ≡ max x y + k p
+  pub larger : {p q r : Program} → Two p q r → eqb (kind p) 9 ≡ true → (x y z : ℕ) → k p ≤ 1 → z ≡ max x y + k p
       → Figure k q x → Figure k r y → Figure k p z
   larger {q = q} {r = r} v o x y z l e f g =
-      let s = v .size-is in
+      let s = of-two v .size-is in
       let a = larger-exact x y (figure k q) (figure k r) (f .exact) (g .exact) in
       let b = f .small in
       let c = g .small in
-      record { exact = rw (v .figure-is k, o) (omega arith); small = omega arith }
+      record { exact = rw (figures-of-two v .figure-is k, o) (omega arith); small = omega arith }
 
 -- the product that counts
 pub product-fits : (c y : ℕ) → c < 65536 → y ≤ 65536 → c * y < 4294967296
@@ -83,15 +85,14 @@ pub single-weighs : (k : ℕ) {p : Program} → Leaf p → k ≡ kind p
     (record { generations = bit (eqb k 7); atoms = bit (eqb k 2); nodes = 1; height = 1; stops = bit (eqb k 1) })
     p
 single-weighs k {p} v e =
-    let o = of-none v in
     rw
     e
     (record {
-      generations-are = alone o _ refl (bit-small (eqb (kind p) 7));
-      atoms-are = alone o _ refl (bit-small (eqb (kind p) 2));
-      nodes-are = alone o _ refl (omega arith);
-      height-is = sym (o .height-is);
-      stops-is = rw (o .stops-is);
+      generations-are = alone v _ refl (bit-small (eqb (kind p) 7));
+      atoms-are = alone v _ refl (bit-small (eqb (kind p) 2));
+      nodes-are = alone v _ refl (omega arith);
+      height-is = sym (of-none v .height-is);
+      stops-is = rw (figures-of-none v .stops-is);
     })
   where
     bit-small : (b : Bool) → bit b ≤ 1
@@ -118,41 +119,40 @@ bits-or true false = refl
 bits-or false true = refl
 bits-or false false = refl
 
-module _ {x : Weight} {a : ℕ} {p q : Program} where
-  repeats : One a p q → (c s : ℕ) → often (kind p) a (stops q) ≡ c → s ≡ bit (stops p) → Weighs x q
+module _ {x : Weight} {a : ℕ} {p q : Program} (v : One p q) (n : Counts a p) where
+  repeats : (c s : ℕ) → often (kind p) a (stops q) ≡ c → s ≡ bit (stops p) → Weighs x q
       → Weighs (repeatedly c x s) p
-  repeats v c s m e w =
-      let o = of-one v in
+  repeats c s m e w =
+      let o = figures-of-one v n in
       let g = o .no-generation in
       let b = o .no-atom in
-      let h = o .height-is in
+      let h = of-one v .height-is in
       let i = w .height-is in
       record {
-        generations-are = over o c m (x .generations) _ (omega arith) (omega arith) (w .generations-are);
-        atoms-are = over o c m (x .atoms) _ (omega arith) (omega arith) (w .atoms-are);
-        nodes-are = over o c m (x .nodes) _ (omega arith) refl (w .nodes-are);
+        generations-are = over v o c m (x .generations) _ (omega arith) (omega arith) (w .generations-are);
+        atoms-are = over v o c m (x .atoms) _ (omega arith) (omega arith) (w .atoms-are);
+        nodes-are = over v o c m (x .nodes) _ (omega arith) refl (w .nodes-are);
         height-is = omega arith;
         stops-is = e;
       }
 
-  pub loop-weighs : One a p q → kind p ≡ 5 → Weighs x q → Weighs (repeatedly 2 x 1) p
-  loop-weighs v e w = repeats v 2 1 (rw e) (rw (of-one v .stops-is, e)) w
+  pub loop-weighs : kind p ≡ 5 → Weighs x q → Weighs (repeatedly 2 x 1) p
+  loop-weighs e w = repeats 2 1 (rw e) (rw (figures-of-one v n .stops-is, e)) w
 
-  pub never-weighs : One a p q → kind p ≡ 6 → a ≡ 0 → Weighs x q → Weighs (repeatedly 0 x 0) p
-  never-weighs v e z w = repeats v 0 0 (rw (e, z) (no-times (stops q))) (rw (of-one v .stops-is, e, z)) w
+  pub never-weighs : kind p ≡ 6 → a ≡ 0 → Weighs x q → Weighs (repeatedly 0 x 0) p
+  never-weighs e z w = repeats 0 0 (rw (e, z) (no-times (stops q))) (rw (figures-of-one v n .stops-is, e, z)) w
 
-  pub repeat-weighs : One a p q → kind p ≡ 6 → (a ≡ 0 → ⊥) → (c : ℕ) → c ≡ times a (eqb (x .stops) 1) → Weighs x q
+  pub repeat-weighs : kind p ≡ 6 → (a ≡ 0 → ⊥) → (c : ℕ) → c ≡ times a (eqb (x .stops) 1) → Weighs x q
       → Weighs (repeatedly c x (x .stops)) p
-  repeat-weighs v e z c m w =
+  repeat-weighs e z c m w =
       repeats
-      v
       c
       (x .stops)
       (rw e (sym (m ∙ ap (times a) (ap (λ n. eqb n 1) (w .stops-is) ∙ bit-back (stops q)))))
-      (rw (of-one v .stops-is, e, le-leb 1 a (omega arith)) (w .stops-is))
+      (rw (figures-of-one v n .stops-is, e, le-leb 1 a (omega arith)) (w .stops-is))
       w
 
-  pub under-weighs : One a p q → (kind p ≡ 5 → ⊥) → (kind p ≡ 6 → ⊥) → Weighs x q
+  pub under-weighs : (kind p ≡ 5 → ⊥) → (kind p ≡ 6 → ⊥) → Weighs x q
       → Weighs
       (record {
         generations = x .generations;
@@ -162,17 +162,17 @@ module _ {x : Weight} {a : ℕ} {p q : Program} where
         stops = x .stops;
       })
       p
-  under-weighs v e f w =
-      let o = of-one v in
+  under-weighs e f w =
+      let o = figures-of-one v n in
       let m : often (kind p) a (stops q) ≡ 1 = rw (ne-eqb (kind p) 5 e, ne-eqb (kind p) 6 f) in
       let g = o .no-generation in
       let b = o .no-atom in
-      let h = o .height-is in
+      let h = of-one v .height-is in
       let i = w .height-is in
       record {
-        generations-are = under o m (x .generations) _ (omega arith) (omega arith) (w .generations-are);
-        atoms-are = under o m (x .atoms) _ (omega arith) (omega arith) (w .atoms-are);
-        nodes-are = under o m (x .nodes) _ (omega arith) refl (w .nodes-are);
+        generations-are = under v o m (x .generations) _ (omega arith) (omega arith) (w .generations-are);
+        atoms-are = under v o m (x .atoms) _ (omega arith) (omega arith) (w .atoms-are);
+        nodes-are = under v o m (x .nodes) _ (omega arith) refl (w .nodes-are);
         height-is = omega arith;
         stops-is = rw (o .stops-is, ne-eqb (kind p) 5 e, ne-eqb (kind p) 6 f) (w .stops-is);
       }
@@ -193,19 +193,19 @@ module _ {x y : Weight} {p q r : Program} where
       })
       p
   larger-weighs v e w u =
-      let o = of-two v in
+      let o = figures-of-two v in
       let n = eq-eqb (kind p) 9 e in
       let g = o .no-generation in
       let b = o .no-atom in
-      let h = o .height-is in
+      let h = of-two v .height-is in
       let i = w .height-is in
       let j = u .height-is in
       record {
         generations-are =
-            larger o n (x .generations) (y .generations) _ (omega arith) (omega arith)
+            larger v n (x .generations) (y .generations) _ (omega arith) (omega arith)
             (w .generations-are) (u .generations-are);
-        atoms-are = larger o n (x .atoms) (y .atoms) _ (omega arith) (omega arith) (w .atoms-are) (u .atoms-are);
-        nodes-are = larger o n (x .nodes) (y .nodes) _ (omega arith) refl (w .nodes-are) (u .nodes-are);
+        atoms-are = larger v n (x .atoms) (y .atoms) _ (omega arith) (omega arith) (w .atoms-are) (u .atoms-are);
+        nodes-are = larger v n (x .nodes) (y .nodes) _ (omega arith) refl (w .nodes-are) (u .nodes-are);
         height-is = omega arith;
         stops-is = both-stop (stops p) (rw e at (o .stops-is)) w u;
       }
@@ -213,19 +213,19 @@ module _ {x y : Weight} {p q r : Program} where
   together-weighs : Two p q r → (kind p ≡ 9 → ⊥) → (s : ℕ) → s ≡ bit (stops p) → Weighs x q → Weighs y r
       → Weighs (together x y s) p
   together-weighs v e s t w u =
-      let o = of-two v in
+      let o = figures-of-two v in
       let n = ne-eqb (kind p) 9 e in
       let g = o .no-generation in
       let b = o .no-atom in
-      let h = o .height-is in
+      let h = of-two v .height-is in
       let i = w .height-is in
       let j = u .height-is in
       record {
         generations-are =
-            added o n (x .generations) (y .generations) _ (omega arith) (omega arith)
+            added v n (x .generations) (y .generations) _ (omega arith) (omega arith)
             (w .generations-are) (u .generations-are);
-        atoms-are = added o n (x .atoms) (y .atoms) _ (omega arith) (omega arith) (w .atoms-are) (u .atoms-are);
-        nodes-are = added o n (x .nodes) (y .nodes) _ (omega arith) refl (w .nodes-are) (u .nodes-are);
+        atoms-are = added v n (x .atoms) (y .atoms) _ (omega arith) (omega arith) (w .atoms-are) (u .atoms-are);
+        nodes-are = added v n (x .nodes) (y .nodes) _ (omega arith) refl (w .nodes-are) (u .nodes-are);
         height-is = omega arith;
         stops-is = t;
       }
@@ -233,7 +233,7 @@ module _ {x y : Weight} {p q r : Program} where
   pub until-weighs : Two p q r → kind p ≡ 10 → Weighs x q → Weighs y r
       → Weighs (together x y (bitAnd (x .stops) (y .stops))) p
   until-weighs v e w u =
-      together-weighs v (λ z. omega arith) _ (both-stop (stops p) (rw e at (of-two v .stops-is)) w u) w u
+      together-weighs v (λ z. omega arith) _ (both-stop (stops p) (rw e at (figures-of-two v .stops-is)) w u) w u
 
   pub sum-weighs : Two p q r → (kind p ≡ 9 → ⊥) → (kind p ≡ 10 → ⊥) → Weighs x q → Weighs y r
       → Weighs (together x y (bitOr (x .stops) (y .stops))) p
@@ -243,7 +243,7 @@ module _ {x y : Weight} {p q r : Program} where
       e
       _
       (rw
-      (w .stops-is, u .stops-is, of-two v .stops-is, ne-eqb (kind p) 9 e, ne-eqb (kind p) 10 f)
+      (w .stops-is, u .stops-is, figures-of-two v .stops-is, ne-eqb (kind p) 9 e, ne-eqb (kind p) 10 f)
       (bits-or (stops q) (stops r)))
       w
       u

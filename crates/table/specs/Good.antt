@@ -1,8 +1,9 @@
 -- Good records (01, "The table"): a record is judged by its own bytes and by its children's indexes and written sizes.
 use Prim.Native.Nat.{ℕ, zero, suc, _+_}
 use mathlib.Core.Bool.{Bool, true, false, cond, _&&_, _||_}
-use mathlib.Core.List.{List}
+use mathlib.Core.List.{List, [], _∷_}
 use lib.Dec.{eqb, leb, ltb}
+use lib.ListN.{getD}
 use Rattle.table.specs.Records.{nodes, configurations, events, kindAt, zeroAt, argumentAt, sizeAt}
 use Rattle.table.specs.Records.{configurationAt, partKind, partEvent, partSize}
 
@@ -14,22 +15,20 @@ laidOut written n i (suc (suc more)) =
     let second = i + 1 + written (i + 1) in
     ltb (i + 1) n && (ltb second n && eqb (written i) (1 + written (i + 1) + written second))
 
--- how many children a kind has: Seq, Par, When, Until two; Loop, Repeat, Control, Local one
-unfoldable pub children : ℕ → ℕ
-children k =
-    cond (((eqb k 3 || eqb k 4) || eqb k 9) || eqb k 10) 2 (cond (((eqb k 5 || eqb k 6) || eqb k 11) || eqb k 12) 1 0)
+-- how many children each kind has, in the order of the kinds: Seq, Par, When, Until two; Loop, Repeat, Control, Local one
+abbrev pub childCounts : List ℕ
+childCounts = 0 ∷ 0 ∷ 0 ∷ 2 ∷ 2 ∷ 1 ∷ 1 ∷ 0 ∷ 0 ∷ 2 ∷ 2 ∷ 1 ∷ 1 ∷ []
 
--- a kind's argument is below this: an Atom's any number, a Repeat's its count; Generate, Control, Local an event; Await, When,
--- Until a configuration; otherwise 0
+unfoldable pub children : ℕ → ℕ
+children k = getD childCounts k 0
+
+-- what each kind's argument is below, in the order of the kinds: an Atom's any number, a Repeat's its count; Generate, Control, Local an
+-- event of v; Await, When, Until a configuration of m; otherwise 0
+abbrev pub argumentLimits : ℕ → ℕ → List ℕ
+argumentLimits v m = 1 ∷ 1 ∷ 65536 ∷ 1 ∷ 1 ∷ 1 ∷ 65536 ∷ v ∷ m ∷ m ∷ m ∷ v ∷ v ∷ []
+
 unfoldable pub argumentLimit : List ℕ → ℕ → ℕ
-argumentLimit t k =
-    cond
-    (eqb k 2 || eqb k 6)
-    65536
-    (cond
-    ((eqb k 7 || eqb k 11) || eqb k 12)
-    (events t)
-    (cond ((eqb k 8 || eqb k 9) || eqb k 10) (configurations t) 1))
+argumentLimit t k = getD (argumentLimits (events t) (configurations t)) k 0
 
 -- node i is good; record 0 must also have size N
 unfoldable pub goodNode : List ℕ → ℕ → Bool

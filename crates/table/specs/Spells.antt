@@ -2,14 +2,16 @@
 use Prim.Native.Nat.{ℕ, zero, suc, _+_, _*_}
 use mathlib.Core.Bool.{cond}
 use mathlib.Core.Path.{_≡_}
-use mathlib.Core.List.{List}
+use mathlib.Core.List.{List, [], _∷_}
 use lib.Dec.{eqb}
+use lib.ListN.{getD}
 use Rattle.table.specs.Records.{nodes, kindAt, argumentAt, sizeAt, secondAt, configurationAt}
 use Rattle.table.specs.Records.{partKind}
 use Rattle.table.specs.Records.{partEvent, partSize, firstPart, secondPart}
 use Rattle.junior.specs.Configuration.{Config, Event, Not, And, Or}
 use Rattle.junior.specs.Program.{Program, Nothing, Stop, Atom, Seq, Par, Loop, Repeat, Generate, Await, When, Until}
-use Rattle.junior.specs.Program.{Control, Local, size, kind}
+use Rattle.junior.specs.Program.{Control, Local, Argument, no-argument, number, event, configuration, argument, kind}
+use Rattle.junior.specs.Program.{Parts, no-part, one-part, two-parts, parts, size}
 
 -- the records of a configuration
 unfoldable pub weight : Config → ℕ
@@ -37,29 +39,28 @@ Configured t c (Or d e) =
 abbrev pub tested : List ℕ → ℕ → ℕ
 tested t i = configurationAt t (argumentAt t i)
 
+-- node i's argument is this one
+abbrev pub Argues : List ℕ → ℕ → Argument → Type 0
+Argues t i no-argument = Unit {0}
+Argues t i (number n) = argumentAt t i ≡ n
+Argues t i (event s) = argumentAt t i ≡ s
+Argues t i (configuration c) = Configured t (tested t i) c
+
 -- node i's own record is that of p
 abbrev pub Heads : List ℕ → ℕ → Program → Type 0
 Heads t i p = (kindAt t i ≡ kind p) × (sizeAt t i ≡ size p)
 
--- the program at node i is p
-unfoldable pub Spells : List ℕ → ℕ → Program → Type 0
-Spells t i Nothing = Heads t i Nothing
-Spells t i Stop = Heads t i Stop
-Spells t i (Atom a) = Heads t i (Atom a) × (argumentAt t i ≡ a)
-Spells t i (Seq p q) = Heads t i (Seq p q) × Spells t (i + 1) p × Spells t (secondAt t i) q
-Spells t i (Par p q) = Heads t i (Par p q) × Spells t (i + 1) p × Spells t (secondAt t i) q
-Spells t i (Loop p) = Heads t i (Loop p) × Spells t (i + 1) p
-Spells t i (Repeat n p) = Heads t i (Repeat n p) × (argumentAt t i ≡ n) × Spells t (i + 1) p
-Spells t i (Generate s) = Heads t i (Generate s) × (argumentAt t i ≡ s)
-Spells t i (Await c) = Heads t i (Await c) × Configured t (tested t i) c
-Spells t i (When c p q) =
-    Heads t i (When c p q) × Configured t (tested t i) c × Spells t (i + 1) p × Spells t (secondAt t i) q
-Spells t i (Until c p q) =
-    Heads t i (Until c p q) × Configured t (tested t i) c × Spells t (i + 1) p × Spells t (secondAt t i) q
-Spells t i (Control s p) = Heads t i (Control s p) × (argumentAt t i ≡ s) × Spells t (i + 1) p
-Spells t i (Local s p) = Heads t i (Local s p) × (argumentAt t i ≡ s) × Spells t (i + 1) p
+-- the program at node i is p: its own record, its argument, and its parts
+abbrev pub SpellsParts : {p : Program} → List ℕ → ℕ → Parts p → Type 0
+SpellsParts {p} t i (no-part f) = Heads t i p × Argues t i (argument p)
+SpellsParts {p} t i (one-part f q) = Heads t i p × Argues t i (argument p) × SpellsParts t (i + 1) q
+SpellsParts {p} t i (two-parts f q r) =
+    Heads t i p × Argues t i (argument p) × SpellsParts t (i + 1) q × SpellsParts t (secondAt t i) r
 
--- The same tree as a function of the bytes: what good records spell, found downwards. Levels that no good table has are Nothing; the
+unfoldable pub Spells : List ℕ → ℕ → Program → Type 0
+Spells t i p = SpellsParts t i (parts p)
+
+-- The same tree as a function of the bytes: what good records spell, found downwards. Levels and kinds that no good table has are Nothing; the
 -- theorem `spells-tree` says that the whole tree is there, and `one-tree` that it is the only one.
 unfoldable pub configurationOf : List ℕ → ℕ → ℕ → Config
 configurationOf t zero c = Event 0
@@ -71,40 +72,26 @@ configurationOf t (suc levels) c =
     (Event (partEvent t c))
     (cond (eqb (partKind t c) 1) (Not d) (cond (eqb (partKind t c) 2) (And d e) (Or d e)))
 
--- the program of kind k, with its argument, its configuration and its parts
-unfoldable pub form : ℕ → ℕ → Config → Program → Program → Program
-form k a c p q =
-    cond
-    (eqb k 0)
+-- the forms in the order of their kinds, with the argument a or c and the parts p and q
+abbrev pub forms : ℕ → Config → Program → Program → List Program
+forms a c p q =
     Nothing
-    (cond
-    (eqb k 1)
-    Stop
-    (cond
-    (eqb k 2)
-    (Atom a)
-    (cond
-    (eqb k 3)
-    (Seq p q)
-    (cond
-    (eqb k 4)
-    (Par p q)
-    (cond
-    (eqb k 5)
-    (Loop p)
-    (cond
-    (eqb k 6)
-    (Repeat a p)
-    (cond
-    (eqb k 7)
-    (Generate a)
-    (cond
-    (eqb k 8)
-    (Await c)
-    (cond
-    (eqb k 9)
-    (When c p q)
-    (cond (eqb k 10) (Until c p q) (cond (eqb k 11) (Control a p) (Local a p))))))))))))
+    ∷ Stop
+    ∷ Atom a
+    ∷ Seq p q
+    ∷ Par p q
+    ∷ Loop p
+    ∷ Repeat a p
+    ∷ Generate a
+    ∷ Await c
+    ∷ When c p q
+    ∷ Until c p q
+    ∷ Control a p
+    ∷ Local a p
+    ∷ []
+
+unfoldable pub form : ℕ → ℕ → Config → Program → Program → Program
+form k a c p q = getD (forms a c p q) k Nothing
 
 unfoldable pub programOf : List ℕ → ℕ → ℕ → Program
 programOf t zero i = Nothing

@@ -5,8 +5,7 @@ use mathlib.Core.List.{List, [], _∷_, _++_}
 use lib.ListN.{length}
 use lib.Dec.{eqb, leb, ltb}
 use Rattle.events.specs.Events.{lowest}
-use Rattle.junior.specs.Program.{Program, Nothing, Stop, Atom, Seq, Par, Loop, Repeat, Generate, Await, When, Until}
-use Rattle.junior.specs.Program.{Control, Local, size}
+use Rattle.junior.specs.Program.{Program, kind, Parts, no-part, one-part, two-parts, parts, size}
 use Rattle.junior.specs.Figures.{stops, G, A, W}
 use Rattle.table.specs.declared.Checked.{Checked}
 use Rattle.table.specs.declared.Checked.the-variants.{BadLength, BadCounts, BadDistances, BadConfiguration}
@@ -81,20 +80,14 @@ pub record Node : Type 0 where
   pub part : Program
 
 -- all nodes of a program that itself stands at depth d, in the order of the table
+abbrev pub partsInOrder : {p : Program} → ℕ → Parts p → List Node
+partsInOrder {p} d (no-part f) = record { depth = d; part = p } ∷ []
+partsInOrder {p} d (one-part f q) = record { depth = d; part = p } ∷ partsInOrder (suc d) q
+partsInOrder {p} d (two-parts f q r) =
+    record { depth = d; part = p } ∷ (partsInOrder (suc d) q ++ partsInOrder (suc d) r)
+
 unfoldable pub preorder : ℕ → Program → List Node
-preorder d Nothing = record { depth = d; part = Nothing } ∷ []
-preorder d Stop = record { depth = d; part = Stop } ∷ []
-preorder d (Atom a) = record { depth = d; part = Atom a } ∷ []
-preorder d (Seq p q) = record { depth = d; part = Seq p q } ∷ (preorder (suc d) p ++ preorder (suc d) q)
-preorder d (Par p q) = record { depth = d; part = Par p q } ∷ (preorder (suc d) p ++ preorder (suc d) q)
-preorder d (Loop p) = record { depth = d; part = Loop p } ∷ preorder (suc d) p
-preorder d (Repeat n p) = record { depth = d; part = Repeat n p } ∷ preorder (suc d) p
-preorder d (Generate s) = record { depth = d; part = Generate s } ∷ []
-preorder d (Await c) = record { depth = d; part = Await c } ∷ []
-preorder d (When c p q) = record { depth = d; part = When c p q } ∷ (preorder (suc d) p ++ preorder (suc d) q)
-preorder d (Until c p q) = record { depth = d; part = Until c p q } ∷ (preorder (suc d) p ++ preorder (suc d) q)
-preorder d (Control s p) = record { depth = d; part = Control s p } ∷ preorder (suc d) p
-preorder d (Local s p) = record { depth = d; part = Local s p } ∷ preorder (suc d) p
+preorder d p = partsInOrder d (parts p)
 
 -- the lowest index whose node is so; the length if none is
 unfoldable pub firstSuch : (Node → Bool) → List Node → ℕ
@@ -107,21 +100,14 @@ firstSuch so (x ∷ l) =
 abbrev pub deep : Node → Bool
 deep x = ltb 64 (x .depth)
 
--- 7: a Loop whose body doesn't stop
+-- 7: a Loop, kind 5, whose body doesn't stop
+abbrev pub endlessParts : {p : Program} → Parts p → Bool
+endlessParts (no-part f) = false
+endlessParts {p} (one-part {q = q} f v) = eqb (kind p) 5 && not (stops q)
+endlessParts (two-parts f v w) = false
+
 abbrev pub endlessLoop : Program → Bool
-endlessLoop Nothing = false
-endlessLoop Stop = false
-endlessLoop (Atom a) = false
-endlessLoop (Seq p q) = false
-endlessLoop (Par p q) = false
-endlessLoop (Loop p) = not (stops p)
-endlessLoop (Repeat n p) = false
-endlessLoop (Generate s) = false
-endlessLoop (Await c) = false
-endlessLoop (When c p q) = false
-endlessLoop (Until c p q) = false
-endlessLoop (Control s p) = false
-endlessLoop (Local s p) = false
+endlessLoop p = endlessParts (parts p)
 
 abbrev pub endless : Node → Bool
 endless x = endlessLoop (x .part)

@@ -100,22 +100,18 @@ fn place(
     ensures { λ r. ⌜ Places (now (table .entry)) (now (waiting .entry)) (now (waiting .exit)) i r ⌝ }
 {
     let k = kind_at(table, i);
-    match k {
-        0 => leaf(table, n, i, 0, 1, waiting, top),
-        1 => leaf(table, n, i, 1, 1, waiting, top),
-        2 => leaf(table, n, i, 2, 65536, waiting, top),
-        3 => pair(table, n, i, 3, 1, waiting, top),
-        4 => pair(table, n, i, 4, 1, waiting, top),
-        5 => body(table, n, i, 5, 1, waiting, top),
-        6 => body(table, n, i, 6, 65536, waiting, top),
-        7 => leaf(table, n, i, 7, v, waiting, top),
-        8 => leaf(table, n, i, 8, m, waiting, top),
-        9 => pair(table, n, i, 9, m, waiting, top),
-        10 => pair(table, n, i, 10, m, waiting, top),
-        11 => body(table, n, i, 11, v, waiting, top),
-        12 => body(table, n, i, 12, v, waiting, top),
-        _ => 0,
+    if k >= 13 {
+        return 0;
     }
+    let limit = limit_of(k, m, v);
+    let count = children_of(k);
+    if count == 0 {
+        return leaf(table, n, i, k, limit, waiting, top);
+    }
+    if count == 1 {
+        return body(table, n, i, k, limit, waiting, top);
+    }
+    pair(table, n, i, k, limit, waiting, top)
 }
 
 // A node of kind k without parts, its argument below the limit.
@@ -279,20 +275,15 @@ fn good_node(table: &[u8], n: usize, m: usize, v: usize, i: usize) -> bool
     good_as(table, n, i, limit_of(k, m, v), children_of(k))
 }
 
+// What the argument of kind k is below.
 fn limit_of(k: usize, m: usize, v: usize) -> usize
     ensures { λ r. ⌜ ((t : List ℕ) → m ≡ configurations t → v ≡ events t → argumentLimit t k ≡ r) ⌝ }
 {
-    match k {
-        2 => 65536,
-        6 => 65536,
-        7 => v,
-        11 => v,
-        12 => v,
-        8 => m,
-        9 => m,
-        10 => m,
-        _ => 1,
+    let limits = [1, 1, 65536, 1, 1, 1, 65536, v, m, m, m, v, v];
+    if k < 13 {
+        return limits[k];
     }
+    0
 }
 
 // The first node deeper than 64 of the program at node i, which stands at depth d; the node behind that program if none is.
@@ -319,19 +310,14 @@ fn first_deep(table: &[u8], i: usize, d: usize) -> usize
     first_deep(table, second, d + 1)
 }
 
+const CHILDREN: [usize; 13] = [0, 0, 0, 2, 2, 1, 1, 0, 0, 2, 2, 1, 1];
+
 // How many children kind k has.
 pub fn children_of(k: usize) -> usize
     ensures { λ r. ⌜ children k ≡ r ⌝ }
 {
-    match k {
-        3 => 2,
-        4 => 2,
-        9 => 2,
-        10 => 2,
-        5 => 1,
-        6 => 1,
-        11 => 1,
-        12 => 1,
-        _ => 0,
+    if k < 13 {
+        return CHILDREN[k];
     }
+    0
 }

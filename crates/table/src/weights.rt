@@ -3,9 +3,9 @@ ghost use mathlib.Core.Path.{_≡_};
 ghost use mathlib.Core.Bool.{cond};
 ghost use Prim.Native.Nat.{_≤_, _<_, min, max};
 ghost use lib.Dec.{eqb};
-ghost use Rattle.junior.specs.Program.{Program, kind};
+ghost use Rattle.junior.specs.Program.{Program, kind, Leaf, One, Two};
 ghost use Rattle.junior.specs.Figures.{times};
-ghost use Rattle.table.specs.Inside.Weighing.{Leaf, One, Two, Weighs, Small, counted, repeatedly, together, weightAt, put};
+ghost use Rattle.table.specs.Inside.Weighing.{Counts, Weighs, Small, counted, repeatedly, together, weightAt, put};
 
 // What a program weighs: its figures, exact below 65,536; its height; and 1 if it stops.
 pub struct Weight {
@@ -93,7 +93,7 @@ fn repeated(c: u32, x: Weight, stops: u32) -> Weight
 // What a program of kind k weighs whose part weighs x.
 pub fn wrapped(k: usize, count: usize, x: Weight) -> Weight
     requires { ⌜ (count < 65536) × Small x ⌝ }
-    ensures { λ r. ⌜ ((p q : Program) → One count p q → k ≡ kind p → Weighs x q → Weighs r p) ⌝ }
+    ensures { λ r. ⌜ ((p q : Program) → One p q → Counts count p → k ≡ kind p → Weighs x q → Weighs r p) ⌝ }
 {
     if k == 5 {
         return repeated(2, x, 1);

@@ -5,9 +5,7 @@ use mathlib.Core.Path.{_≡_}
 use mathlib.Core.List.{List}
 use lib.Dec.{leb}
 use lib.ListN.{length, getD, set}
-use Rattle.junior.specs.Configuration.{Config}
-use Rattle.junior.specs.Program.{Program, Nothing, Stop, Atom, Seq, Par, Loop, Repeat, Generate, Await, When, Until}
-use Rattle.junior.specs.Program.{Control, Local, size}
+use Rattle.junior.specs.Program.{Program, number, argument, Parts, no-part, one-part, two-parts, parts, size}
 use Rattle.junior.specs.Figures.{stops, figure, per, every}
 use Rattle.table.specs.declared.weights.Weight.{Weight}
 use Rattle.table.specs.Records.{nodes, kindAt, sizeAt}
@@ -16,25 +14,9 @@ use Rattle.table.specs.Spells.{programOf}
 use Rattle.table.specs.Verdict.{endlessLoop}
 use Rattle.table.specs.Inside.{Framed, ConfigurationsGood, NodesGood}
 
--- a program without parts, with one, with two; a is the count if it is a Repeat
-pub data Leaf : Program → Type 0 where
-  nothing : Leaf Nothing
-  stop : Leaf Stop
-  atom : (a : ℕ) → Leaf (Atom a)
-  generate : (s : ℕ) → Leaf (Generate s)
-  await : (c : Config) → Leaf (Await c)
-
-pub data One (a : ℕ) : Program → Program → Type 0 where
-  loop : (p : Program) → One a (Loop p) p
-  repeat : (p : Program) → One a (Repeat a p) p
-  control : (s : ℕ) (p : Program) → One a (Control s p) p
-  local : (s : ℕ) (p : Program) → One a (Local s p) p
-
-pub data Two : Program → Program → Program → Type 0 where
-  seq : (p q : Program) → Two (Seq p q) p q
-  par : (p q : Program) → Two (Par p q) p q
-  when : (c : Config) (p q : Program) → Two (When c p q) p q
-  until : (c : Config) (p q : Program) → Two (Until c p q) p q
+-- if the argument of p is a number, it is a
+pub record Counts (a : ℕ) (p : Program) : Type 0 where
+  pub same : (n : ℕ) → argument p ≡ number n → a ≡ n
 
 -- the program at node i
 abbrev pub treeAt : List ℕ → ℕ → Program
@@ -46,20 +28,13 @@ pub record Figure (k : Program → ℕ) (p : Program) (x : ℕ) : Type 0 where
   pub small : x ≤ 65537 * size p
 
 -- how many levels it has
+abbrev pub levels : {p : Program} → Parts p → ℕ
+levels (no-part f) = 1
+levels (one-part f q) = 1 + levels q
+levels (two-parts f q r) = 1 + max (levels q) (levels r)
+
 unfoldable pub height : Program → ℕ
-height Nothing = 1
-height Stop = 1
-height (Atom a) = 1
-height (Seq p q) = 1 + max (height p) (height q)
-height (Par p q) = 1 + max (height p) (height q)
-height (Loop p) = 1 + height p
-height (Repeat n p) = 1 + height p
-height (Generate s) = 1
-height (Await c) = 1
-height (When c p q) = 1 + max (height p) (height q)
-height (Until c p q) = 1 + max (height p) (height q)
-height (Control s p) = 1 + height p
-height (Local s p) = 1 + height p
+height p = levels (parts p)
 
 abbrev pub bit : Bool → ℕ
 bit b = cond b 1 0

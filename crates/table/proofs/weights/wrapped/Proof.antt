@@ -6,34 +6,34 @@ use Rattle.table.proofs.weights.wrapped.Tie as tie
 
 -- return repeated(2, x, 1);
 returns : tie.Need-returns
-returns c p q v e w =
+returns c p q v n e w =
     let if1 = c .before .if1 in
     let repeated = c .repeated in
-    rw (repeated .ensures) (loop-weighs v (sym e ∙ if1 .taken) w)
+    rw (repeated .ensures) (loop-weighs v n (sym e ∙ if1 .taken) w)
 
 -- return repeated(0, x, 0);
 returns-2 : tie.Need-returns-2
-returns-2 c p q v e w =
+returns-2 c p q v n e w =
     let if2 = c .before .before .if2 in
     let if3 = c .before .if3 in
     let repeated2 = c .repeated2 in
-    rw (repeated2 .ensures) (never-weighs v (sym e ∙ if2 .taken) (if3 .taken) w)
+    rw (repeated2 .ensures) (never-weighs v n (sym e ∙ if2 .taken) (if3 .taken) w)
 
 -- return repeated(times_of(count, x.stops), x, x.stops);
 returns-3 : tie.Need-returns-3
-returns-3 c p q v e w =
+returns-3 c p q v n e w =
     let if2 = c .before .before .before .if2 in
     let if3 = c .before .before .if3 in
     let times-of = c .before .times-of in
     let repeated3 = c .repeated3 in
-    rw (repeated3 .ensures) (repeat-weighs v (sym e ∙ if2 .taken) (if3 .left) _ (times-of .ensures .0) w)
+    rw (repeated3 .ensures) (repeat-weighs v n (sym e ∙ if2 .taken) (if3 .left) _ (times-of .ensures .0) w)
 
 -- pub fn wrapped(k: usize, count: usize, x: Weight) -> Weight
 returns-4 : tie.Need-returns-4
-returns-4 c p q v e w =
+returns-4 c p q v n e w =
     let if1 = c .before .before .before .if1 in
     let if2 = c .before .before .if2 in
-    under-weighs v (λ z. if1 .left (e ∙ z)) (λ z. if2 .left (e ∙ z)) w
+    under-weighs v n (λ z. if1 .left (e ∙ z)) (λ z. if2 .left (e ∙ z)) w
 
 pub wrapped-spec : {M : Type 1} → statement M
 wrapped-spec =
