@@ -4,7 +4,7 @@ use mathlib.Core.Bool.{true, false, _&&_, _||_, and-true, and-false}
 use mathlib.Core.Path.{_≡_, refl, ap₂, sym, _∙_}
 use mathlib.Core.List.{List, [], _∷_}
 use native.Mathlib.Omega.{arith}
-use lib.Dec.{eqb, ltb}
+use lib.Dec.{eqb, leb, ltb}
 use lib.ListN.{getD, List·getD-eq-default}
 use borrow.Author.Tests.{lt-ltb, le-ltb, le-leb, lt-leb, eq-eqb, ne-eqb}
 use Rattle.table.specs.Records.{nodes, configurations, events, kindAt, zeroAt, argumentAt, sizeAt}
@@ -66,9 +66,9 @@ within-of P i l =
     let e = F .long in
     record { long = omega arith; n-is = F .n-is; n-most = F .n-most; whole = P .whole; here = l }
 
-pub as-kind : {t : List ℕ} {i k : ℕ} → k ≡ kindAt t i → k < 13 → {limit count : ℕ} → argumentLimit t k ≡ limit
-    → children k ≡ count → OfKind t i k limit count
-as-kind {k = k} e h l c = record { kind-is = sym e; known = le-leb k 12 (omega arith); limit-is = l; count-is = c }
+pub as-kind : {t : List ℕ} {i r : ℕ} → r ≡ kindAt t i → (k : ℕ) → r ≡ k → leb k 12 ≡ true → {limit count : ℕ}
+    → argumentLimit t k ≡ limit → children k ≡ count → OfKind t i k limit count
+as-kind e k f h l c = record { kind-is = sym e ∙ f; known = h; limit-is = l; count-is = c }
 
 -- all of a list are at most b
 abbrev pub Most : ℕ → List ℕ → Type 0
@@ -79,13 +79,6 @@ pub most-at : (b : ℕ) (l : List ℕ) (d : ℕ) → Most b l → d ≤ b → (k
 most-at b [] d m h k = h
 most-at b (x ∷ l) d m h zero = m .0
 most-at b (x ∷ l) d m h (suc k) = most-at b l d (m .1) h k
-
-children-few : (k : ℕ) → children k ≤ 2
-unfolding children
-children-few k = most-at 2 childCounts 0 (omega arith) (omega arith) k
-
-pub both-children : (k r : ℕ) → children k ≡ r → (r ≡ 0 → ⊥) → (r ≡ 1 → ⊥) → children k ≡ 2
-both-children k r e h g = omega (arith, children-few k)
 
 -- other kinds have no children and no argument
 pub no-children : (k : ℕ) → 13 ≤ k → children k ≡ 0

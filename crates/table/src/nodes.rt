@@ -100,18 +100,22 @@ fn place(
     ensures { λ r. ⌜ Places (now (table .entry)) (now (waiting .entry)) (now (waiting .exit)) i r ⌝ }
 {
     let k = kind_at(table, i);
-    if k >= 13 {
-        return 0;
+    match k {
+        0 => leaf(table, n, i, 0, 1, waiting, top),
+        1 => leaf(table, n, i, 1, 1, waiting, top),
+        2 => leaf(table, n, i, 2, 65536, waiting, top),
+        3 => pair(table, n, i, 3, 1, waiting, top),
+        4 => pair(table, n, i, 4, 1, waiting, top),
+        5 => body(table, n, i, 5, 1, waiting, top),
+        6 => body(table, n, i, 6, 65536, waiting, top),
+        7 => leaf(table, n, i, 7, v, waiting, top),
+        8 => leaf(table, n, i, 8, m, waiting, top),
+        9 => pair(table, n, i, 9, m, waiting, top),
+        10 => pair(table, n, i, 10, m, waiting, top),
+        11 => body(table, n, i, 11, v, waiting, top),
+        12 => body(table, n, i, 12, v, waiting, top),
+        _ => 0,
     }
-    let limit = limit_of(k, m, v);
-    let count = children_of(k);
-    if count == 0 {
-        return leaf(table, n, i, k, limit, waiting, top);
-    }
-    if count == 1 {
-        return body(table, n, i, k, limit, waiting, top);
-    }
-    pair(table, n, i, k, limit, waiting, top)
 }
 
 // A node of kind k without parts, its argument below the limit.

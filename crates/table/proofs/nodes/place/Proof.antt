@@ -1,67 +1,102 @@
+use mathlib.Core.Bool.{false≢true}
+use mathlib.Core.Path.{refl, sym, _∙_}
+use native.Mathlib.Omega.{arith}
+use borrow.Author.Needs.{needs}
+use Rattle.table.specs.Good.{children, argumentLimit}
+use Rattle.table.proofs.Judged.{as-kind, bad-kind}
+use Rattle.table.proofs.Little.{none-of}
 use Rattle.table.proofs.nodes.place.Statement.{statement}
 use Rattle.table.proofs.nodes.place.Tie as tie
-use borrow.Author.Needs.{needs}
-use mathlib.Core.Bool.{false≢true}
-use mathlib.Core.Path.{_∙_}
-use native.Mathlib.Omega.{arith}
-use Rattle.table.proofs.Judged.{bad-kind, as-kind, both-children}
 
--- return 0;
-returns : tie.Need-returns
-returns c =
+-- _ => 0,
+returns-14 : tie.Need-returns-14
+returns-14 c =
     let kind-at = c .before .kind-at in
-    let if1 = c .if1 in
-    let unknown = rw (kind-at .ensures .0) at (if1 .taken) in
+    let unknown = rw (kind-at .ensures .0) at (none-of 13 _ (c .match .rest)) in
     (λ z. absurd (omega arith), λ z g. absurd (false≢true (bad-kind _ _ unknown ∙ g)))
 
--- return leaf(table, n, i, k, limit, waiting, top);
-leaf-requires : tie.Need-leaf-requires
-leaf-requires c κs =
-    let start = c .before .before .before .before .before .before .before in
-    let kind-at = c .before .before .before .before .before .kind-at in
-    let if1 = c .before .before .before .before .if1 in
-    let limit-of = c .before .before .before .limit-of in
-    let children-of = c .before .before .children-of in
-    let if2 = c .before .if2 in
-    let F = start .pre .0 in
-    (start .pre .1, as-kind (kind-at .ensures .0) (if1 .left) (limit-of .ensures _ (F .m-is) (F .v-is)) (children-of .ensures ∙ if2 .taken))
-
--- return body(table, n, i, k, limit, waiting, top);
-body-requires : tie.Need-body-requires
-body-requires c κs =
-    let start = c .before .before .before .before .before .before .before .before in
-    let kind-at = c .before .before .before .before .before .before .kind-at in
-    let if1 = c .before .before .before .before .before .if1 in
-    let limit-of = c .before .before .before .before .limit-of in
-    let children-of = c .before .before .before .children-of in
-    let if3 = c .before .if3 in
-    let F = start .pre .0 in
-    (start .pre .1, as-kind (kind-at .ensures .0) (if1 .left) (limit-of .ensures _ (F .m-is) (F .v-is)) (children-of .ensures ∙ if3 .taken))
-
--- pair(table, n, i, k, limit, waiting, top)
-pair-requires : tie.Need-pair-requires
-pair-requires c κs =
-    let start = c .before .before .before .before .before .before .before .before in
-    let kind-at = c .before .before .before .before .before .before .kind-at in
-    let if1 = c .before .before .before .before .before .if1 in
-    let limit-of = c .before .before .before .before .limit-of in
-    let children-of = c .before .before .before .children-of in
-    let if2 = c .before .before .if2 in
-    let if3 = c .before .if3 in
-    let F = start .pre .0 in
-    let two = both-children _ _ (children-of .ensures) (if2 .left) (if3 .left) in
-    (start .pre .1, as-kind (kind-at .ensures .0) (if1 .left) (limit-of .ensures _ (F .m-is) (F .v-is)) two)
-
 pub place-spec : {M : Type 1} → statement M
+unfolding children argumentLimit
 place-spec =
-    tie.close (tie.spec
+    tie.close
+    (tie.spec
     (λ c κs. search needs)  -- kind-at-requires: let k = kind_at(table, i);
-    returns
-    (λ c κs. search needs)  -- limit-of-requires: let limit = limit_of(k, m, v);
-    (λ c κs. search needs)  -- children-of-requires: let count = children_of(k);
-    leaf-requires
-    (λ c. search needs)  -- returns-2
-    body-requires
-    (λ c. search needs)  -- returns-3
-    pair-requires
-    (λ c. search needs))  -- returns-4: fn place
+    -- leaf-requires: 0 => leaf(table, n, i, 0, 1, waiting, top),
+    (λ c κs.
+    let start = c .before .before .before .before in
+    let kind-at = c .before .before .kind-at in
+    (start .pre .1, as-kind (kind-at .ensures .0) 0 (c .before .match .keys1) refl refl refl))
+    -- leaf-requires-2: 1 => leaf(table, n, i, 1, 1, waiting, top),
+    (λ c κs.
+    let start = c .before .before .before .before in
+    let kind-at = c .before .before .kind-at in
+    (start .pre .1, as-kind (kind-at .ensures .0) 1 (c .before .match .keys2) refl refl refl))
+    -- leaf-requires-3: 2 => leaf(table, n, i, 2, 65536, waiting, top),
+    (λ c κs.
+    let start = c .before .before .before .before in
+    let kind-at = c .before .before .kind-at in
+    (start .pre .1, as-kind (kind-at .ensures .0) 2 (c .before .match .keys3) refl refl refl))
+    -- pair-requires: 3 => pair(table, n, i, 3, 1, waiting, top),
+    (λ c κs.
+    let start = c .before .before .before .before in
+    let kind-at = c .before .before .kind-at in
+    (start .pre .1, as-kind (kind-at .ensures .0) 3 (c .before .match .keys4) refl refl refl))
+    -- pair-requires-2: 4 => pair(table, n, i, 4, 1, waiting, top),
+    (λ c κs.
+    let start = c .before .before .before .before in
+    let kind-at = c .before .before .kind-at in
+    (start .pre .1, as-kind (kind-at .ensures .0) 4 (c .before .match .keys5) refl refl refl))
+    -- body-requires: 5 => body(table, n, i, 5, 1, waiting, top),
+    (λ c κs.
+    let start = c .before .before .before .before in
+    let kind-at = c .before .before .kind-at in
+    (start .pre .1, as-kind (kind-at .ensures .0) 5 (c .before .match .keys6) refl refl refl))
+    -- body-requires-2: 6 => body(table, n, i, 6, 65536, waiting, top),
+    (λ c κs.
+    let start = c .before .before .before .before in
+    let kind-at = c .before .before .kind-at in
+    (start .pre .1, as-kind (kind-at .ensures .0) 6 (c .before .match .keys7) refl refl refl))
+    -- leaf-requires-4: 7 => leaf(table, n, i, 7, v, waiting, top),
+    (λ c κs.
+    let start = c .before .before .before .before in
+    let kind-at = c .before .before .kind-at in
+    (start .pre .1, as-kind (kind-at .ensures .0) 7 (c .before .match .keys8) refl (sym (start .pre .0 .v-is)) refl))
+    -- leaf-requires-5: 8 => leaf(table, n, i, 8, m, waiting, top),
+    (λ c κs.
+    let start = c .before .before .before .before in
+    let kind-at = c .before .before .kind-at in
+    (start .pre .1, as-kind (kind-at .ensures .0) 8 (c .before .match .keys9) refl (sym (start .pre .0 .m-is)) refl))
+    -- pair-requires-3: 9 => pair(table, n, i, 9, m, waiting, top),
+    (λ c κs.
+    let start = c .before .before .before .before in
+    let kind-at = c .before .before .kind-at in
+    (start .pre .1, as-kind (kind-at .ensures .0) 9 (c .before .match .keys10) refl (sym (start .pre .0 .m-is)) refl))
+    -- pair-requires-4: 10 => pair(table, n, i, 10, m, waiting, top),
+    (λ c κs.
+    let start = c .before .before .before .before in
+    let kind-at = c .before .before .kind-at in
+    (start .pre .1, as-kind (kind-at .ensures .0) 10 (c .before .match .keys11) refl (sym (start .pre .0 .m-is)) refl))
+    -- body-requires-3: 11 => body(table, n, i, 11, v, waiting, top),
+    (λ c κs.
+    let start = c .before .before .before .before in
+    let kind-at = c .before .before .kind-at in
+    (start .pre .1, as-kind (kind-at .ensures .0) 11 (c .before .match .keys12) refl (sym (start .pre .0 .v-is)) refl))
+    -- body-requires-4: 12 => body(table, n, i, 12, v, waiting, top),
+    (λ c κs.
+    let start = c .before .before .before .before in
+    let kind-at = c .before .before .kind-at in
+    (start .pre .1, as-kind (kind-at .ensures .0) 12 (c .before .match .keys13) refl (sym (start .pre .0 .v-is)) refl))
+    (λ c. c .leaf .ensures)  -- returns
+    (λ c. c .leaf2 .ensures)  -- returns-2
+    (λ c. c .leaf3 .ensures)  -- returns-3
+    (λ c. c .pair .ensures)  -- returns-4
+    (λ c. c .pair2 .ensures)  -- returns-5
+    (λ c. c .body .ensures)  -- returns-6
+    (λ c. c .body2 .ensures)  -- returns-7
+    (λ c. c .leaf4 .ensures)  -- returns-8
+    (λ c. c .leaf5 .ensures)  -- returns-9
+    (λ c. c .pair3 .ensures)  -- returns-10
+    (λ c. c .pair4 .ensures)  -- returns-11
+    (λ c. c .body3 .ensures)  -- returns-12
+    (λ c. c .body4 .ensures)  -- returns-13
+    returns-14)
