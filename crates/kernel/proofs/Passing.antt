@@ -1,5 +1,5 @@
 -- An instant in the code's hands: what holds before each pass, what a pass that suspends leaves of it, and what one that ends it gives.
-use Prim.Native.Nat.{ℕ, suc, _+_, _-_, _*_, _≤_}
+use Prim.Native.Nat.{ℕ, suc, _+_, _-_, _*_, _≤_, _<_}
 use mathlib.Core.Bool.{Bool, true, false, cond}
 use mathlib.Core.Path.{_≡_, refl, ap, sym, _∙_}
 use mathlib.Core.Logic.{_≢_}
@@ -8,10 +8,11 @@ use native.Mathlib.Nat.{zero-add}
 use native.Mathlib.Omega.{arith}
 use mir.Val.{boolByte}
 use lib.Dec.{eqb, ltb}
-use lib.ListN.{length, getD, take, drop, set, replicate, length-append, length-set, drop-of-length-le}
+use lib.ListN.{length, getD, take, drop, set, replicate, length-append, length-set, length-replicate, drop-of-length-le}
 use lib.Seq.{take-at, take-all, drop-append-add, drop-drop}
 use borrow.Author.Tests.{ltb-true, ltb-false, ne-eqb, eq-eqb}
-use Rattle.events.specs.Events.{Events}
+use Rattle.events.specs.declared.EventSet.{EventSet}
+use Rattle.events.specs.Events.{Events, howMany, lowest}
 use Rattle.events.specs.Members.{places, marks, members}
 use Rattle.junior.specs.declared.Flag.{Flag}
 use Rattle.junior.specs.declared.Flag.the-variants.{SUSP, TERM}
@@ -27,13 +28,19 @@ use Rattle.junior.proofs.Kept.{kept}
 use Rattle.junior.proofs.Grows.{end-kept}
 use Rattle.junior.proofs.Going.{rest-going, stands}
 use Rattle.junior.proofs.End.{ended}
-use Rattle.junior.proofs.Figures.{pot, cost-A, suspends, pot-at-rest}
+use Rattle.junior.proofs.Figures.{pot, pot-at-rest}
 use Rattle.junior.proofs.Instants.{uses-up, goes-on}
 use Rattle.table.specs.Records.{nodes}
 use Rattle.table.proofs.Tree.{size-pos}
 use Rattle.steps.specs.StateBytes.{zeros, below, stateBytes}
-use Rattle.steps.specs.Running.{atoms-done, envOf, Ready, Ran, Wrote}
+use Rattle.steps.specs.Running.{atoms-done, envOf, Any, Ready, Ran, Wrote}
+use Rattle.steps.specs.Numbers.{event-words, moved-at, ended-at, places-of-row, wordsOf, tallyOf, firstNumbers, nextNumbers, Numbers}
+use Rattle.steps.specs.Flags.{flagOf}
+use Rattle.steps.specs.Kinds.{all-seen}
+use Rattle.steps.specs.Lent.{lent, Stands, Went, CanRun, HasRun}
 use Rattle.steps.proofs.Parts.{len-bytes}
+use Rattle.steps.proofs.Done.{wrote-long, few}
+use Rattle.steps.proofs.Row.{still, tally-1, tally-2, first-words, first-tally, first-holds, next-words, next-holds}
 use Rattle.kernel.specs.declared.Answer.{Answer}
 use Rattle.kernel.specs.Answer.{Run, ended as ended-by}
 use Rattle.kernel.specs.Passes.{Startable, Reported}
@@ -125,8 +132,7 @@ module _ {table : List ℕ} {t₀ : Term} {X : Events} {row₀ state words row t
     ends h = u .onward 1 _ (r47 (ran .rewrites) h)
 
   -- a pass that suspends leads to the next
-  module _ {state′ words′ row′ tally′ : List ℕ} (ran : Ran root (u .term) words row tally state′ words′ row′ tally′ SUSP)
-      (row-kept : length row′ ≡ length row) where
+  module _ {state′ words′ row′ tally′ : List ℕ} (ran : Ran root (u .term) words row tally state′ words′ row′ tally′ SUSP) where
     not-ended : envOf words tally .eoi ≡ false
     not-ended = go (envOf words tally .eoi) refl
       where
@@ -136,9 +142,9 @@ module _ {table : List ℕ} {t₀ : Term} {X : Events} {row₀ state words row t
 
     room-left : atoms-done tally′ + pot (per 2) (ran .to) ≤ length row′
     room-left =
-        let spent = suspends (per 2) (ran .rewrites) (u .ready .loops) refl in
-        let more = ran .wrote .done-is in
-        omega (arith, u .ready .room, cost-A (ran .acts))
+        let spent = few ran (u .ready .loops) in
+        let same = wrote-long (ran .wrote) (omega (arith, u .ready .room)) in
+        omega (arith, u .ready .room, ran .wrote .done-is)
 
     ready-again : Ready 0 table 0 state′ words′ row′ (next-tally tally′) (ran .to)
     ready-again = record {
@@ -237,15 +243,23 @@ module _ {table : List ℕ} {t₀ : Term} {X : Events} {row₀ state words row t
       let (p, e) = stands (ran .rewrites) (u .ready .going) in
       rw (ran .bytes, e) (ended-bytes p)
 
+  -- node 0 has bytes
+  pub some-bytes : Ran root (u .term) words row tally state′ words′ row′ tally′ TERM → 0 < length state′
+  some-bytes ran =
+      let p = prog (ran .to) in
+      let n = ap length (ran .bytes) ∙ length-replicate {A = ℕ} (4 * size p) 0 in
+      omega (arith, size-pos p)
+
 -- the answer of an instant that has ended
 pub run-of : {t s row₀ state words row tally : List ℕ} {X : Events} {passes : ℕ} (b : Startable t s row₀)
     (u : Underway t (b .term) X row₀ state words row tally passes) {state′ words′ row′ tally′ : List ℕ} {α : Flag}
     (ran : Ran root (u .term) words row tally state′ words′ row′ tally′ α)
     → α ≢ SUSP
     → {s′ : List ℕ} → s′ ≡ stateBytes (ran .to)
-    → {r : Answer} → Reported (record { words = words′ }) (atoms-done tally′) (ended-by α) (passes + 1) r
+    → {events : EventSet} → events .words ≡ words′
+    → {r : Answer} → Reported events (atoms-done tally′) (ended-by α) (passes + 1) r
     → Run t s X row₀ s′ row′ r
-run-of {t} {s} {row₀ = row₀} {words = words} {tally = tally} b u {words′ = words′} {row′ = row′} {tally′ = tally′} {α} ran h {s′} e {r} o =
+run-of {t} {s} {row₀ = row₀} {words = words} {tally = tally} b u {words′ = words′} {row′ = row′} {tally′ = tally′} {α} ran h {s′} e w {r} o =
     let all : take (4 * nodes t) s ≡ s = take-all (4 * nodes t) s (omega (arith, b .long)) in
     let none : drop (4 * nodes t) s ≡ [] = drop-of-length-le s {i = 4 * nodes t} (omega (arith, b .long)) in
     record {
@@ -255,11 +269,63 @@ run-of {t} {s} {row₀ = row₀} {words = words} {tally = tally} b u {words′ =
       at-rest = b .at-rest;
       result = answers α (ran .to) (envOf words′ tally′) (all-acts u ran);
       instant = rw (o .passes-are) (ends u ran h);
-      events-are = ap members (o .events-are);
-      count-is = o .count-is;
-      lowest-is = o .lowest-is;
+      events-are = ap members (o .events-are) ∙ ap marks w;
+      count-is = o .count-is ∙ ap (λ l. howMany places (marks l)) w;
+      lowest-is = o .lowest-is ∙ ap (λ l. lowest places (marks l)) w;
       atoms-are = o .atoms-are ∙ done-after u ran;
       finished-is = o .finished-is;
       state-is = e ∙ (sym (append-nil (stateBytes (ran .to))) ∙ ap (λ l. stateBytes (ran .to) ++ l) (sym none));
       row-is = row-after u ran ∙ ap (λ n. atoms (all-acts u ran) ++ drop n row₀) (sym (o .atoms-are ∙ done-after u ran));
     }
+
+-- the tally of the row between two passes
+next-tallied : (m : List ℕ) → length m ≡ places-of-row → tallyOf (nextNumbers m) ≡ next-tally (tallyOf m)
+next-tallied m l =
+    let declared = set m ended-at (boolByte (eqb (getD m moved-at 0) 0)) in
+    tally-1 declared 0 (length-set m ended-at _ ∙ l) ∙ ap (λ x. set x 1 0) (tally-2 m _ l)
+
+-- the row before the first pass has the words handed in
+pub handed-words : (table words : List ℕ) → length words ≡ event-words → (base : ℕ) {m : List ℕ} → m ≡ firstNumbers words base → wordsOf m ≡ words
+handed-words table words l base e = ap wordsOf e ∙ first-words table words l base
+
+-- before the first pass, by the row
+pub begins-by : {table state row : List ℕ} (words : List ℕ) (b : Startable table state row) → length words ≡ event-words
+    → {m : List ℕ} → m ≡ firstNumbers words (6 * nodes table)
+    → Underway table (b .term) (marks (wordsOf m)) row state (wordsOf m) row (tallyOf m) 0 × Numbers table m
+begins-by {table} words b l e =
+    let base = 6 * nodes table in
+    rw (e, first-words table words l base, first-tally table words l base) (begins words b (ap (λ n. 64 * n) l), first-holds table words l)
+
+module _ {table : List ℕ} {t₀ : Term} {X : Events} {row₀ state m row : List ℕ} {passes : ℕ}
+    (u : Underway table t₀ X row₀ state (wordsOf m) row (tallyOf m) passes) (n : Numbers table m) where
+  -- node 0 can be run: its bytes are all of the state
+  whole : Stands all-seen Any (lent table state m row) 0 [] state []
+  whole = record {
+    around = record { split = sym (append-nil state); starts = refl };
+    numbers = n;
+    live = (u .term, tt, u .ready);
+  }
+
+  pub can-pass : CanRun all-seen Any (lent table state m row) 0
+  can-pass = ([], state, [], whole)
+
+  module _ {state′ m′ row′ : List ℕ} {r : ℕ} (run : HasRun all-seen Any (lent table state m row) 0 (lent table state′ m′ row′) r) where
+    went : Went all-seen Any (lent table state m row) 0 [] state [] (lent table state′ m′ row′) r
+    went = run [] state [] whole
+
+    pub ran-by : {α : Flag} → flagOf r ≡ α → Ran root (u .term) (wordsOf m) row (tallyOf m) state′ (wordsOf m′) row′ (tallyOf m′) α
+    ran-by e =
+        let all : went .part′ ≡ state′ = sym (went .around .split ∙ append-nil (went .part′)) in
+        rw (all, e) at (went .runs (u .term) tt (u .ready) root refl)
+
+    pub row-holds : Numbers table m′
+    row-holds = still n (went .kept)
+
+    -- neither STOP nor TERM: another pass
+    pub goes-by : r ≢ 1 → r ≢ 2 → Underway table t₀ X row₀ state′ (wordsOf (nextNumbers m′)) row′ (tallyOf (nextNumbers m′)) (passes + 1)
+    goes-by x y =
+        let suspended : r ≡ 0 = omega (arith, went .below) in
+        rw (next-words m′, next-tallied m′ (row-holds .long)) (goes u (ran-by (ap flagOf suspended)))
+
+    pub next-row-holds : Numbers table (nextNumbers m′)
+    next-row-holds = next-holds row-holds

@@ -23,7 +23,7 @@ use Rattle.table.proofs.Loaded.{all-nodes}
 use Rattle.steps.specs.StateBytes.{Own, head, before, in-phase, zeros, below, stateBytes}
 use Rattle.steps.proofs.Parts.{blank}
 use Rattle.steps.proofs.Shape.{Shape, is-done, is-local, shape-by}
-use Rattle.steps.proofs.Leaves.{no-sign}
+use Rattle.steps.proofs.LeafParts.{no-sign}
 use Rattle.kernel.specs.Resting.{phaseAt, flagsAt, countAt, zeroNodes, firstZero, secondZero, belowZero}
 use Rattle.kernel.specs.Resting.{phaseRests}
 use Rattle.kernel.specs.Resting.{flagsRest, countRests, rests, blamed}

@@ -7,8 +7,15 @@ ghost use Rattle.kernel.specs.Passes.{Startable, RanBehind, Reported};
 use crate::Answer;
 use crate::Outcome;
 use events::EventSet;
-use junior::Flag;
-use runner::run_node;
+use runner::run_child;
+use steps::flags::STOP;
+use steps::flags::TERM;
+use steps::numbers::ATOMS;
+use steps::numbers::events_of;
+use steps::numbers::first_numbers;
+use steps::numbers::next_pass;
+use steps::phases::GONE;
+use table::records::word_at;
 
 // Passes from node 0 until one answers STOP or TERM (01, "Instant"). All that stands here is walked by hand: the slices are handed on as
 // references of one register each, which no slice that is a parameter can be lent as otherwise.
@@ -26,23 +33,20 @@ fn run_from(table: &[u8], state: &mut &mut [u8], events: EventSet, atoms: &mut &
     requires { ⌜ Startable (now table) (now (now state)) (now (now atoms)) ⌝ }
     ensures { λ r. ⌜ RanBehind (now (table .entry)) (now (state .entry)) (members events) (now (atoms .entry)) (now (state .exit)) (now (atoms .exit)) r ⌝ }
 {
-    let mut words = events.words;
-    let mut tally = [0usize; 3];
+    let nodes = word_at(table, table.len() - 10);
+    let mut numbers = first_numbers(events, 6 * nodes);
     let mut passes = 0;
     loop {
         passes += 1;
-        let flag = run_node(table, 0, *state, &mut words, *atoms, &mut tally);
-        match flag {
-            Flag::SUSP => {
-                tally[2] = (tally[1] == 0) as usize;
-                tally[1] = 0;
-            }
-            Flag::STOP => return report(EventSet { words }, tally[0], false, passes),
-            Flag::TERM => {
-                state[0] = 3;
-                return report(EventSet { words }, tally[0], true, passes);
-            }
+        let flag = run_child(&table, 0, state, &mut numbers, atoms);
+        if flag == STOP {
+            return report(events_of(&numbers), numbers[ATOMS] as usize, false, passes);
         }
+        if flag == TERM {
+            state[0] = GONE;
+            return report(events_of(&numbers), numbers[ATOMS] as usize, true, passes);
+        }
+        next_pass(&mut numbers);
     }
 }
 

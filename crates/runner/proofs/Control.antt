@@ -24,7 +24,7 @@ use Rattle.steps.proofs.Shape.{Shape, is-done, is-control, shape-by}
 use Rattle.steps.proofs.Frames.{control-body}
 use Rattle.steps.proofs.Children.{falling, only-cut, first-at}
 use Rattle.runner.proofs.Only.{only-asks, only-ran}
-use Rattle.runner.proofs.Tally.{not-ended, is-ended}
+use Rattle.steps.proofs.Tally.{not-ended, is-ended}
 use Rattle.steps.proofs.Done.{phase-0-left, ran-alone, ran-kept}
 
 pub data Controls : Term → Type 0 where

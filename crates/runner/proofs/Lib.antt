@@ -1,8 +1,7 @@
+pub mod Falling
 pub mod Seq
-pub mod Node
 pub mod Par
 pub mod Joined
-pub mod Tally
 pub mod Only
 pub mod Control
 pub mod Loop
@@ -10,3 +9,13 @@ pub mod Repeat
 pub mod Local
 pub mod When
 pub mod Until
+pub mod GoesOn
+pub mod WhenRuns
+pub mod UntilRuns
+pub mod ParRuns
+pub mod HalfRuns
+pub mod SeqRuns
+pub mod RepeatRuns
+pub mod LoopRuns
+pub mod ControlRuns
+pub mod LocalRuns

@@ -28,7 +28,7 @@ use Rattle.steps.specs.Running.{envOf, Ready, Wrote, SameLengths, Ran, Live, Ru
 use Rattle.steps.specs.Running.{RightSuspended, parEnd, atoms-done}
 use Rattle.steps.proofs.Parts.{first-of, with-first, rest-of, with-rest, len-bytes}
 use Rattle.steps.proofs.Shape.{Shape, is-done, is-par, shape-by}
-use Rattle.steps.proofs.Flags.{code-same, code-below, both-are}
+use Rattle.steps.proofs.FlagTables.{code-same, code-below, both-are}
 use Rattle.steps.proofs.Children.{asks-for, at-node, falling, first-at, second-at, byte-is}
 use Rattle.runner.proofs.Joined.{Two, first-part, put-first, ends, second-part, put-second}
 use Rattle.runner.proofs.Joined.{end-asks, unchanged}

@@ -193,17 +193,17 @@ module _ {table : List ℕ} {i : ℕ} {state words row tally : List ℕ} where
         (omega (arith, h .going .0), rest-going _ (fresh (prog x)) (fresh-at-rest (prog x)))
         (room-after h g (repeat1 n k (fresh (prog x))) (simp (ends-unheld (g .rewrites)) (omega arith)))
 
-    next-live : {t : Term} {k : ℕ} → InRun k t → Ready 4 table i state words row tally t → α ≡ TERM → k ≢ 0
+    pub next-live : {t : Term} {k : ℕ} → InRun k t → Ready 4 table i state words row tally t → α ≡ TERM → k ≢ 0
         → Live 4 (Times (k - 1)) table i (putMid 4 (length state - 4) state s) words′ row′ tally′
     unfolding prog kind
     next-live (in-run n zero x) h a l = absurd (l refl)
     next-live (in-run n (suc k) x) h a l = (repeat1 n k (fresh (prog x)), (refl, refl, omega arith), next n k x h a)
 
-    next-flags : {t : Term} {k : ℕ} → InRun k t → Ready 4 table i state words row tally t → getD state 1 0 ≡ 0
+    pub next-flags : {t : Term} {k : ℕ} → InRun k t → Ready 4 table i state words row tally t → getD state 1 0 ≡ 0
         → getD (putMid 4 (length state - 4) state s) 1 0 ≡ 0
     next-flags (in-run n k x) h z = ap (λ y. getD y 1 0) (back n k x h) ∙ z
 
-    times-again : {t : Term} {k : ℕ} → InRun k t → Ready 4 table i state words row tally t → α ≡ TERM → k ≢ 0
+    pub times-again : {t : Term} {k : ℕ} → InRun k t → Ready 4 table i state words row tally t → α ≡ TERM → k ≢ 0
         → {state″ words″ row″ tally″ : List ℕ} {β : Flag}
         → Runs 4 (Times (k - 1)) table i (putMid 4 (length state - 4) state s) words′ row′ tally′ state″ words″ row″ tally″ β
         → (P : Place)

@@ -1,450 +1,560 @@
-// The runner: a function a form, which run their children by `run_node`. A node that answers TERM leaves its subtree's bytes all zero; whoever
-// keeps it in sight marks it as phase 3.
+// A pass: one function a form; a child is run by `run_child`. A node that answers TERM leaves its subtree's bytes all zero; whoever keeps it in
+// sight marks it as phase 3. A form runs a nested node of its own form by itself: so the compiler keeps each form apart, and a leaf
+// doesn't pay for the registers of the largest form.
 ghost use mathlib.Core.Path.{_≡_};
+ghost use Prim.Native.Nat.{_+_, _*_};
 ghost use lib.ListN.{getD};
-ghost use Rattle.steps.specs.Running.{Live, Runs, Any, Kind, Phase, KindPhase, Times, LeftSuspended, RightSuspended};
-use events::WORDS;
-use events::mark;
+ghost use Rattle.steps.specs.Running.{Any, Times};
+ghost use Rattle.steps.specs.Kinds.{all-seen, phase-unseen, own-unseen, OfKind, BothSuspended, NotBoth};
+ghost use Rattle.steps.specs.Kinds.{Others, InSecond, InThen, Beginning, Starred};
+ghost use Rattle.steps.specs.Kinds.{seq-kind, loop-kind, repeat-kind, when-kind, until-kind, control-kind, local-kind};
+ghost use Rattle.steps.specs.Lent.{held, CanRun, HasRun, Named};
 use events::marked;
-use junior::Flag;
-use junior::Verdict;
-use steps::begun;
-use steps::both_suspended;
-use steps::clear;
-use steps::flag_of;
-use steps::par_end;
-use steps::phase_after;
-use steps::read_test;
-use steps::reset;
-use steps::run_atom;
-use steps::run_await;
-use steps::run_done;
-use steps::run_generate;
-use steps::run_stop;
-use steps::sign_after;
+use steps::flags::STOP;
+use steps::flags::SUSP;
+use steps::flags::TERM;
+use steps::flags::both_ran;
+use steps::flags::par_end;
+use steps::flags::phase_after;
+use steps::flags::sign_after;
+use steps::kinds;
+use steps::leaves::UNKNOWN;
+use steps::leaves::UNSAT;
+use steps::leaves::run_atom;
+use steps::leaves::run_await;
+use steps::leaves::run_generate;
+use steps::leaves::run_nothing;
+use steps::leaves::run_stop;
+use steps::leaves::test_rank;
+use steps::numbers::ENDED;
+use steps::numbers::NUMBERS;
+use steps::numbers::enter_scope;
+use steps::numbers::leave_scope;
+use steps::phases::BEGUN;
+use steps::phases::COUNT;
+use steps::phases::FLAGS;
+use steps::phases::GONE;
+use steps::phases::PLUS;
+use steps::phases::SECOND;
+use steps::phases::STARRED;
+use steps::phases::THEN;
+use steps::phases::begin_turn;
+use steps::phases::both_suspended;
+use steps::phases::clear_part;
+use steps::phases::end_turns;
+use steps::phases::fresh_par;
+use steps::phases::half_par;
+use steps::phases::turns_of;
 use table::records::argument_at;
 use table::records::kind_at;
-use table::records::size_at;
-use table::records::word_at;
+use table::records::second_at;
 
-// Runs node i once.
-pub fn run_node(
-    table: &[u8],
+// Runs node i once. The most frequent kinds are told apart first.
+pub fn run_child(
+    table: &&[u8],
     i: usize,
-    state: &mut [u8],
-    words: &mut [u64; WORDS],
-    atoms: &mut [u16],
-    tally: &mut [usize; 3],
-) -> Flag
-    requires { ⌜ Live 0 Any (now table) i (now state) (now words) (now atoms) (now tally) ⌝ }
-    ensures { λ r. ⌜ Runs 0 Any (now (table .entry)) i (now (state .entry)) (now (words .entry)) (now (atoms .entry)) (now (tally .entry)) (now (state .exit)) (now (words .exit)) (now (atoms .exit)) (now (tally .exit)) r ⌝ }
+    state: &mut &mut [u8],
+    numbers: &mut [u64; NUMBERS],
+    atoms: &mut &mut [u16],
+) -> u8
+    requires { ⌜ CanRun all-seen Any (held table state numbers atoms) i ⌝ }
+    ensures { λ r.
+        ⌜ HasRun all-seen Any (held (table .entry) (state .entry) (numbers .entry) (atoms .entry)) i
+        (held (table .exit) (state .exit) (numbers .exit) (atoms .exit)) r ⌝ }
+    ensures { λ r. ⌜ Named (now (state .entry)) (now (state .exit)) (now (atoms .entry)) (now (atoms .exit)) ⌝ }
 {
-    if state[0] == 3 {
-        return run_done(table, i, state, words, atoms, tally);
+    let kind = kind_at(*table, i);
+    if kind == kinds::PAR {
+        if both_suspended(state[4 * i], state[4 * i + FLAGS]) {
+            return run_par(table, i, state, numbers, atoms);
+        }
+        return run_half(table, i, state, numbers, atoms);
     }
-    let k = kind_at(table, i);
-    match k {
-        0 => Flag::TERM,
-        1 => run_stop(table, i, state, words, atoms, tally),
-        2 => run_atom(table, i, state, words, atoms, tally),
-        3 => run_seq(table, i, state, words, atoms, tally),
-        4 => run_par(table, i, state, words, atoms, tally),
-        5 => run_loop(table, i, state, words, atoms, tally),
-        6 => run_repeat(table, i, state, words, atoms, tally),
-        7 => run_generate(table, i, state, words, atoms, tally),
-        8 => run_await(table, i, state, words, atoms, tally),
-        9 => run_when(table, i, state, words, atoms, tally),
-        10 => run_until(table, i, state, words, atoms, tally),
-        11 => run_control(table, i, state, words, atoms, tally),
-        _ => run_local(table, i, state, words, atoms, tally),
+    if kind == kinds::AWAIT {
+        return run_await(table, i, state, numbers, atoms);
     }
+    if kind == kinds::SEQ {
+        return run_seq(table, i, state, numbers, atoms);
+    }
+    run_other(table, i, state, numbers, atoms)
+}
+
+// A node of another kind.
+fn run_other(
+    table: &&[u8],
+    i: usize,
+    state: &mut &mut [u8],
+    numbers: &mut [u64; NUMBERS],
+    atoms: &mut &mut [u16],
+) -> u8
+    requires { ⌜ CanRun all-seen Others (held table state numbers atoms) i ⌝ }
+    ensures { λ r.
+        ⌜ HasRun all-seen Others (held (table .entry) (state .entry) (numbers .entry) (atoms .entry)) i
+        (held (table .exit) (state .exit) (numbers .exit) (atoms .exit)) r ⌝ }
+    ensures { λ r. ⌜ Named (now (state .entry)) (now (state .exit)) (now (atoms .entry)) (now (atoms .exit)) ⌝ }
+{
+    let kind = kind_at(*table, i);
+    match kind {
+        kinds::NOTHING => run_nothing(table, i, state, numbers, atoms),
+        kinds::STOP => run_stop(table, i, state, numbers, atoms),
+        kinds::ATOM => run_atom(table, i, state, numbers, atoms),
+        kinds::LOOP => run_loop(table, i, state, numbers, atoms),
+        kinds::REPEAT => run_repeat(table, i, state, numbers, atoms),
+        kinds::GENERATE => run_generate(table, i, state, numbers, atoms),
+        kinds::WHEN => run_when(table, i, state, numbers, atoms),
+        kinds::UNTIL => run_until(table, i, state, numbers, atoms),
+        kinds::CONTROL => run_control(table, i, state, numbers, atoms),
+        _ => run_local(table, i, state, numbers, atoms),
+    }
+}
+
+// Rule 8: both branches run.
+fn run_par(
+    table: &&[u8],
+    i: usize,
+    state: &mut &mut [u8],
+    numbers: &mut [u64; NUMBERS],
+    atoms: &mut &mut [u16],
+) -> u8
+    requires { ⌜ CanRun all-seen BothSuspended (held table state numbers atoms) i ⌝ }
+    ensures { λ r.
+        ⌜ HasRun all-seen BothSuspended (held (table .entry) (state .entry) (numbers .entry) (atoms .entry)) i
+        (held (table .exit) (state .exit) (numbers .exit) (atoms .exit)) r ⌝ }
+    ensures { λ r. ⌜ Named (now (state .entry)) (now (state .exit)) (now (atoms .entry)) (now (atoms .exit)) ⌝ }
+{
+    let f = run_child(table, i + 1, state, numbers, atoms);
+    let second = second_at(*table, i);
+    if fresh_par(
+        kind_at(*table, second),
+        state[4 * second],
+        state[4 * second + FLAGS],
+    ) {
+        let g = run_par(table, second, state, numbers, atoms);
+        return both_ran(*state, 4 * i, 4 * second, f, g);
+    }
+    let g = run_child(table, second, state, numbers, atoms);
+    both_ran(*state, 4 * i, 4 * second, f, g)
+}
+
+// Rules 10 and 11: a branch flagged STOP or TERM is not run.
+fn run_half(
+    table: &&[u8],
+    i: usize,
+    state: &mut &mut [u8],
+    numbers: &mut [u64; NUMBERS],
+    atoms: &mut &mut [u16],
+) -> u8
+    requires { ⌜ CanRun all-seen NotBoth (held table state numbers atoms) i ⌝ }
+    ensures { λ r.
+        ⌜ HasRun all-seen NotBoth (held (table .entry) (state .entry) (numbers .entry) (atoms .entry)) i
+        (held (table .exit) (state .exit) (numbers .exit) (atoms .exit)) r ⌝ }
+    ensures { λ r. ⌜ Named (now (state .entry)) (now (state .exit)) (now (atoms .entry)) (now (atoms .exit)) ⌝ }
+{
+    if state[4 * i] == GONE {
+        state[4 * i] = 0;
+        return TERM;
+    }
+    let flags = state[4 * i + FLAGS];
+    let second = second_at(*table, i);
+    let f = flags % 4;
+    if f == SUSP {
+        let g = flags / 4;
+        let f = run_child(table, i + 1, state, numbers, atoms);
+        return par_end(*state, 4 * i, 4 * second, f, g);
+    }
+    if half_par(
+        kind_at(*table, second),
+        state[4 * second],
+        state[4 * second + FLAGS],
+    ) {
+        let g = run_half(table, second, state, numbers, atoms);
+        return par_end(*state, 4 * i, 4 * second, f, g);
+    }
+    let g = run_child(table, second, state, numbers, atoms);
+    par_end(*state, 4 * i, 4 * second, f, g)
 }
 
 // Rules 4 and 5.
 fn run_seq(
-    table: &[u8],
+    table: &&[u8],
     i: usize,
-    state: &mut [u8],
-    words: &mut [u64; WORDS],
-    atoms: &mut [u16],
-    tally: &mut [usize; 3],
-) -> Flag
-    requires { ⌜ Live 0 (Kind 3) (now table) i (now state) (now words) (now atoms) (now tally) ⌝ }
-    ensures { λ r. ⌜ Runs 0 (Kind 3) (now (table .entry)) i (now (state .entry)) (now (words .entry)) (now (atoms .entry)) (now (tally .entry)) (now (state .exit)) (now (words .exit)) (now (atoms .exit)) (now (tally .exit)) r ⌝ }
+    state: &mut &mut [u8],
+    numbers: &mut [u64; NUMBERS],
+    atoms: &mut &mut [u16],
+) -> u8
+    requires { ⌜ CanRun all-seen (OfKind seq-kind) (held table state numbers atoms) i ⌝ }
+    ensures { λ r.
+        ⌜ HasRun all-seen (OfKind seq-kind) (held (table .entry) (state .entry) (numbers .entry) (atoms .entry)) i
+        (held (table .exit) (state .exit) (numbers .exit) (atoms .exit)) r ⌝ }
+    ensures { λ r. ⌜ Named (now (state .entry)) (now (state .exit)) (now (atoms .entry)) (now (atoms .exit)) ⌝ }
 {
-    if state[0] == 2 {
-        return run_second(table, i, state, words, atoms, tally);
+    let phase = state[4 * i];
+    if phase == GONE {
+        state[4 * i] = 0;
+        return TERM;
     }
-    let n = size_at(table, i + 1);
-    let f = run_node(table, i + 1, &mut state[4..4 + 4 * n], words, atoms, tally);
-    match f {
-        Flag::TERM => run_second(table, i, state, words, atoms, tally),
-        _ => f,
+    if phase == SECOND {
+        return run_second(table, i, state, numbers, atoms);
     }
+    let f = run_child(table, i + 1, state, numbers, atoms);
+    if f != TERM {
+        return f;
+    }
+    let second = second_at(*table, i);
+    if kind_at(*table, second) == kinds::SEQ {
+        let g = run_seq(table, second, state, numbers, atoms);
+        state[4 * i] = phase_after(g, SECOND);
+        return g;
+    }
+    run_second(table, i, state, numbers, atoms)
 }
 
 // A Seq, When or Until that has gone over, or now goes over, into its second child: phase 2 until that ends.
 fn run_second(
-    table: &[u8],
+    table: &&[u8],
     i: usize,
-    state: &mut [u8],
-    words: &mut [u64; WORDS],
-    atoms: &mut [u16],
-    tally: &mut [usize; 3],
-) -> Flag
-    requires { ⌜ Live 1 (Phase 2) (now table) i (now state) (now words) (now atoms) (now tally) ⌝ }
-    ensures { λ r. ⌜ Runs 1 (Phase 2) (now (table .entry)) i (now (state .entry)) (now (words .entry)) (now (atoms .entry)) (now (tally .entry)) (now (state .exit)) (now (words .exit)) (now (atoms .exit)) (now (tally .exit)) r ⌝ }
+    state: &mut &mut [u8],
+    numbers: &mut [u64; NUMBERS],
+    atoms: &mut &mut [u16],
+) -> u8
+    requires { ⌜ CanRun phase-unseen InSecond (held table state numbers atoms) i ⌝ }
+    ensures { λ r.
+        ⌜ HasRun phase-unseen InSecond (held (table .entry) (state .entry) (numbers .entry) (atoms .entry)) i
+        (held (table .exit) (state .exit) (numbers .exit) (atoms .exit)) r ⌝ }
+    ensures { λ r. ⌜ Named (now (state .entry)) (now (state .exit)) (now (atoms .entry)) (now (atoms .exit)) ⌝ }
 {
-    let n = size_at(table, i + 1);
-    let f = run_node(
-        table,
-        i + 1 + n,
-        &mut state[4 + 4 * n..],
-        words,
-        atoms,
-        tally,
-    );
-    state[0] = phase_after(f, 2);
+    let second = second_at(*table, i);
+    let f = run_child(table, second, state, numbers, atoms);
+    state[4 * i] = phase_after(f, SECOND);
     f
-}
-
-// Rules 8, 10 and 11: a branch flagged STOP or TERM is not run. Where both stay suspended, the flags are as they were.
-fn run_par(
-    table: &[u8],
-    i: usize,
-    state: &mut [u8],
-    words: &mut [u64; WORDS],
-    atoms: &mut [u16],
-    tally: &mut [usize; 3],
-) -> Flag
-    requires { ⌜ Live 0 (Kind 4) (now table) i (now state) (now words) (now atoms) (now tally) ⌝ }
-    ensures { λ r. ⌜ Runs 0 (Kind 4) (now (table .entry)) i (now (state .entry)) (now (words .entry)) (now (atoms .entry)) (now (tally .entry)) (now (state .exit)) (now (words .exit)) (now (atoms .exit)) (now (tally .exit)) r ⌝ }
-{
-    let flags = state[1];
-    if flags != 0 {
-        if flags % 4 == 0 {
-            return run_left(table, i, state, words, atoms, tally);
-        }
-        return run_right(table, i, state, words, atoms, tally);
-    }
-    let n = size_at(table, i + 1);
-    let f = run_node(table, i + 1, &mut state[4..4 + 4 * n], words, atoms, tally);
-    let g = run_node(
-        table,
-        i + 1 + n,
-        &mut state[4 + 4 * n..],
-        words,
-        atoms,
-        tally,
-    );
-    if both_suspended(f, g) {
-        return Flag::SUSP;
-    }
-    par_end(state, 4 + 4 * n, f, g)
-}
-
-// Rule 10.
-fn run_left(
-    table: &[u8],
-    i: usize,
-    state: &mut [u8],
-    words: &mut [u64; WORDS],
-    atoms: &mut [u16],
-    tally: &mut [usize; 3],
-) -> Flag
-    requires { ⌜ Live 0 LeftSuspended (now table) i (now state) (now words) (now atoms) (now tally) ⌝ }
-    ensures { λ r. ⌜ Runs 0 LeftSuspended (now (table .entry)) i (now (state .entry)) (now (words .entry)) (now (atoms .entry)) (now (tally .entry)) (now (state .exit)) (now (words .exit)) (now (atoms .exit)) (now (tally .exit)) r ⌝ }
-{
-    let g = flag_of(state[1] / 4);
-    let n = size_at(table, i + 1);
-    let f = run_node(table, i + 1, &mut state[4..4 + 4 * n], words, atoms, tally);
-    par_end(state, 4 + 4 * n, f, g)
-}
-
-// Rule 11.
-fn run_right(
-    table: &[u8],
-    i: usize,
-    state: &mut [u8],
-    words: &mut [u64; WORDS],
-    atoms: &mut [u16],
-    tally: &mut [usize; 3],
-) -> Flag
-    requires { ⌜ Live 0 RightSuspended (now table) i (now state) (now words) (now atoms) (now tally) ⌝ }
-    ensures { λ r. ⌜ Runs 0 RightSuspended (now (table .entry)) i (now (state .entry)) (now (words .entry)) (now (atoms .entry)) (now (tally .entry)) (now (state .exit)) (now (words .exit)) (now (atoms .exit)) (now (tally .exit)) r ⌝ }
-{
-    let f = flag_of(state[1] % 4);
-    let n = size_at(table, i + 1);
-    let g = run_node(
-        table,
-        i + 1 + n,
-        &mut state[4 + 4 * n..],
-        words,
-        atoms,
-        tally,
-    );
-    par_end(state, 4 + 4 * n, f, g)
 }
 
 // A Loop: not begun, or the rest of its body by rules 4 and 5.
 fn run_loop(
-    table: &[u8],
+    table: &&[u8],
     i: usize,
-    state: &mut [u8],
-    words: &mut [u64; WORDS],
-    atoms: &mut [u16],
-    tally: &mut [usize; 3],
-) -> Flag
-    requires { ⌜ Live 0 (Kind 5) (now table) i (now state) (now words) (now atoms) (now tally) ⌝ }
-    ensures { λ r. ⌜ Runs 0 (Kind 5) (now (table .entry)) i (now (state .entry)) (now (words .entry)) (now (atoms .entry)) (now (tally .entry)) (now (state .exit)) (now (words .exit)) (now (atoms .exit)) (now (tally .exit)) r ⌝ }
+    state: &mut &mut [u8],
+    numbers: &mut [u64; NUMBERS],
+    atoms: &mut &mut [u16],
+) -> u8
+    requires { ⌜ CanRun all-seen (OfKind loop-kind) (held table state numbers atoms) i ⌝ }
+    ensures { λ r.
+        ⌜ HasRun all-seen (OfKind loop-kind) (held (table .entry) (state .entry) (numbers .entry) (atoms .entry)) i
+        (held (table .exit) (state .exit) (numbers .exit) (atoms .exit)) r ⌝ }
+    ensures { λ r. ⌜ Named (now (state .entry)) (now (state .exit)) (now (atoms .entry)) (now (atoms .exit)) ⌝ }
 {
-    if state[0] == 0 {
-        return begin_loop(table, i, state, words, atoms, tally);
+    let phase = state[4 * i];
+    if phase == GONE {
+        state[4 * i] = 0;
+        return TERM;
     }
-    let f = run_node(table, i + 1, &mut state[4..], words, atoms, tally);
-    match f {
-        Flag::TERM => begin_loop(table, i, state, words, atoms, tally),
-        _ => f,
+    if phase != BEGUN {
+        return begin_loop(table, i, state, numbers, atoms);
     }
+    if kind_at(*table, i + 1) == kinds::LOOP {
+        let f = run_loop(table, i + 1, state, numbers, atoms);
+        if f != TERM {
+            return f;
+        }
+        return begin_loop(table, i, state, numbers, atoms);
+    }
+    let f = run_child(table, i + 1, state, numbers, atoms);
+    if f != TERM {
+        return f;
+    }
+    begin_loop(table, i, state, numbers, atoms)
 }
 
-// Rules 12 and 13: the body runs from its start.
+// Rules 12 and 13: the body runs from its start. It can't end in the same pass.
 fn begin_loop(
-    table: &[u8],
+    table: &&[u8],
     i: usize,
-    state: &mut [u8],
-    words: &mut [u64; WORDS],
-    atoms: &mut [u16],
-    tally: &mut [usize; 3],
-) -> Flag
-    requires { ⌜ Live 1 (KindPhase 5 0) (now table) i (now state) (now words) (now atoms) (now tally) ⌝ }
-    ensures { λ r. ⌜ Runs 1 (KindPhase 5 0) (now (table .entry)) i (now (state .entry)) (now (words .entry)) (now (atoms .entry)) (now (tally .entry)) (now (state .exit)) (now (words .exit)) (now (atoms .exit)) (now (tally .exit)) r ⌝ }
+    state: &mut &mut [u8],
+    numbers: &mut [u64; NUMBERS],
+    atoms: &mut &mut [u16],
+) -> u8
+    requires { ⌜ CanRun phase-unseen Beginning (held table state numbers atoms) i ⌝ }
+    ensures { λ r.
+        ⌜ HasRun phase-unseen Beginning (held (table .entry) (state .entry) (numbers .entry) (atoms .entry)) i
+        (held (table .exit) (state .exit) (numbers .exit) (atoms .exit)) r ⌝ }
+    ensures { λ r. ⌜ Named (now (state .entry)) (now (state .exit)) (now (atoms .entry)) (now (atoms .exit)) ⌝ }
 {
-    let f = run_node(table, i + 1, &mut state[4..], words, atoms, tally);
-    match f {
-        Flag::TERM => begin_loop(table, i, state, words, atoms, tally),
-        _ => {
-            state[0] = 1;
-            f
-        }
+    let f = run_child(table, i + 1, state, numbers, atoms);
+    if f != TERM {
+        state[4 * i] = BEGUN;
+        return f;
     }
+    begin_loop(table, i, state, numbers, atoms)
 }
 
-// Rules 14 and 15.
+// Rules 14 and 15 when it begins, 4 and 5 in the rest of a run of its body.
 fn run_repeat(
-    table: &[u8],
+    table: &&[u8],
     i: usize,
-    state: &mut [u8],
-    words: &mut [u64; WORDS],
-    atoms: &mut [u16],
-    tally: &mut [usize; 3],
-) -> Flag
-    requires { ⌜ Live 0 (Kind 6) (now table) i (now state) (now words) (now atoms) (now tally) ⌝ }
-    ensures { λ r. ⌜ Runs 0 (Kind 6) (now (table .entry)) i (now (state .entry)) (now (words .entry)) (now (atoms .entry)) (now (tally .entry)) (now (state .exit)) (now (words .exit)) (now (atoms .exit)) (now (tally .exit)) r ⌝ }
+    state: &mut &mut [u8],
+    numbers: &mut [u64; NUMBERS],
+    atoms: &mut &mut [u16],
+) -> u8
+    requires { ⌜ CanRun all-seen (OfKind repeat-kind) (held table state numbers atoms) i ⌝ }
+    ensures { λ r.
+        ⌜ HasRun all-seen (OfKind repeat-kind) (held (table .entry) (state .entry) (numbers .entry) (atoms .entry)) i
+        (held (table .exit) (state .exit) (numbers .exit) (atoms .exit)) r ⌝ }
+    ensures { λ r. ⌜ Named (now (state .entry)) (now (state .exit)) (now (atoms .entry)) (now (atoms .exit)) ⌝ }
 {
-    if state[0] == 0 {
-        let n = argument_at(table, i);
-        if n == 0 {
-            return Flag::TERM;
-        }
-        return run_times(table, i, state, words, atoms, tally, n - 1);
+    let phase = state[4 * i];
+    if phase == GONE {
+        state[4 * i] = 0;
+        return TERM;
     }
-    let k = word_at(state, 2);
-    run_times(table, i, state, words, atoms, tally, k)
+    let turns = turns_of(
+        phase,
+        argument_at(*table, i),
+        state[4 * i + COUNT],
+        state[4 * i + COUNT + 1],
+    );
+    if turns == 0 {
+        return TERM;
+    }
+    let left = turns - 1;
+    if kind_at(*table, i + 1) == kinds::REPEAT {
+        let f = run_repeat(table, i + 1, state, numbers, atoms);
+        if f != TERM {
+            begin_turn(*state, 4 * i, left);
+            return f;
+        }
+        if left == 0 {
+            end_turns(*state, 4 * i);
+            return TERM;
+        }
+        return run_times(table, i, state, numbers, atoms, left - 1);
+    }
+    run_times(table, i, state, numbers, atoms, left)
 }
 
 // The rest of the body of a Repeat by rules 4 and 5, k runs being still to begin.
 fn run_times(
-    table: &[u8],
+    table: &&[u8],
     i: usize,
-    state: &mut [u8],
-    words: &mut [u64; WORDS],
-    atoms: &mut [u16],
-    tally: &mut [usize; 3],
+    state: &mut &mut [u8],
+    numbers: &mut [u64; NUMBERS],
+    atoms: &mut &mut [u16],
     k: usize,
-) -> Flag
-    requires { ⌜ Live 4 (Times k) (now table) i (now state) (now words) (now atoms) (now tally) ⌝ }
-    requires { ⌜ getD (now state) 1 0 ≡ 0 ⌝ }
-    ensures { λ r. ⌜ Runs 4 (Times k) (now (table .entry)) i (now (state .entry)) (now (words .entry)) (now (atoms .entry)) (now (tally .entry)) (now (state .exit)) (now (words .exit)) (now (atoms .exit)) (now (tally .exit)) r ⌝ }
+) -> u8
+    requires { ⌜ CanRun own-unseen (Times k) (held table state numbers atoms) i ⌝ }
+    requires { ⌜ getD (now (now state)) (4 * i + 1) 0 ≡ 0 ⌝ }
+    ensures { λ r.
+        ⌜ HasRun own-unseen (Times k) (held (table .entry) (state .entry) (numbers .entry) (atoms .entry)) i
+        (held (table .exit) (state .exit) (numbers .exit) (atoms .exit)) r ⌝ }
+    ensures { λ r. ⌜ Named (now (state .entry)) (now (state .exit)) (now (atoms .entry)) (now (atoms .exit)) ⌝ }
 {
     let mut left = k;
     loop {
-        let f = run_node(table, i + 1, &mut state[4..], words, atoms, tally);
-        match f {
-            Flag::TERM => {
-                if left == 0 {
-                    reset(state);
-                    return Flag::TERM;
-                }
-                left -= 1;
-            }
-            _ => {
-                begun(state, left);
-                return f;
-            }
+        let f = run_child(table, i + 1, state, numbers, atoms);
+        if f != TERM {
+            begin_turn(*state, 4 * i, left);
+            return f;
         }
+        if left == 0 {
+            end_turns(*state, 4 * i);
+            return TERM;
+        }
+        left -= 1;
     }
 }
 
 // Rules 17 to 21.
 fn run_when(
-    table: &[u8],
+    table: &&[u8],
     i: usize,
-    state: &mut [u8],
-    words: &mut [u64; WORDS],
-    atoms: &mut [u16],
-    tally: &mut [usize; 3],
-) -> Flag
-    requires { ⌜ Live 0 (Kind 9) (now table) i (now state) (now words) (now atoms) (now tally) ⌝ }
-    ensures { λ r. ⌜ Runs 0 (Kind 9) (now (table .entry)) i (now (state .entry)) (now (words .entry)) (now (atoms .entry)) (now (tally .entry)) (now (state .exit)) (now (words .exit)) (now (atoms .exit)) (now (tally .exit)) r ⌝ }
+    state: &mut &mut [u8],
+    numbers: &mut [u64; NUMBERS],
+    atoms: &mut &mut [u16],
+) -> u8
+    requires { ⌜ CanRun all-seen (OfKind when-kind) (held table state numbers atoms) i ⌝ }
+    ensures { λ r.
+        ⌜ HasRun all-seen (OfKind when-kind) (held (table .entry) (state .entry) (numbers .entry) (atoms .entry)) i
+        (held (table .exit) (state .exit) (numbers .exit) (atoms .exit)) r ⌝ }
+    ensures { λ r. ⌜ Named (now (state .entry)) (now (state .exit)) (now (atoms .entry)) (now (atoms .exit)) ⌝ }
 {
-    let phase = state[0];
-    if phase == 1 {
-        return run_then(table, i, state, words, atoms, tally);
+    let phase = state[4 * i];
+    if phase == GONE {
+        state[4 * i] = 0;
+        return TERM;
     }
-    if phase == 2 {
-        return run_second(table, i, state, words, atoms, tally);
-    }
-    let v = read_test(table, i, words, tally);
-    match v {
-        Verdict::Unknown => Flag::SUSP,
-        Verdict::Sat => {
-            if tally[2] == 0 {
-                return run_then(table, i, state, words, atoms, tally);
-            }
-            state[0] = 1;
-            Flag::STOP
+    if phase == THEN {
+        if kind_at(*table, i + 1) == kinds::WHEN {
+            let f = run_when(table, i + 1, state, numbers, atoms);
+            state[4 * i] = phase_after(f, THEN);
+            return f;
         }
-        Verdict::Unsat => {
-            if tally[2] == 0 {
-                return run_second(table, i, state, words, atoms, tally);
-            }
-            state[0] = 2;
-            Flag::STOP
-        }
+        return run_then(table, i, state, numbers, atoms);
     }
+    if phase == SECOND {
+        return run_second(table, i, state, numbers, atoms);
+    }
+    let rank = test_rank(*table, i, numbers);
+    if rank == UNKNOWN {
+        return SUSP;
+    }
+    if rank == UNSAT {
+        if numbers[ENDED] == 0 {
+            return run_second(table, i, state, numbers, atoms);
+        }
+        state[4 * i] = SECOND;
+        return STOP;
+    }
+    if numbers[ENDED] == 0 {
+        return run_then(table, i, state, numbers, atoms);
+    }
+    state[4 * i] = THEN;
+    STOP
 }
 
 // A When that has gone over, or now goes over, into its then branch.
 fn run_then(
-    table: &[u8],
+    table: &&[u8],
     i: usize,
-    state: &mut [u8],
-    words: &mut [u64; WORDS],
-    atoms: &mut [u16],
-    tally: &mut [usize; 3],
-) -> Flag
-    requires { ⌜ Live 1 (KindPhase 9 1) (now table) i (now state) (now words) (now atoms) (now tally) ⌝ }
-    ensures { λ r. ⌜ Runs 1 (KindPhase 9 1) (now (table .entry)) i (now (state .entry)) (now (words .entry)) (now (atoms .entry)) (now (tally .entry)) (now (state .exit)) (now (words .exit)) (now (atoms .exit)) (now (tally .exit)) r ⌝ }
+    state: &mut &mut [u8],
+    numbers: &mut [u64; NUMBERS],
+    atoms: &mut &mut [u16],
+) -> u8
+    requires { ⌜ CanRun phase-unseen InThen (held table state numbers atoms) i ⌝ }
+    ensures { λ r.
+        ⌜ HasRun phase-unseen InThen (held (table .entry) (state .entry) (numbers .entry) (atoms .entry)) i
+        (held (table .exit) (state .exit) (numbers .exit) (atoms .exit)) r ⌝ }
+    ensures { λ r. ⌜ Named (now (state .entry)) (now (state .exit)) (now (atoms .entry)) (now (atoms .exit)) ⌝ }
 {
-    let n = size_at(table, i + 1);
-    let f = run_node(table, i + 1, &mut state[4..4 + 4 * n], words, atoms, tally);
-    state[0] = phase_after(f, 1);
+    let f = run_child(table, i + 1, state, numbers, atoms);
+    state[4 * i] = phase_after(f, THEN);
     f
 }
 
 // Rules 29 and 30.
 fn run_until(
-    table: &[u8],
+    table: &&[u8],
     i: usize,
-    state: &mut [u8],
-    words: &mut [u64; WORDS],
-    atoms: &mut [u16],
-    tally: &mut [usize; 3],
-) -> Flag
-    requires { ⌜ Live 0 (Kind 10) (now table) i (now state) (now words) (now atoms) (now tally) ⌝ }
-    ensures { λ r. ⌜ Runs 0 (Kind 10) (now (table .entry)) i (now (state .entry)) (now (words .entry)) (now (atoms .entry)) (now (tally .entry)) (now (state .exit)) (now (words .exit)) (now (atoms .exit)) (now (tally .exit)) r ⌝ }
+    state: &mut &mut [u8],
+    numbers: &mut [u64; NUMBERS],
+    atoms: &mut &mut [u16],
+) -> u8
+    requires { ⌜ CanRun all-seen (OfKind until-kind) (held table state numbers atoms) i ⌝ }
+    ensures { λ r.
+        ⌜ HasRun all-seen (OfKind until-kind) (held (table .entry) (state .entry) (numbers .entry) (atoms .entry)) i
+        (held (table .exit) (state .exit) (numbers .exit) (atoms .exit)) r ⌝ }
+    ensures { λ r. ⌜ Named (now (state .entry)) (now (state .exit)) (now (atoms .entry)) (now (atoms .exit)) ⌝ }
 {
-    let phase = state[0];
-    if phase == 1 {
-        return run_star(table, i, state, words, atoms, tally);
+    let phase = state[4 * i];
+    if phase == GONE {
+        state[4 * i] = 0;
+        return TERM;
     }
-    if phase == 2 {
-        return run_second(table, i, state, words, atoms, tally);
+    if phase == STARRED {
+        return run_star(table, i, state, numbers, atoms);
     }
-    let n = size_at(table, i + 1);
-    let f = run_node(table, i + 1, &mut state[4..4 + 4 * n], words, atoms, tally);
-    match f {
-        Flag::STOP => run_star(table, i, state, words, atoms, tally),
-        _ => f,
+    if phase == SECOND {
+        return run_second(table, i, state, numbers, atoms);
     }
+    if kind_at(*table, i + 1) == kinds::UNTIL {
+        let f = run_until(table, i + 1, state, numbers, atoms);
+        if f != STOP {
+            return f;
+        }
+        return run_star(table, i, state, numbers, atoms);
+    }
+    let f = run_child(table, i + 1, state, numbers, atoms);
+    if f != STOP {
+        return f;
+    }
+    run_star(table, i, state, numbers, atoms)
 }
 
 // Rules 31 to 34.
 fn run_star(
-    table: &[u8],
+    table: &&[u8],
     i: usize,
-    state: &mut [u8],
-    words: &mut [u64; WORDS],
-    atoms: &mut [u16],
-    tally: &mut [usize; 3],
-) -> Flag
-    requires { ⌜ Live 1 (KindPhase 10 1) (now table) i (now state) (now words) (now atoms) (now tally) ⌝ }
-    ensures { λ r. ⌜ Runs 1 (KindPhase 10 1) (now (table .entry)) i (now (state .entry)) (now (words .entry)) (now (atoms .entry)) (now (tally .entry)) (now (state .exit)) (now (words .exit)) (now (atoms .exit)) (now (tally .exit)) r ⌝ }
+    state: &mut &mut [u8],
+    numbers: &mut [u64; NUMBERS],
+    atoms: &mut &mut [u16],
+) -> u8
+    requires { ⌜ CanRun phase-unseen Starred (held table state numbers atoms) i ⌝ }
+    ensures { λ r.
+        ⌜ HasRun phase-unseen Starred (held (table .entry) (state .entry) (numbers .entry) (atoms .entry)) i
+        (held (table .exit) (state .exit) (numbers .exit) (atoms .exit)) r ⌝ }
+    ensures { λ r. ⌜ Named (now (state .entry)) (now (state .exit)) (now (atoms .entry)) (now (atoms .exit)) ⌝ }
 {
-    let v = read_test(table, i, words, tally);
-    match v {
-        Verdict::Unknown => {
-            state[0] = 1;
-            Flag::SUSP
-        }
-        Verdict::Unsat => {
-            state[0] = 0;
-            Flag::STOP
-        }
-        Verdict::Sat => {
-            let n = size_at(table, i + 1);
-            clear(&mut state[4..4 + 4 * n]);
-            if tally[2] == 0 {
-                return run_second(table, i, state, words, atoms, tally);
-            }
-            state[0] = 2;
-            Flag::STOP
-        }
+    let rank = test_rank(*table, i, numbers);
+    if rank == UNKNOWN {
+        state[4 * i] = STARRED;
+        return SUSP;
     }
+    if rank == UNSAT {
+        state[4 * i] = 0;
+        return STOP;
+    }
+    clear_part(*state, 4 * i + 4, 4 * second_at(*table, i));
+    if numbers[ENDED] == 0 {
+        return run_second(table, i, state, numbers, atoms);
+    }
+    state[4 * i] = SECOND;
+    STOP
 }
 
 // Rules 26 to 28.
 fn run_control(
-    table: &[u8],
+    table: &&[u8],
     i: usize,
-    state: &mut [u8],
-    words: &mut [u64; WORDS],
-    atoms: &mut [u16],
-    tally: &mut [usize; 3],
-) -> Flag
-    requires { ⌜ Live 0 (Kind 11) (now table) i (now state) (now words) (now atoms) (now tally) ⌝ }
-    ensures { λ r. ⌜ Runs 0 (Kind 11) (now (table .entry)) i (now (state .entry)) (now (words .entry)) (now (atoms .entry)) (now (tally .entry)) (now (state .exit)) (now (words .exit)) (now (atoms .exit)) (now (tally .exit)) r ⌝ }
+    state: &mut &mut [u8],
+    numbers: &mut [u64; NUMBERS],
+    atoms: &mut &mut [u16],
+) -> u8
+    requires { ⌜ CanRun all-seen (OfKind control-kind) (held table state numbers atoms) i ⌝ }
+    ensures { λ r.
+        ⌜ HasRun all-seen (OfKind control-kind) (held (table .entry) (state .entry) (numbers .entry) (atoms .entry)) i
+        (held (table .exit) (state .exit) (numbers .exit) (atoms .exit)) r ⌝ }
+    ensures { λ r. ⌜ Named (now (state .entry)) (now (state .exit)) (now (atoms .entry)) (now (atoms .exit)) ⌝ }
 {
-    let s = argument_at(table, i);
-    if marked(words, s) {
-        return run_node(table, i + 1, &mut state[4..], words, atoms, tally);
+    if state[4 * i] == GONE {
+        state[4 * i] = 0;
+        return TERM;
     }
-    if tally[2] == 0 {
-        return Flag::SUSP;
+    if marked(numbers, argument_at(*table, i)) {
+        if kind_at(*table, i + 1) == kinds::CONTROL {
+            return run_control(table, i + 1, state, numbers, atoms);
+        }
+        return run_child(table, i + 1, state, numbers, atoms);
     }
-    Flag::STOP
+    numbers[ENDED] as u8
 }
 
 // Rules 35 to 39: the body runs with the event as the sign says, and outside it is again as it was.
 fn run_local(
-    table: &[u8],
+    table: &&[u8],
     i: usize,
-    state: &mut [u8],
-    words: &mut [u64; WORDS],
-    atoms: &mut [u16],
-    tally: &mut [usize; 3],
-) -> Flag
-    requires { ⌜ Live 0 (Kind 12) (now table) i (now state) (now words) (now atoms) (now tally) ⌝ }
-    ensures { λ r. ⌜ Runs 0 (Kind 12) (now (table .entry)) i (now (state .entry)) (now (words .entry)) (now (atoms .entry)) (now (tally .entry)) (now (state .exit)) (now (words .exit)) (now (atoms .exit)) (now (tally .exit)) r ⌝ }
+    state: &mut &mut [u8],
+    numbers: &mut [u64; NUMBERS],
+    atoms: &mut &mut [u16],
+) -> u8
+    requires { ⌜ CanRun all-seen (OfKind local-kind) (held table state numbers atoms) i ⌝ }
+    ensures { λ r.
+        ⌜ HasRun all-seen (OfKind local-kind) (held (table .entry) (state .entry) (numbers .entry) (atoms .entry)) i
+        (held (table .exit) (state .exit) (numbers .exit) (atoms .exit)) r ⌝ }
+    ensures { λ r. ⌜ Named (now (state .entry)) (now (state .exit)) (now (atoms .entry)) (now (atoms .exit)) ⌝ }
 {
-    let s = argument_at(table, i);
-    let outside = marked(words, s);
-    let plus = state[0] == 1;
-    mark(words, s, plus);
-    let f = run_node(table, i + 1, &mut state[4..], words, atoms, tally);
-    let inside = marked(words, s);
-    mark(words, s, outside);
-    state[0] = sign_after(f, inside);
+    let phase = state[4 * i];
+    if phase == GONE {
+        state[4 * i] = 0;
+        return TERM;
+    }
+    let event = argument_at(*table, i);
+    let outside = enter_scope(numbers, event, phase == PLUS);
+    if kind_at(*table, i + 1) == kinds::LOCAL {
+        let f = run_local(table, i + 1, state, numbers, atoms);
+        let inside = leave_scope(numbers, event, outside);
+        state[4 * i] = sign_after(f, inside);
+        return f;
+    }
+    let f = run_child(table, i + 1, state, numbers, atoms);
+    let inside = leave_scope(numbers, event, outside);
+    state[4 * i] = sign_after(f, inside);
     f
 }

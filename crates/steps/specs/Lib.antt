@@ -1,2 +1,7 @@
 pub mod StateBytes
 pub mod Running
+pub mod Numbers
+pub mod Kinds
+pub mod Flags
+pub mod Tests
+pub mod Lent

@@ -2,37 +2,58 @@
 use Rattle.kernel.proofs.passes.run_from.Statement.{statement}
 use Rattle.kernel.proofs.passes.run_from.Tie as tie
 use borrow.Author.Needs.{needs}
-use Prim.Native.Nat.{_+_, _-_, _/_}
+use Prim.Native.Nat.{_+_, _-_}
 use mathlib.Core.Path.{_≡_, refl}
 use native.Mathlib.Omega.{arith}
 use lib.ListN.{length}
-use Rattle.events.specs.Members.{places, marks}
-use Rattle.junior.specs.Term.{prog}
-use Rattle.junior.specs.Trace.{root}
+use Rattle.events.specs.Members.{marks}
+use Rattle.events.proofs.Sets.{whole}
 use Rattle.junior.specs.Figures.{G}
 use Rattle.junior.proofs.Little.{STOP≢SUSP, TERM≢SUSP}
 use Rattle.table.specs.Spells.{treeOf}
-use Rattle.table.proofs.Tree.{size-pos}
+use Rattle.steps.specs.Numbers.{event-words, wordsOf, tallyOf, Numbers}
+use Rattle.steps.proofs.FlagNumbers.{is-stop, is-term}
 use Rattle.kernel.specs.Passes.{Startable}
-use Rattle.kernel.proofs.Passing.{Underway, begins, few-passes, goes, marked-ended, run-of}
+use Rattle.kernel.proofs.Passing.{Underway, few-passes, handed-words, begins-by, can-pass, ran-by, row-holds, goes-by}
+use Rattle.kernel.proofs.Passing.{next-row-holds, marked-ended, some-bytes, run-of}
 
 abbrev Inv-loop : tie.InvT-loop
-Inv-loop table state₀ atoms₀ words₀ tally₀ passes₀ state atoms words tally passes =
-    (b : Startable table (state₀ .now) (atoms₀ .now))
-    × Underway table (b .term) (marks words₀) (atoms₀ .now) (state .now) words (atoms .now) tally passes
+Inv-loop t1 state₀ atoms₀ table nodes numbers₀ passes₀ state atoms numbers passes =
+    (b : Startable t1 (state₀ .now) (atoms₀ .now))
+    × Underway t1 (b .term) (marks (wordsOf numbers₀)) (atoms₀ .now) (state .now) (wordsOf numbers) (atoms .now) (tallyOf numbers) passes
+    × Numbers t1 numbers
     × (state .name ≡ state₀ .name)
     × (atoms .name ≡ atoms₀ .name)
 
 abbrev μ-loop : tie.MeasureT-loop
-μ-loop table state₀ atoms₀ words₀ tally₀ passes₀ state atoms words tally passes =
-    G (treeOf table) + 2 - passes
+μ-loop t1 state₀ atoms₀ table nodes numbers₀ passes₀ state atoms numbers passes = G (treeOf t1) + 2 - passes
+
+-- let nodes = word_at(table, table.len() - 10);
+sub-word-at : tie.Need-sub-word-at Inv-loop μ-loop
+sub-word-at c =
+    let start = c .before in
+    omega (arith, start .pre .placed .loaded .framed .long)
+
+word-at-requires : tie.Need-word-at-requires Inv-loop μ-loop
+word-at-requires c κs =
+    let start = c .before in
+    omega (arith, start .pre .placed .loaded .framed .long)
+
+-- let mut numbers = first_numbers(events, 6 * nodes);
+mul-first-numbers : tie.Need-mul-first-numbers Inv-loop μ-loop
+mul-first-numbers c =
+    let word-at = c .word-at in
+    omega (arith, word-at .ensures .1)
 
 -- loop {
 loop-holds : tie.Need-loop-holds Inv-loop μ-loop
 loop-holds c =
-    let start = c .before .before in
-    let long : length (start .args .events .words) ≡ places / 64 = search needs in
-    (start .pre, begins (start .args .events .words) (start .pre) (omega arith), refl, refl)
+    let start = c .before .before .before in
+    let word-at = c .before .word-at in
+    let first-numbers = c .first-numbers in
+    let long : length (start .args .events .words) ≡ event-words = search needs in
+    let (underway, holds) = begins-by (start .args .events .words) (start .pre) long (rw (word-at .ensures .0) at (first-numbers .ensures)) in
+    (start .pre, underway, holds, refl, refl)
 
 -- passes += 1;
 add-passes : tie.Need-add-passes Inv-loop μ-loop
@@ -40,92 +61,138 @@ add-passes c =
     let loop = c .loop in
     omega (arith, few-passes (loop .inv .1), loop .inv .0 .few)
 
--- let flag = run_node(table, 0, *state, &mut words, *atoms, &mut tally);
-run-node-requires : tie.Need-run-node-requires Inv-loop μ-loop
-run-node-requires c κs =
+-- let flag = run_child(&table, 0, state, &mut numbers, atoms);
+run-child-requires : tie.Need-run-child-requires Inv-loop μ-loop
+run-child-requires c κs =
     let loop = c .before .before .before .before .loop in
+    can-pass (loop .inv .1) (loop .inv .2)
+
+-- return report(events_of(&numbers), numbers[ATOMS] as usize, false, passes);
+events-of-requires : tie.Need-events-of-requires Inv-loop μ-loop
+events-of-requires c κs =
+    let loop = c .before .before .before .before .before .before .before .loop in
+    let run-child = c .before .before .run-child in
+    row-holds (loop .inv .1) (loop .inv .2) (run-child .ensures .0) .long
+
+array-read-report : tie.Need-array-read-report Inv-loop μ-loop
+array-read-report c =
+    let loop = c .before .before .before .before .before .before .before .before .loop in
+    let run-child = c .before .before .before .run-child in
+    let long = row-holds (loop .inv .1) (loop .inv .2) (run-child .ensures .0) .long in
+    search needs
+
+returns : tie.Need-returns Inv-loop μ-loop
+returns c =
+    let start = c .before .before .before .before .before .before .before .before .before .before .before .before .before in
+    let first-numbers = c .before .before .before .before .before .before .before .before .before .before .first-numbers in
+    let loop = c .before .before .before .before .before .before .before .before .before .loop in
+    let run-child = c .before .before .before .before .run-child in
+    let if1 = c .before .before .before .if1 in
+    let events-of = c .before .events-of in
+    let report = c .report in
     let u = loop .inv .1 in
-    (u .term, tt, u .ready)
+    let ran = ran-by u (loop .inv .2) (run-child .ensures .0) (is-stop (if1 .taken)) in
+    let long = whole (start .args .events) _ (start .good .1 .1 .0) .long in
+    let handed = handed-words (start .args .t1 .now) (start .args .events .words) long _ (first-numbers .ensures) in
+    record {
+      outcome-is = report .ensures .outcome-is;
+      run = rw handed at (run-of (loop .inv .0) u ran STOP≢SUSP (ran .bytes) (events-of .ensures) (report .ensures));
+      same-state = search needs;
+      same-row = search needs;
+    }
+
+-- state[0] = GONE;
+index-1-state : tie.Need-index-1-state Inv-loop μ-loop
+index-1-state c =
+    let loop = c .before .before .before .before .before .before .before .loop in
+    let run-child = c .before .before .run-child in
+    let if2 = c .if2 in
+    some-bytes (loop .inv .1) (ran-by (loop .inv .1) (loop .inv .2) (run-child .ensures .0) (is-term (if2 .taken)))
+
+-- return report(events_of(&numbers), numbers[ATOMS] as usize, true, passes);
+events-of-requires-2 : tie.Need-events-of-requires-2 Inv-loop μ-loop
+events-of-requires-2 c κs =
+    let loop = c .before .before .before .before .before .before .before .before .loop in
+    let run-child = c .before .before .before .run-child in
+    row-holds (loop .inv .1) (loop .inv .2) (run-child .ensures .0) .long
+
+array-read-report-2 : tie.Need-array-read-report-2 Inv-loop μ-loop
+array-read-report-2 c =
+    let loop = c .before .before .before .before .before .before .before .before .before .loop in
+    let run-child = c .before .before .before .before .run-child in
+    let long = row-holds (loop .inv .1) (loop .inv .2) (run-child .ensures .0) .long in
+    search needs
+
+returns-2 : tie.Need-returns-2 Inv-loop μ-loop
+returns-2 c =
+    let start = c .before .before .before .before .before .before .before .before .before .before .before .before .before .before in
+    let first-numbers = c .before .before .before .before .before .before .before .before .before .before .before .first-numbers in
+    let loop = c .before .before .before .before .before .before .before .before .before .before .loop in
+    let run-child = c .before .before .before .before .before .run-child in
+    let if2 = c .before .before .before .if2 in
+    let events-of2 = c .before .events-of2 in
+    let report2 = c .report2 in
+    let u = loop .inv .1 in
+    let ran = ran-by u (loop .inv .2) (run-child .ensures .0) (is-term (if2 .taken)) in
+    let long = whole (start .args .events) _ (start .good .1 .1 .0) .long in
+    let handed = handed-words (start .args .t1 .now) (start .args .events .words) long _ (first-numbers .ensures) in
+    record {
+      outcome-is = report2 .ensures .outcome-is;
+      run = rw handed at (run-of (loop .inv .0) u ran TERM≢SUSP (marked-ended u ran) (events-of2 .ensures) (report2 .ensures));
+      same-state = search needs;
+      same-row = search needs;
+    }
+
+-- next_pass(&mut numbers);
+next-pass-requires : tie.Need-next-pass-requires Inv-loop μ-loop
+next-pass-requires c κs =
+    let loop = c .before .before .before .before .before .before .before .before .loop in
+    let run-child = c .before .before .before .run-child in
+    row-holds (loop .inv .1) (loop .inv .2) (run-child .ensures .0) .long
 
 -- loop {
 loop-less : tie.Need-loop-less Inv-loop μ-loop
 loop-less c =
-    let loop = c .before .before .before .before .before .before .before .loop in
+    let loop = c .before .before .before .before .before .before .before .before .before .loop in
     let few = rw (loop .inv .0 .program) at (few-passes (loop .inv .1)) in
     omega arith
 
 loop-again : tie.Need-loop-again Inv-loop μ-loop
 loop-again c =
-    let loop = c .before .before .before .before .before .before .before .loop in
-    let run-node = c .before .before .run-node in
-    let enum-told = c .enum-told in
-    let u = loop .inv .1 in
-    let ran = rw (enum-told .given .1) at (run-node .ensures (u .term) tt (u .ready) root refl) in
-    (loop .inv .0, goes u ran (run-node .kept .1 .1 .1 .1 .0), loop .inv .2, loop .inv .3)
-
--- Flag::STOP => return report(EventSet { words }, tally[0], false, passes),
-returns : tie.Need-returns Inv-loop μ-loop
-returns c =
-    let loop = c .before .before .before .before .before .before .before .before .loop in
-    let run-node = c .before .before .before .run-node in
-    let enum-told2 = c .before .enum-told2 in
-    let report = c .report in
-    let u = loop .inv .1 in
-    let ran = rw (enum-told2 .given .1) at (run-node .ensures (u .term) tt (u .ready) root refl) in
-    record {
-      outcome-is = report .ensures .outcome-is;
-      run = run-of (loop .inv .0) u ran STOP≢SUSP (ran .bytes) (report .ensures);
-      same-state = search needs;
-      same-row = search needs;
-    }
-
--- state[0] = 3;
-index-1-state : tie.Need-index-1-state Inv-loop μ-loop
-index-1-state c =
-    let loop = c .before .before .before .before .before .before .before .loop in
-    let run-node = c .before .before .run-node in
-    let u = loop .inv .1 in
-    omega (arith, run-node .kept .1 .1 .0, u .ready .long, size-pos (prog (u .term)))
-
--- return report(EventSet { words }, tally[0], true, passes);
-returns-2 : tie.Need-returns-2 Inv-loop μ-loop
-returns-2 c =
-    let loop = c .before .before .before .before .before .before .before .before .loop in
-    let run-node = c .before .before .before .run-node in
-    let enum-told3 = c .before .enum-told3 in
-    let report2 = c .report2 in
-    let u = loop .inv .1 in
-    let ran = rw (enum-told3 .given .1) at (run-node .ensures (u .term) tt (u .ready) root refl) in
-    record {
-      outcome-is = report2 .ensures .outcome-is;
-      run = run-of (loop .inv .0) u ran TERM≢SUSP (marked-ended u ran) (report2 .ensures);
-      same-state = search needs;
-      same-row = search needs;
-    }
+    let loop = c .before .before .before .before .before .before .before .before .before .loop in
+    let run-child = c .before .before .before .before .run-child in
+    let if1 = c .before .before .before .if1 in
+    let if2 = c .before .before .if2 in
+    let next-pass = c .next-pass in
+    let run = run-child .ensures .0 in (
+      loop .inv .0,
+      rw (next-pass .ensures) (goes-by (loop .inv .1) (loop .inv .2) run (if1 .left) (if2 .left)),
+      rw (next-pass .ensures) (next-row-holds (loop .inv .1) (loop .inv .2) run),
+      search needs,
+      search needs,
+    )
 
 pub run-from-spec : {M : Type 1} → statement M
 run-from-spec =
     tie.close (tie.spec
     Inv-loop
     μ-loop
+    sub-word-at
+    word-at-requires
+    mul-first-numbers
+    (λ c κs. search needs)  -- first-numbers-requires
     loop-holds
     add-passes
-    (λ c. search needs)  -- slice-aggregate-run-node: let flag = run_node(table, 0, *state, &mut words,..
-    (λ c. search needs)  -- slice-aggregate-run-node-2
-    run-node-requires
-    (λ c. search needs)  -- enum-told: tally[2] = (tally[1] == 0) as usize;
-    (λ c. search needs)  -- array-read-tally
-    (λ c. search needs)  -- cast-tally
-    (λ c. search needs)  -- array-write-tally
-    (λ c. search needs)  -- array-write-tally-2: tally[1] = 0;
-    loop-less
-    loop-again
-    (λ c. search needs)  -- enum-told-2: Flag::STOP => return report(EventSet { words }, tally[0],..
-    (λ c. search needs)  -- array-read-report
+    run-child-requires
+    events-of-requires
+    array-read-report
     (λ c κs. search needs)  -- report-requires
     returns
-    (λ c. search needs)  -- enum-told-3: state[0] = 3;
     index-1-state
-    (λ c. search needs)  -- array-read-report-2: return report(EventSet { words }, tally[0], true,..
+    events-of-requires-2
+    array-read-report-2
     (λ c κs. search needs)  -- report-requires-2
-    returns-2)
+    returns-2
+    next-pass-requires
+    loop-less
+    loop-again)

@@ -1,0 +1,174 @@
+-- A When that tests, rules 17 to 21, and one that has gone over into its then branch, over all that is lent.
+use Prim.Native.Nat.{ℕ, _+_, _-_, _*_, _<_}
+use mathlib.Core.Path.{_≡_, refl, _∙_}
+use mathlib.Core.Logic.{_≢_}
+use mathlib.Core.List.{List, _++_}
+use native.Mathlib.Omega.{arith}
+use lib.Dec.{lit<}
+use lib.ListN.{length, getD, take, drop, set}
+use Rattle.junior.specs.declared.Verdict.{Verdict}
+use Rattle.junior.specs.declared.Verdict.the-variants.{Sat, Unsat, Unknown}
+use Rattle.junior.specs.Term.{Term}
+use Rattle.table.specs.Records.{sizeAt}
+use Rattle.steps.specs.Running.{Ready, Any, TestRead, phaseAfter}
+use Rattle.steps.proofs.Parts.{first-of, with-first}
+use Rattle.steps.proofs.Children.{own-in}
+use Rattle.steps.proofs.Tally.{not-ended, is-ended}
+use Rattle.runner.proofs.When.{Then, then-by, then-asks, then-writes, then-ran}
+use Rattle.runner.proofs.When.{When0, when0-by, when-has, when-waits, then-live, then-goes, then-later, else-live, else-goes, else-later}
+use Rattle.steps.specs.Numbers.{ended-at, wordsOf, tallyOf}
+use Rattle.steps.specs.Kinds.{OfKind, InThen, InSecond, when-kind}
+use Rattle.steps.specs.Flags.{flagOf}
+use Rattle.steps.specs.Tests.{CanTest}
+use Rattle.steps.specs.Lent.{Lent, lent, Around, Stands, Went, CanRun, HasRun}
+use Rattle.steps.proofs.Context.{outer, phase-at, phase-in, put-phase}
+use Rattle.steps.proofs.Row.{kept-same}
+use Rattle.steps.proofs.Dispatch.{phase-is}
+use Rattle.runner.proofs.Falling.{smaller-by}
+use Rattle.steps.proofs.ChildContext.{child-stands}
+use Rattle.runner.proofs.GoesOn.{stands-as, went-as, to-phase, by-phase}
+
+-- in its then branch: that runs
+module _ {table : List ℕ} {i : ℕ} {state m row before part behind : List ℕ}
+    (o : Stands 1 InThen (lent table state m row) i before part behind) where
+  abbrev n : ℕ
+  n = sizeAt table (i + 1)
+
+  the : Then (o .live .0)
+  the = then-by (o .live .0) (o .live .1)
+
+  branch-stands : Stands 0 Any (lent table state m row) (i + 1) (before ++ take 4 part) (first-of part n)
+      (drop (4 + 4 * n - 4) (drop 4 part) ++ behind)
+  branch-stands =
+      child-stands (o .around) (o .numbers) 4 (4 + 4 * n - 4) (own-in (o .live .2) 3 (lit< tt)) (omega arith)
+      (then-asks refl the (o .live .2) 1 refl .1)
+
+  branch-smaller : sizeAt table (i + 1) < sizeAt table i
+  branch-smaller = smaller-by table i (i + 1) (then-asks refl the (o .live .2) 1 refl .0)
+
+  module _ {state′ m′ row′ : List ℕ} {f : ℕ} (run : HasRun 0 Any (lent table state m row) (i + 1) (lent table state′ m′ row′) f) where
+    branch-went : Went 0 Any (lent table state m row) (i + 1) (before ++ take 4 part) (first-of part n)
+        (drop (4 + 4 * n - 4) (drop 4 part) ++ behind) (lent table state′ m′ row′) f
+    branch-went = run _ _ _ branch-stands
+
+    abbrev part-back : List ℕ
+    part-back = with-first part n (branch-went .part′)
+
+    around-back : Around state′ i before part-back behind
+    around-back = outer (o .around) 4 (4 + 4 * n - 4) (branch-went .around)
+
+    own-back : 0 < length part-back
+    own-back = then-writes refl (branch-went .runs) the (o .live .2)
+
+    then-went : {ph : ℕ} → ph ≡ phaseAfter (flagOf f) 1
+        → Went 1 InThen (lent table state m row) i before part behind (lent table (set state′ (4 * i) ph) m′ row′) f
+    then-went {ph} e =
+        record {
+          part′ = set part-back 0 ph;
+          around = put-phase around-back ph own-back;
+          kept = branch-went .kept;
+          below = branch-went .below;
+          runs = λ t w h. then-ran refl (branch-went .runs) (then-by t w) h e;
+        }
+
+-- in the words of the needs
+module _ {table : List ℕ} {i : ℕ} {state m row : List ℕ} where
+  pub then-first : CanRun 1 InThen (lent table state m row) i
+      → (sizeAt table (i + 1) < sizeAt table i) × CanRun 0 Any (lent table state m row) (i + 1)
+  then-first (before, part, behind, o) = (branch-smaller o, (_, _, _, branch-stands o))
+
+  module _ {state′ m′ row′ : List ℕ} {f : ℕ} (run : HasRun 0 Any (lent table state m row) (i + 1) (lent table state′ m′ row′) f) where
+    pub then-writes-in : CanRun 1 InThen (lent table state m row) i → 4 * i < length state′
+    then-writes-in (before, part, behind, o) = phase-in (around-back o run) (own-back o run)
+
+    pub then-below : CanRun 1 InThen (lent table state m row) i → f < 3
+    then-below (before, part, behind, o) = branch-went o run .below
+
+    pub then-done : {ph : ℕ} → ph ≡ phaseAfter (flagOf f) 1
+        → HasRun 1 InThen (lent table state m row) i (lent table (set state′ (4 * i) ph) m′ row′) f
+    then-done e before part behind o = then-went o run e
+
+-- a When that has gone over into it
+module _ {table : List ℕ} {i : ℕ} {state m row : List ℕ} (gone-over : getD state (4 * i) 0 ≡ 1) where
+  pub to-then : CanRun 0 (OfKind when-kind) (lent table state m row) i → CanRun 1 InThen (lent table state m row) i
+  to-then o = to-phase (λ t k p. (k, p)) gone-over o
+
+  pub by-then : {L′ : Lent} {r : ℕ} → HasRun 1 InThen (lent table state m row) i L′ r
+      → HasRun 0 (OfKind when-kind) (lent table state m row) i L′ r
+  by-then run = by-phase (λ t k p. (k, p)) gone-over run
+
+-- one that tests
+module _ {table : List ℕ} {i : ℕ} {state : List ℕ} (on : getD state (4 * i) 0 ≢ 3) (no-then : getD state (4 * i) 0 ≢ 1)
+    (no-else : getD state (4 * i) 0 ≢ 2) where
+  testing : {before part behind : List ℕ} → Around state i before part behind → {t : Term} → OfKind when-kind t
+      → {words row tally : List ℕ} → Ready 0 table i part words row tally t → When0 t
+  testing a w h =
+      let at = phase-at a (own-in h 0 (lit< tt)) in
+      when0-by (w, λ e. on (phase-is a h ∙ e)) h (λ e. no-then (at ∙ e)) (λ e. no-else (at ∙ e))
+
+  module _ {m row : List ℕ} where
+    then-stands : {before part behind : List ℕ} → Stands 0 (OfKind when-kind) (lent table state m row) i before part behind
+        → Stands 1 InThen (lent table state m row) i before part behind
+    then-stands o = let (t, w, h) = o .live in stands-as o (then-live (testing (o .around) w h) h)
+
+    else-stands : {before part behind : List ℕ} → Stands 0 (OfKind when-kind) (lent table state m row) i before part behind
+        → Stands 1 InSecond (lent table state m row) i before part behind
+    else-stands o = let (t, w, h) = o .live in stands-as o (else-live (testing (o .around) w h) h)
+
+    pub when-tests : CanRun 0 (OfKind when-kind) (lent table state m row) i → CanTest table i m
+    when-tests (before, part, behind, o) =
+        let (t, w, h) = o .live in record { has = when-has (testing (o .around) w h) h; row = o .numbers }
+
+    pub now-then : CanRun 0 (OfKind when-kind) (lent table state m row) i → CanRun 1 InThen (lent table state m row) i
+    now-then (before, part, behind, o) = (_, _, _, then-stands o)
+
+    pub now-else : CanRun 0 (OfKind when-kind) (lent table state m row) i → CanRun 1 InSecond (lent table state m row) i
+    now-else (before, part, behind, o) = (_, _, _, else-stands o)
+
+    module _ {v : Verdict} (reads : TestRead table i (wordsOf m) (tallyOf m) v) where
+      pub when-suspends : v ≡ Unknown → HasRun 0 (OfKind when-kind) (lent table state m row) i (lent table state m row) 0
+      when-suspends is before part behind o =
+          record {
+            part′ = part;
+            around = o .around;
+            kept = kept-same m;
+            below = lit< tt;
+            runs = λ t w h. when-waits reads (testing (o .around) w h) h is;
+          }
+
+      -- a branch begins, or waits for the next instant
+      module _ (is : v ≡ Sat) where
+        pub then-begins : getD m ended-at 0 ≡ 0 → {L′ : Lent} {r : ℕ} → HasRun 1 InThen (lent table state m row) i L′ r
+            → HasRun 0 (OfKind when-kind) (lent table state m row) i L′ r
+        then-begins z run before part behind o =
+            let g = run before part behind (then-stands o) in
+            went-as (kept-same m) g (λ t w h. then-goes reads (testing (o .around) w h) h is (not-ended z) (g .runs))
+
+        pub then-next : getD m ended-at 0 ≢ 0
+            → HasRun 0 (OfKind when-kind) (lent table state m row) i (lent table (set state (4 * i) 1) m row) 1
+        then-next z before part behind o =
+            record {
+              part′ = set part 0 1;
+              around = put-phase (o .around) 1 (own-in (o .live .2) 0 (lit< tt));
+              kept = kept-same m;
+              below = lit< tt;
+              runs = λ t w h. then-later reads (testing (o .around) w h) h is (is-ended z);
+            }
+
+      module _ (is : v ≡ Unsat) where
+        pub else-begins : getD m ended-at 0 ≡ 0 → {L′ : Lent} {r : ℕ} → HasRun 1 InSecond (lent table state m row) i L′ r
+            → HasRun 0 (OfKind when-kind) (lent table state m row) i L′ r
+        else-begins z run before part behind o =
+            let g = run before part behind (else-stands o) in
+            went-as (kept-same m) g (λ t w h. else-goes reads (testing (o .around) w h) h is (not-ended z) (g .runs))
+
+        pub else-next : getD m ended-at 0 ≢ 0
+            → HasRun 0 (OfKind when-kind) (lent table state m row) i (lent table (set state (4 * i) 2) m row) 1
+        else-next z before part behind o =
+            record {
+              part′ = set part 0 2;
+              around = put-phase (o .around) 2 (own-in (o .live .2) 0 (lit< tt));
+              kept = kept-same m;
+              below = lit< tt;
+              runs = λ t w h. else-later reads (testing (o .around) w h) h is (is-ended z);
+            }

@@ -1,0 +1,159 @@
+-- The row of numbers: what a write leaves of it, and the event words taken out and put back.
+use Prim.Native.Nat.{ℕ, zero, suc, _+_, _*_, _/_, _≤_, _<_}
+use mathlib.Core.Bool.{Bool, true, false}
+use mathlib.Core.Path.{_≡_, refl, ap, sym, subst, _∙_}
+use mathlib.Core.Logic.{_≢_}
+use mathlib.Core.List.{List, [], _∷_, _++_}
+use native.Mathlib.Omega.{arith}
+use mir.Val.{boolByte}
+use lib.Dec.{eqb}
+use lib.ListN.{length, getD, take, drop, set, replicate, length-append, length-set, length-drop}
+use lib.Seq.{getD-append-add, getD-drop, getD-take, getD-set-same, getD-set-other, take-at, take-set-le, length-take-le}
+use Rattle.events.specs.Events.{put}
+use Rattle.events.specs.Members.{places, marks}
+use Rattle.table.specs.Records.{nodes}
+use Rattle.steps.specs.Numbers.{event-words, atoms-at, moved-at, ended-at, base-at, places-of-row}
+use Rattle.steps.specs.Numbers.{wordsOf, tallyOf, withWords, firstNumbers, nextNumbers, Numbers, Kept, Put}
+
+pub kept-same : (numbers : List ℕ) → Kept numbers numbers
+kept-same numbers = record { long = refl; ended = refl; base = refl }
+
+pub kept-then : {m m′ m″ : List ℕ} → Kept m m′ → Kept m′ m″ → Kept m m″
+kept-then k l = record { long = l .long ∙ k .long; ended = l .ended ∙ k .ended; base = l .base ∙ k .base }
+
+-- what a row must hold, it holds then
+pub still : {table m m′ : List ℕ} → Numbers table m → Kept m m′ → Numbers table m′
+still n k = record { long = k .long ∙ n .long; ended-below = rw (k .ended) (n .ended-below); base = k .base ∙ n .base }
+
+-- the words of a row, and an event's mark there
+pub words-long : {table m : List ℕ} → Numbers table m → length (wordsOf m) ≡ event-words
+words-long {m = m} n = length-take-le event-words m (omega (arith, n .long))
+
+pub words-wide : {table m : List ℕ} → Numbers table m → 64 * length (wordsOf m) ≡ places
+words-wide n = ap (λ (k : ℕ). 64 * k) (words-long n)
+
+pub mark-in-words : (m : List ℕ) (e : ℕ) → e < places → marks m e ≡ marks (wordsOf m) e
+unfolding marks
+mark-in-words m e l = let h : e / 64 < event-words = omega arith in rw (getD-take event-words m (e / 64) 0 h)
+
+-- a number is written behind the words
+pub words-stay : (m : List ℕ) (k v : ℕ) → event-words ≤ k → wordsOf (set m k v) ≡ wordsOf m
+words-stay m k v l = take-set-le event-words m k v l
+
+pub kept-but : (m : List ℕ) (k v : ℕ) → k ≢ ended-at → k ≢ base-at → Kept m (set m k v)
+kept-but m k v a b =
+    record {
+      long = length-set m k v;
+      ended = getD-set-other m k ended-at v 0 (λ e. a (sym e));
+      base = getD-set-other m k base-at v 0 (λ e. b (sym e));
+    }
+
+-- other words in the row
+module _ (m words : List ℕ) (l : length words ≡ event-words) where
+  behind : (k : ℕ) → getD (withWords words m) (event-words + k) 0 ≡ getD m (event-words + k) 0
+  behind k =
+      subst (λ (n : ℕ). getD (words ++ drop n m) (n + k) 0 ≡ getD m (n + k) 0) l
+      (getD-append-add words (drop (length words) m) k 0 ∙ getD-drop (length words) m k 0)
+
+  pub words-in : wordsOf (withWords words m) ≡ words
+  words-in = take-at words (drop event-words m) event-words l
+
+  pub words-kept : length m ≡ places-of-row → Kept m (withWords words m)
+  words-kept n =
+      record {
+        long = simp (length-append, length-drop) (omega arith);
+        ended = behind 2;
+        base = behind 3;
+      }
+
+  pub words-tally : tallyOf (withWords words m) ≡ tallyOf m
+  words-tally = rw (behind 0, behind 1, behind 2)
+
+-- one number of the tally written anew
+pub tally-0 : (m : List ℕ) (v : ℕ) → length m ≡ places-of-row → tallyOf (set m atoms-at v) ≡ set (tallyOf m) 0 v
+tally-0 m v l =
+    let moved = getD-set-other m atoms-at moved-at v 0 (λ e. omega arith) in
+    let ended = getD-set-other m atoms-at ended-at v 0 (λ e. omega arith) in
+    rw (getD-set-same m atoms-at v 0 (omega arith), moved, ended)
+
+pub tally-1 : (m : List ℕ) (v : ℕ) → length m ≡ places-of-row → tallyOf (set m moved-at v) ≡ set (tallyOf m) 1 v
+tally-1 m v l =
+    let atoms = getD-set-other m moved-at atoms-at v 0 (λ e. omega arith) in
+    let ended = getD-set-other m moved-at ended-at v 0 (λ e. omega arith) in
+    rw (atoms, getD-set-same m moved-at v 0 (omega arith), ended)
+
+pub tally-2 : (m : List ℕ) (v : ℕ) → length m ≡ places-of-row → tallyOf (set m ended-at v) ≡ set (tallyOf m) 2 v
+tally-2 m v l =
+    let atoms = getD-set-other m ended-at atoms-at v 0 (λ e. omega arith) in
+    let moved = getD-set-other m ended-at moved-at v 0 (λ e. omega arith) in
+    rw (atoms, moved, getD-set-same m ended-at v 0 (omega arith))
+
+-- the row before the first pass
+module _ (table words : List ℕ) (l : length words ≡ event-words) where
+  blank : List ℕ
+  blank = replicate places-of-row 0
+
+  filled : List ℕ
+  filled = withWords words blank
+
+  pub first-words : (base : ℕ) → wordsOf (firstNumbers words base) ≡ words
+  unfolding filled blank
+  first-words base = words-stay filled base-at base (omega arith) ∙ words-in blank words l
+
+  pub first-tally : (base : ℕ) → tallyOf (firstNumbers words base) ≡ 0 ∷ 0 ∷ 0 ∷ []
+  unfolding filled blank
+  first-tally base =
+      let atoms = getD-set-other filled base-at atoms-at base 0 (λ e. omega arith) in
+      let moved = getD-set-other filled base-at moved-at base 0 (λ e. omega arith) in
+      let ended = getD-set-other filled base-at ended-at base 0 (λ e. omega arith) in
+      rw (atoms, moved, ended) (words-tally blank words l)
+
+  pub first-holds : Numbers table (firstNumbers words (6 * nodes table))
+  unfolding filled blank
+  first-holds =
+      let kept = words-kept blank words l refl in
+      record {
+        long = length-set filled base-at (6 * nodes table) ∙ kept .long;
+        ended-below = rw (getD-set-other filled base-at ended-at (6 * nodes table) 0 (λ e. omega arith), kept .ended) (omega arith);
+        base = getD-set-same filled base-at (6 * nodes table) 0 (omega (arith, kept .long));
+      }
+
+-- the row between two passes
+pub next-words : (m : List ℕ) → wordsOf (nextNumbers m) ≡ wordsOf m
+next-words m = words-stay (set m ended-at _) moved-at 0 (omega arith) ∙ words-stay m ended-at _ (omega arith)
+
+pub next-holds : {table m : List ℕ} → Numbers table m → Numbers table (nextNumbers m)
+next-holds {m = m} n =
+    record {
+      long = simp length-set (n .long);
+      ended-below =
+          rw (getD-set-other (set m ended-at _) moved-at ended-at 0 0 (λ e. omega arith), getD-set-same m ended-at _ 0 (omega (arith, n .long)))
+          (below (eqb (getD m moved-at 0) 0));
+      base =
+          getD-set-other (set m ended-at _) moved-at base-at 0 0 (λ e. omega arith)
+          ∙ (getD-set-other m ended-at base-at _ 0 (λ e. omega arith) ∙ n .base);
+    }
+  where
+    below : (b : Bool) → boolByte b < 2
+    below true = omega arith
+    below false = omega arith
+
+-- an event put into the row by a set of events by value
+pub puts : (m words : List ℕ) {e : ℕ} {b : Bool} → length m ≡ places-of-row → length words ≡ event-words
+    → marks words ≡ put e b (marks (wordsOf m)) → {m′ : List ℕ} → m′ ≡ withWords words m → Put e b m m′
+puts m words {e} {b} n l s {m′} is =
+    subst (λ (x : List ℕ). Put e b m x) (sym is)
+    (record {
+      events = ap marks (words-in m words l) ∙ s;
+      wide = ap length (words-in m words l) ∙ (l ∙ sym (length-take-le event-words m (omega arith)));
+      tally = words-tally m words l;
+      kept = words-kept m words l n;
+    })
+
+-- numbers copied one by one: so many are the other's, the rest is as it was
+pub copy-more : (k : ℕ) (xs ys : List ℕ) → k < length xs → k < length ys
+    → set (take k xs ++ drop k ys) k (getD xs k 0) ≡ take (suc k) xs ++ drop (suc k) ys
+copy-more k [] ys l n = absurd (omega arith)
+copy-more k (x ∷ xs) [] l n = absurd (omega arith)
+copy-more zero (x ∷ xs) (y ∷ ys) l n = refl
+copy-more (suc k) (x ∷ xs) (y ∷ ys) l n = ap (λ (l : List ℕ). x ∷ l) (copy-more k xs ys (omega arith) (omega arith))

@@ -1,0 +1,13 @@
+use Rattle.steps.proofs.flags.both_ran.Statement.{statement}
+use Rattle.steps.proofs.flags.both_ran.Tie as tie
+use borrow.Author.Needs.{needs}
+use Rattle.steps.proofs.FlagNumbers.{both-stay}
+
+pub both-ran-spec : {M : Type 1} → statement M
+both-ran-spec =
+    tie.close (tie.spec
+    (λ c. search needs)  -- add-if1: if f + g == SUSP {
+    (λ c. both-stay (c .if1 .taken) (c .before .before .pre .1))  -- returns: return SUSP;
+    (λ c κs. search needs)  -- par-end-requires: par_end(state, at, second, f, g)
+    (λ c. search needs)  -- same-length: pub fn both_ran
+    (λ c. search needs))  -- returns-2

@@ -1,0 +1,38 @@
+use Rattle.steps.proofs.leaves.run_generate.Statement.{statement}
+use Rattle.steps.proofs.leaves.run_generate.Tie as tie
+use borrow.Author.Needs.{needs}
+use mathlib.Core.Path.{refl}
+use Rattle.steps.proofs.Dispatch.{phase-reads}
+use Rattle.steps.proofs.Ended.{done-run}
+use Rattle.steps.proofs.LeafRuns.{event-placed, event-below, generate-run}
+
+-- add_event(numbers, argument_at(*table, i));
+add-event-requires : tie.Need-add-event-requires
+add-event-requires c κs =
+    let start = c .before .before .before .before .before in
+    let if1 = c .before .before .before .if1 in
+    let argument-at = c .argument-at in
+    (start .pre .3 .numbers .long, event-below (argument-at .ensures .0) (event-placed (if1 .left) (start .pre)))
+
+-- pub fn run_generate
+returns-2 : tie.Need-returns-2
+returns-2 c =
+    let start = c .before .before .before .before .before .before in
+    let if1 = c .before .before .before .before .if1 in
+    let argument-at = c .before .argument-at in
+    let add-event = c .add-event in
+    let there = event-below (argument-at .ensures .0) (event-placed (if1 .left) (start .pre)) in
+    (generate-run (if1 .left) _ (argument-at .ensures .0) there (add-event .ensures), (refl, refl))
+
+pub run-generate-spec : {M : Type 1} → statement M
+run-generate-spec =
+    tie.close (tie.spec
+    (λ c. search needs)  -- mul-if1: if state[4 * i] == GONE {
+    (λ c. phase-reads (c .pre))  -- index-1-if1
+    (λ c. search needs)  -- mul-state: state[4 * i] = 0;
+    (λ c. phase-reads (c .before .before .pre))  -- index-1-state
+    (λ c. (done-run (c .if1 .taken), (refl, refl)))  -- returns: return TERM;
+    (λ c κs. search needs)  -- argument-at-requires: add_event(numbers, argument_at(*table, i));
+    add-event-requires
+    (λ c. search needs)  -- element-write-numbers: numbers[MOVED] = 1;
+    returns-2)

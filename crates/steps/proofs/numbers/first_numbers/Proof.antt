@@ -1,0 +1,17 @@
+-- `first_numbers` meets its contract: the words are put into a row of zeros, then the byte where the configurations begin.
+use Rattle.steps.proofs.numbers.first_numbers.Statement.{statement}
+use Rattle.steps.proofs.numbers.first_numbers.Tie as tie
+use borrow.Author.Needs.{needs}
+
+-- pub fn first_numbers
+returns : tie.Need-returns
+returns c =
+    let keep-events = c .keep-events in
+    rw (keep-events .ensures)
+
+pub first-numbers-spec : {M : Type 1} → statement M
+first-numbers-spec =
+    tie.close (tie.spec
+    (λ c κs. search needs)  -- keep-events-requires: keep_events(&mut numbers, events);
+    (λ c. search needs)  -- array-write-numbers: numbers[BASE] = base as u64;
+    returns)

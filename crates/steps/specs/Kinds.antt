@@ -1,0 +1,85 @@
+-- The kinds of nodes by name (01, "The table"), and which terms each function of a pass runs.
+use Prim.Native.Nat.{ℕ}
+use mathlib.Core.Path.{_≡_}
+use mathlib.Core.Logic.{_≢_}
+use Rattle.junior.specs.Program.{kind}
+use Rattle.junior.specs.Term.{Term, prog}
+use Rattle.steps.specs.StateBytes.{head}
+use Rattle.steps.specs.Running.{Phase, KindPhase}
+
+abbrev pub nothing-kind : ℕ
+nothing-kind = 0
+
+abbrev pub stop-kind : ℕ
+stop-kind = 1
+
+abbrev pub atom-kind : ℕ
+atom-kind = 2
+
+abbrev pub seq-kind : ℕ
+seq-kind = 3
+
+abbrev pub par-kind : ℕ
+par-kind = 4
+
+abbrev pub loop-kind : ℕ
+loop-kind = 5
+
+abbrev pub repeat-kind : ℕ
+repeat-kind = 6
+
+abbrev pub generate-kind : ℕ
+generate-kind = 7
+
+abbrev pub await-kind : ℕ
+await-kind = 8
+
+abbrev pub when-kind : ℕ
+when-kind = 9
+
+abbrev pub until-kind : ℕ
+until-kind = 10
+
+abbrev pub control-kind : ℕ
+control-kind = 11
+
+abbrev pub local-kind : ℕ
+local-kind = 12
+
+-- how many of a node's own bytes a function does not look at: none, the phase, all four
+abbrev pub all-seen : ℕ
+all-seen = 0
+
+abbrev pub phase-unseen : ℕ
+phase-unseen = 1
+
+abbrev pub own-unseen : ℕ
+own-unseen = 4
+
+-- those of a kind: each form tests for phase 3 itself
+abbrev pub OfKind : ℕ → Term → Type 0
+OfKind k t = kind (prog t) ≡ k
+
+-- those of the kinds that are not told apart first
+abbrev pub Others : Term → Type 0
+Others t = (kind (prog t) ≢ par-kind) × (kind (prog t) ≢ await-kind) × (kind (prog t) ≢ seq-kind)
+
+-- Pars with both branches suspended, and all others
+abbrev pub BothSuspended : Term → Type 0
+BothSuspended t = OfKind par-kind t × (head t .phase ≡ 0) × (head t .flags ≡ 0)
+
+abbrev pub NotBoth : Term → Type 0
+NotBoth t = OfKind par-kind t × (head t .phase ≡ 0 → head t .flags ≢ 0)
+
+-- a Seq, When or Until in its second child; a When in its then branch; a Loop whose body begins; an Until*
+abbrev pub InSecond : Term → Type 0
+InSecond = Phase 2
+
+abbrev pub InThen : Term → Type 0
+InThen = KindPhase when-kind 1
+
+abbrev pub Beginning : Term → Type 0
+Beginning = KindPhase loop-kind 0
+
+abbrev pub Starred : Term → Type 0
+Starred = KindPhase until-kind 1

@@ -1,0 +1,57 @@
+-- What the functions of a pass promise one another, over one record of all that is lent. No contract of a customer's call cites this file.
+use Prim.Native.Nat.{ℕ, _*_, _<_}
+use mathlib.Core.Path.{_≡_}
+use mathlib.Core.List.{List, _++_}
+use lib.ListN.{length}
+use denote.Ref.{RefT}
+use Rattle.junior.specs.Term.{Term}
+use Rattle.steps.specs.Running.{Live, Runs}
+use Rattle.steps.specs.Numbers.{Numbers, Kept, wordsOf, tallyOf}
+use Rattle.steps.specs.Flags.{flagOf}
+
+-- all that is lent; a room more changes this, `lent` and `held`
+pub record Lent : Type 0 where
+  pub table : List ℕ
+  pub state : List ℕ
+  pub numbers : List ℕ
+  pub row : List ℕ
+
+abbrev pub lent : List ℕ → List ℕ → List ℕ → List ℕ → Lent
+lent table state numbers row = record { table = table; state = state; numbers = numbers; row = row }
+
+-- what stands behind the references
+abbrev pub held : RefT (RefT (List ℕ)) → RefT (RefT (List ℕ)) → RefT (List ℕ) → RefT (RefT (List ℕ)) → Lent
+held table state numbers atoms = lent (table .now .now) (state .now .now) (numbers .now) (atoms .now .now)
+
+-- the bytes `part` of node i and all below it stand in the whole state
+pub record Around (state : List ℕ) (i : ℕ) (before part behind : List ℕ) : Type 0 where
+  pub split : state ≡ before ++ (part ++ behind)
+  pub starts : length before ≡ 4 * i
+
+-- a term that W holds of can be run at node i
+pub record Stands (skip : ℕ) (W : Term → Type 0) (L : Lent) (i : ℕ) (before part behind : List ℕ) : Type 0 where
+  pub around : Around (L .state) i before part behind
+  pub numbers : Numbers (L .table) (L .numbers)
+  pub live : Live skip W (L .table) i part (wordsOf (L .numbers)) (L .row) (tallyOf (L .numbers))
+
+-- whatever such term stands there was run once, all around it is as it was, and r is its flag
+pub record Went (skip : ℕ) (W : Term → Type 0) (L : Lent) (i : ℕ) (before part behind : List ℕ) (L′ : Lent) (r : ℕ) : Type 0 where
+  pub part′ : List ℕ
+  pub around : Around (L′ .state) i before part′ behind
+  pub kept : Kept (L .numbers) (L′ .numbers)
+  pub below : r < 3
+  pub runs :
+      Runs skip W (L .table) i part (wordsOf (L .numbers)) (L .row) (tallyOf (L .numbers))
+      part′ (wordsOf (L′ .numbers)) (L′ .row) (tallyOf (L′ .numbers)) (flagOf r)
+
+-- what each function of the cycle asks, and what it gives
+abbrev pub CanRun : ℕ → (Term → Type 0) → Lent → ℕ → Type 0
+CanRun skip W L i = (before : List ℕ) × (part : List ℕ) × (behind : List ℕ) × Stands skip W L i before part behind
+
+abbrev pub HasRun : ℕ → (Term → Type 0) → Lent → ℕ → Lent → ℕ → Type 0
+HasRun skip W L i L′ r =
+    (before part behind : List ℕ) → Stands skip W L i before part behind → Went skip W L i before part behind L′ r
+
+-- the slices behind the thin references are the same ones
+abbrev pub Named : RefT (List ℕ) → RefT (List ℕ) → RefT (List ℕ) → RefT (List ℕ) → Type 0
+Named state state′ atoms atoms′ = (state′ .name ≡ state .name) × (atoms′ .name ≡ atoms .name)

@@ -1,0 +1,70 @@
+-- The row of numbers that a pass carries: the event words, then one number each for how many atoms are done, whether something moved, whether
+-- the end is declared, and the byte of the table where the configurations begin. A number more is a place more here.
+use Prim.Native.Nat.{ℕ, _+_, _*_, _<_}
+use mathlib.Core.Bool.{Bool}
+use mathlib.Core.Path.{_≡_}
+use mathlib.Core.List.{List, [], _∷_, _++_}
+use mir.Val.{boolByte}
+use lib.Dec.{eqb}
+use lib.ListN.{length, getD, take, drop, set, replicate}
+use Rattle.events.specs.Events.{put}
+use Rattle.events.specs.Members.{marks}
+use Rattle.table.specs.Records.{nodes}
+
+-- how many event words there are, and the places behind them
+abbrev pub event-words : ℕ
+event-words = 4
+
+abbrev pub atoms-at : ℕ
+atoms-at = 4
+
+abbrev pub moved-at : ℕ
+moved-at = 5
+
+abbrev pub ended-at : ℕ
+ended-at = 6
+
+abbrev pub base-at : ℕ
+base-at = 7
+
+abbrev pub places-of-row : ℕ
+places-of-row = 8
+
+-- the event words of a row
+abbrev pub wordsOf : List ℕ → List ℕ
+wordsOf numbers = take event-words numbers
+
+-- the tally of a row: atoms done, moved, ended
+abbrev pub tallyOf : List ℕ → List ℕ
+tallyOf numbers = getD numbers atoms-at 0 ∷ getD numbers moved-at 0 ∷ getD numbers ended-at 0 ∷ []
+
+-- a row with other event words
+abbrev pub withWords : List ℕ → List ℕ → List ℕ
+withWords words numbers = words ++ drop event-words numbers
+
+-- what a row must hold: "ended" is 0 or 1, so that a node can answer it as a flag
+pub record Numbers (table numbers : List ℕ) : Type 0 where
+  pub long : length numbers ≡ places-of-row
+  pub ended-below : getD numbers ended-at 0 < 2
+  pub base : getD numbers base-at 0 ≡ 6 * nodes table
+
+-- what a run leaves of it
+pub record Kept (numbers numbers′ : List ℕ) : Type 0 where
+  pub long : length numbers′ ≡ length numbers
+  pub ended : getD numbers′ ended-at 0 ≡ getD numbers ended-at 0
+  pub base : getD numbers′ base-at 0 ≡ getD numbers base-at 0
+
+-- event e is marked in the words, or its mark is taken away, and nothing else is changed
+pub record Put (e : ℕ) (present : Bool) (numbers numbers′ : List ℕ) : Type 0 where
+  pub events : marks (wordsOf numbers′) ≡ put e present (marks (wordsOf numbers))
+  pub wide : length (wordsOf numbers′) ≡ length (wordsOf numbers)
+  pub tally : tallyOf numbers′ ≡ tallyOf numbers
+  pub kept : Kept numbers numbers′
+
+-- before the first pass: the events handed in; nothing is done, moved or ended
+abbrev pub firstNumbers : List ℕ → ℕ → List ℕ
+firstNumbers words base = set (withWords words (replicate places-of-row 0)) base-at base
+
+-- between two passes: the end is declared if nothing moved, and move is false again
+abbrev pub nextNumbers : List ℕ → List ℕ
+nextNumbers numbers = set (set numbers ended-at (boolByte (eqb (getD numbers moved-at 0) 0))) moved-at 0

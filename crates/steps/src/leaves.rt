@@ -1,0 +1,197 @@
+// What a pass does at nodes without children. Each tests for phase 3 itself: it then reads as Nothing, rule 1.
+ghost use mathlib.Core.Path.{_≡_};
+ghost use mathlib.Core.Bool.{_&&_, not};
+ghost use Prim.Native.Nat.{_+_, _<_};
+ghost use lib.Dec.{eqb};
+ghost use lib.ListN.{length, getD, set};
+ghost use Rattle.events.specs.Members.{marks};
+ghost use Rattle.table.specs.Records.{partKind, partEvent};
+ghost use Rattle.steps.specs.Numbers.{Numbers, wordsOf, tallyOf};
+ghost use Rattle.steps.specs.Kinds.{OfKind, all-seen, nothing-kind, stop-kind, atom-kind, generate-kind, await-kind};
+ghost use Rattle.steps.specs.Lent.{held, CanRun, HasRun, Named};
+ghost use Rattle.steps.specs.Tests.{CanTest, TestRanked, loneAbsent};
+use crate::flags::STOP;
+use crate::flags::SUSP;
+use crate::flags::TERM;
+use crate::numbers::ATOMS;
+use crate::numbers::BASE;
+use crate::numbers::ENDED;
+use crate::numbers::MOVED;
+use crate::numbers::NUMBERS;
+use crate::numbers::add_event;
+use crate::numbers::events_of;
+use crate::phases::GONE;
+use events::marked;
+use junior::Verdict;
+use table::reading::read_configuration;
+use table::records::argument_at;
+use table::records::part_event;
+use table::records::part_kind;
+
+// Ranks of a test that is read.
+pub const UNSAT: u8 = 0;
+
+pub const UNKNOWN: u8 = 1;
+
+pub const SAT: u8 = 2;
+
+// Rule 1.
+pub fn run_nothing(
+    table: &&[u8],
+    i: usize,
+    state: &mut &mut [u8],
+    numbers: &mut [u64; NUMBERS],
+    atoms: &mut &mut [u16],
+) -> u8
+    requires { ⌜ CanRun all-seen (OfKind nothing-kind) (held table state numbers atoms) i ⌝ }
+    ensures { λ r.
+        ⌜ HasRun all-seen (OfKind nothing-kind) (held (table .entry) (state .entry) (numbers .entry) (atoms .entry)) i
+        (held (table .exit) (state .exit) (numbers .exit) (atoms .exit)) r ⌝ }
+    ensures { λ r. ⌜ Named (now (state .entry)) (now (state .exit)) (now (atoms .entry)) (now (atoms .exit)) ⌝ }
+{
+    state[4 * i] = 0;
+    TERM
+}
+
+// Rule 2.
+pub fn run_stop(
+    table: &&[u8],
+    i: usize,
+    state: &mut &mut [u8],
+    numbers: &mut [u64; NUMBERS],
+    atoms: &mut &mut [u16],
+) -> u8
+    requires { ⌜ CanRun all-seen (OfKind stop-kind) (held table state numbers atoms) i ⌝ }
+    ensures { λ r.
+        ⌜ HasRun all-seen (OfKind stop-kind) (held (table .entry) (state .entry) (numbers .entry) (atoms .entry)) i
+        (held (table .exit) (state .exit) (numbers .exit) (atoms .exit)) r ⌝ }
+    ensures { λ r. ⌜ Named (now (state .entry)) (now (state .exit)) (now (atoms .entry)) (now (atoms .exit)) ⌝ }
+{
+    if state[4 * i] == GONE {
+        state[4 * i] = 0;
+        return TERM;
+    }
+    state[4 * i] = GONE;
+    STOP
+}
+
+// Rule 3: the atom's number goes into the row.
+pub fn run_atom(
+    table: &&[u8],
+    i: usize,
+    state: &mut &mut [u8],
+    numbers: &mut [u64; NUMBERS],
+    atoms: &mut &mut [u16],
+) -> u8
+    requires { ⌜ CanRun all-seen (OfKind atom-kind) (held table state numbers atoms) i ⌝ }
+    ensures { λ r.
+        ⌜ HasRun all-seen (OfKind atom-kind) (held (table .entry) (state .entry) (numbers .entry) (atoms .entry)) i
+        (held (table .exit) (state .exit) (numbers .exit) (atoms .exit)) r ⌝ }
+    ensures { λ r. ⌜ Named (now (state .entry)) (now (state .exit)) (now (atoms .entry)) (now (atoms .exit)) ⌝ }
+{
+    if state[4 * i] == GONE {
+        state[4 * i] = 0;
+        return TERM;
+    }
+    let done = put_atom(*atoms, numbers[ATOMS] as usize, argument_at(*table, i));
+    numbers[ATOMS] = done as u64;
+    TERM
+}
+
+// One atom more in the row, and how many there are then.
+fn put_atom(atoms: &mut [u16], at: usize, atom: usize) -> usize
+    requires { ⌜ (at < length (now atoms)) × (atom < 65536) ⌝ }
+    ensures { λ r. ⌜ (r ≡ at + 1) × (now (atoms .exit) ≡ set (now (atoms .entry)) at atom) ⌝ }
+{
+    atoms[at] = atom as u16;
+    at + 1
+}
+
+// Rule 16: E+S.
+pub fn run_generate(
+    table: &&[u8],
+    i: usize,
+    state: &mut &mut [u8],
+    numbers: &mut [u64; NUMBERS],
+    atoms: &mut &mut [u16],
+) -> u8
+    requires { ⌜ CanRun all-seen (OfKind generate-kind) (held table state numbers atoms) i ⌝ }
+    ensures { λ r.
+        ⌜ HasRun all-seen (OfKind generate-kind) (held (table .entry) (state .entry) (numbers .entry) (atoms .entry)) i
+        (held (table .exit) (state .exit) (numbers .exit) (atoms .exit)) r ⌝ }
+    ensures { λ r. ⌜ Named (now (state .entry)) (now (state .exit)) (now (atoms .entry)) (now (atoms .exit)) ⌝ }
+{
+    if state[4 * i] == GONE {
+        state[4 * i] = 0;
+        return TERM;
+    }
+    add_event(numbers, argument_at(*table, i));
+    numbers[MOVED] = 1;
+    TERM
+}
+
+// Rules 22 to 25. A lone event that is absent leaves an Await waiting, or stopped once the end is declared.
+pub fn run_await(
+    table: &&[u8],
+    i: usize,
+    state: &mut &mut [u8],
+    numbers: &mut [u64; NUMBERS],
+    atoms: &mut &mut [u16],
+) -> u8
+    requires { ⌜ CanRun all-seen (OfKind await-kind) (held table state numbers atoms) i ⌝ }
+    ensures { λ r.
+        ⌜ HasRun all-seen (OfKind await-kind) (held (table .entry) (state .entry) (numbers .entry) (atoms .entry)) i
+        (held (table .exit) (state .exit) (numbers .exit) (atoms .exit)) r ⌝ }
+    ensures { λ r. ⌜ Named (now (state .entry)) (now (state .exit)) (now (atoms .entry)) (now (atoms .exit)) ⌝ }
+{
+    if state[4 * i] == GONE {
+        state[4 * i] = 0;
+        return TERM;
+    }
+    if lone_absent(*table, i, numbers) {
+        return numbers[ENDED] as u8;
+    }
+    let rank = test_rank(*table, i, numbers);
+    if rank == UNKNOWN {
+        return SUSP;
+    }
+    if rank == UNSAT {
+        return STOP;
+    }
+    if numbers[ENDED] == 0 {
+        return TERM;
+    }
+    state[4 * i] = GONE;
+    STOP
+}
+
+// Whether node i tests a lone event, and that is absent.
+fn lone_absent(table: &[u8], i: usize, numbers: &[u64; NUMBERS]) -> bool
+    requires { ⌜ CanTest (now table) i (now numbers) ⌝ }
+    ensures { λ r. ⌜ r ≡ loneAbsent (now (table .entry)) i (now (numbers .entry)) ⌝ }
+{
+    let c = numbers[BASE] as usize + 4 * argument_at(table, i);
+    if part_kind(table, c) == 0 {
+        if marked(numbers, part_event(table, c)) {
+            return false;
+        }
+        return true;
+    }
+    false
+}
+
+// What the configuration that node i tests is read as now, by its rank.
+pub fn test_rank(table: &[u8], i: usize, numbers: &[u64; NUMBERS]) -> u8
+    requires { ⌜ CanTest (now table) i (now numbers) ⌝ }
+    ensures { λ r. ⌜ TestRanked (now (table .entry)) i (now (numbers .entry)) r ⌝ }
+{
+    let c = numbers[BASE] as usize + 4 * argument_at(table, i);
+    let events = events_of(numbers);
+    let ended = numbers[ENDED] != 0;
+    let v = read_configuration(table, c, &events.words, ended);
+    match v {
+        Verdict::Unsat => UNSAT,
+        Verdict::Unknown => UNKNOWN,
+        Verdict::Sat => SAT,
+    }
+}

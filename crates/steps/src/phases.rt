@@ -1,0 +1,100 @@
+// A node's own four bytes in the whole state, node i's from byte 4i on: the phase, a Par's flags, a Repeat's count (16, big-endian).
+ghost use mathlib.Core.Path.{_≡_};
+ghost use mathlib.Core.Bool.{_&&_, not, cond};
+ghost use Prim.Native.Nat.{_+_, _-_, _*_, _<_, _≤_, _/_, _%_};
+ghost use lib.Dec.{eqb};
+ghost use lib.ListN.{length, set, replicate};
+ghost use borrow.Rule.Slice.PartMut.{putMid};
+ghost use Rattle.steps.specs.Kinds.{par-kind};
+use crate::clear;
+use crate::kinds::PAR;
+use table::records::wide;
+
+// Where the flags and the count stand behind the phase.
+pub const FLAGS: usize = 1;
+
+pub const COUNT: usize = 2;
+
+// Phases by name: reads as Nothing; in the second child; in the then branch; begun; Until*; Local plus.
+pub const GONE: u8 = 3;
+
+pub const SECOND: u8 = 2;
+
+pub const THEN: u8 = 1;
+
+pub const BEGUN: u8 = 1;
+
+pub const STARRED: u8 = 1;
+
+pub const PLUS: u8 = 1;
+
+// Whether both branches of a Par are suspended, by its phase and its flags.
+pub fn both_suspended(phase: u8, flags: u8) -> bool
+    ensures { λ r. ⌜ r ≡ (eqb phase 0 && eqb flags 0) ⌝ }
+{
+    if phase == 0 {
+        return flags == 0;
+    }
+    false
+}
+
+// Whether a node is such a Par.
+pub fn fresh_par(kind: usize, phase: u8, flags: u8) -> bool
+    ensures { λ r. ⌜ r ≡ (eqb kind par-kind && (eqb phase 0 && eqb flags 0)) ⌝ }
+{
+    if kind == PAR {
+        return both_suspended(phase, flags);
+    }
+    false
+}
+
+// Whether a node is a Par, and not such a one.
+pub fn half_par(kind: usize, phase: u8, flags: u8) -> bool
+    ensures { λ r. ⌜ r ≡ (eqb kind par-kind && not (eqb phase 0 && eqb flags 0)) ⌝ }
+{
+    if kind == PAR {
+        if both_suspended(phase, flags) {
+            return false;
+        }
+        return true;
+    }
+    false
+}
+
+// How often a Repeat's body is still to be run, one that is being run counted: all its times, or by the count of one that has begun.
+pub fn turns_of(phase: u8, times: usize, high: u8, low: u8) -> usize
+    ensures { λ r. ⌜ r ≡ cond (eqb phase 0) times (high * 256 + low + 1) ⌝ }
+{
+    if phase == 0 {
+        return times;
+    }
+    wide(high) * 256 + wide(low) + 1
+}
+
+// A Repeat at byte `at` has begun, k runs being still to begin.
+pub fn begin_turn(state: &mut [u8], at: usize, k: usize)
+    requires { ⌜ (at + 3 < length (now state)) × (k < 65536) ⌝ }
+    ensures { λ r. ⌜ now (state .exit) ≡ set (set (set (now (state .entry)) at 1) (at + 2) (k / 256)) (at + 3) (k % 256) ⌝ }
+{
+    state[at] = BEGUN;
+    state[at + COUNT] = (k / 256) as u8;
+    state[at + COUNT + 1] = (k % 256) as u8;
+}
+
+// A Repeat at byte `at` has ended.
+pub fn end_turns(state: &mut [u8], at: usize)
+    requires { ⌜ at + 3 < length (now state) ⌝ }
+    ensures { λ r. ⌜ now (state .exit) ≡ set (set (set (now (state .entry)) at 0) (at + 2) 0) (at + 3) 0 ⌝ }
+{
+    state[at] = 0;
+    state[at + COUNT] = 0;
+    state[at + COUNT + 1] = 0;
+}
+
+// A subtree's bytes, a middle part of the state, become fresh.
+pub fn clear_part(state: &mut [u8], from: usize, till: usize)
+    requires { ⌜ (from ≤ till) × (till ≤ length (now state)) ⌝ }
+    ensures { λ r. ⌜ now (state .exit) ≡ putMid from (till - from) (now (state .entry)) (replicate (till - from) 0) ⌝ }
+{
+    clear(&mut state[from..till]);
+}
