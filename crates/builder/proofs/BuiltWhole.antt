@@ -125,14 +125,11 @@ module _ {text : List ℕ} {n m v room : ℕ} {p : Program} (g : Measured text n
 
     -- and what it does to the levels
     abbrev leveling : List ℕ → List ℕ
-    leveling = relevel (byte text (k - 1)) (byte text k)
-
-    follows : byte text k ≡ byte (drop k text) 0
-    follows = sym (getD-drop k text 0 0 ∙ ap (byte text) (add-zero k))
+    leveling = relevel (byte text (k - 1)) (take (length text - k) (drop k text))
 
     leveling-is : leveling (levels (drop k text)) ≡ levels (drop (k - 1) text)
     unfolding levels
-    leveling-is = rw (follows, next)
+    leveling-is = rw (rest, next)
 
     level-room : length (leveling (levels (drop k text))) ≤ length lv
     level-room =

@@ -9,7 +9,6 @@ use lib.Dec.{eqb}
 use lib.ListN.{length, set, take, drop, length-set, length-drop, take-append-drop}
 use Rattle.junior.specs.Configuration.{Config}
 use Rattle.junior.specs.Program.{Program, size}
-use Rattle.table.specs.Records.{byte}
 use Rattle.table.specs.Spells.{weight}
 use Rattle.letters.specs.Decimal.{decimal}
 use Rattle.letters.specs.Text.{bytes}
@@ -21,6 +20,7 @@ use Rattle.form.specs.Form.{more-of-par, says-loop, says-repeat, says-generate,
 use Rattle.form.specs.Form.{says-until}
 use Rattle.form.specs.Form.{says-control, says-local}
 use Rattle.form.specs.Made.{tests}
+use Rattle.form.specs.Inside.Rows.{pairOf}
 use Rattle.builder.specs.Building.{relevel, levels}
 use Rattle.builder.proofs.ReadDigits.{past-decimal}
 
@@ -45,21 +45,21 @@ no-longer : (n : ℕ) (b : Bool) (l k : List ℕ) → length l ≤ n → length 
 no-longer n true l k h g = h
 no-longer n false l k h g = g
 
-one-more : (b c : ℕ) (l : List ℕ) → length (relevel b c l) ≤ cond (eqb b 41) 1 0 + length l
+one-more : (b : ℕ) (w l : List ℕ) → length (relevel b w l) ≤ cond (eqb b 41) 1 0 + length l
 unfolding relevel
-one-more b c l = go (eqb b 41)
+one-more b w l = go (eqb b 41)
   where
     go :
         (x : Bool)
-        → length (cond (eqb b 32) (cond (eqb c 97) (set l 0 2) (cond (eqb c 111) (set l 0 3) l)) (cond (eqb b 40) (drop 1 l) (cond x (0 ∷ l) (cond (eqb b 44) (set l 0 1) l))))
+        → length (cond (eqb b 32) (cond (eqb (pairOf w) 0) l (set l 0 (pairOf w))) (cond (eqb b 40) (drop 1 l) (cond x (0 ∷ l) (cond (eqb b 44) (set l 0 1) l))))
         ≤ cond x 1 0 + length l
     go x =
         let n : ℕ = cond x 1 0 + length l in
         let same : length l ≤ n = omega arith in
         let stored : (k : ℕ) → length (set l 0 k) ≤ n = λ k. rw (length-set l 0 k) same in
         let fewer : length (drop 1 l) ≤ n = rw (length-drop 1 l) (omega arith) in
-        no-longer n (eqb b 32) (cond (eqb c 97) (set l 0 2) (cond (eqb c 111) (set l 0 3) l)) (cond (eqb b 40) (drop 1 l) (cond x (0 ∷ l) (cond (eqb b 44) (set l 0 1) l)))
-        (no-longer n (eqb c 97) (set l 0 2) (cond (eqb c 111) (set l 0 3) l) (stored 2) (no-longer n (eqb c 111) (set l 0 3) l (stored 3) same))
+        no-longer n (eqb b 32) (cond (eqb (pairOf w) 0) l (set l 0 (pairOf w))) (cond (eqb b 40) (drop 1 l) (cond x (0 ∷ l) (cond (eqb b 44) (set l 0 1) l)))
+        (no-longer n (eqb (pairOf w) 0) l (set l 0 (pairOf w)) same (stored (pairOf w)))
         (no-longer n (eqb b 40) (drop 1 l) (cond x (0 ∷ l) (cond (eqb b 44) (set l 0 1) l)) fewer (closing x))
       where
         closing : (y : Bool) → length (cond y (0 ∷ l) (cond (eqb b 44) (set l 0 1) l)) ≤ cond y 1 0 + length l
@@ -69,7 +69,7 @@ one-more b c l = go (eqb b 41)
 levels-closes : (w : List ℕ) → length (levels w) ≤ closes w
 unfolding levels closes
 levels-closes [] = omega arith
-levels-closes (b ∷ w) = let h = one-more b (byte w 0) (levels w) in let k = levels-closes w in omega arith
+levels-closes (b ∷ w) = let h = one-more b w (levels w) in let k = levels-closes w in omega arith
 
 closes-test : {c : Config} {u : List ℕ} → SaysTest c u → (x : List ℕ) → closes (u ++ x) ≤ weight c + closes x
 unfolding closes weight

@@ -1,6 +1,6 @@
 -- What is placed only grows from the end of a text to its beginning, so it has room at each byte if it has at the first.
 use Prim.Native.Nat.{ℕ, zero, suc, _+_, _*_, _%_, _≤_}
-use mathlib.Core.Bool.{Bool, true, false, cond, _||_}
+use mathlib.Core.Bool.{Bool, true, false, cond}
 use mathlib.Core.Path.{_≡_, refl, _∙_}
 use mathlib.Core.List.{List, [], _∷_, _++_}
 use native.Mathlib.Omega.{arith}
@@ -10,9 +10,10 @@ use lib.Seq.{length-sets}
 use Rattle.table.specs.Records.{byte, word}
 use Rattle.form.specs.Made.{big}
 use Rattle.form.specs.Inside.Machine.{isDigit}
+use Rattle.form.specs.Inside.Rows.{wordRow, inside, named, kindOf}
 use Rattle.builder.specs.Building.{Placed, withNode, withTest, number, joint, pair, negation, event}
 use Rattle.builder.specs.Building.{opening, spread, labelled, row}
-use Rattle.builder.specs.Building.{choice, await, single, kindOf, inside, form, name, comma, place, levels}
+use Rattle.builder.specs.Building.{choice, await, single, behindJ, form, name, comma, place, levels}
 use Rattle.builder.specs.Building.{placed, Room}
 
 pub record Grows (s t : Placed) : Type 0 where
@@ -74,7 +75,7 @@ grows-opening level w s =
     grows-either
     (ltb 1 level)
     (grows-then (grows-event w s) (grows-pair level (event w s)))
-    (grows-either (eqb (byte w 0) 110) (grows-negation s) (grows-self s))
+    (grows-either (named (wordRow 1) w) (grows-negation s) (grows-self s))
 
 pub row-length : (k : ℕ) (s : Placed) → length (row k s .nodes) ≡ length (joint s .nodes)
 unfolding row
@@ -101,9 +102,9 @@ grows-choice k w s =
     let e = choice-length k w s in
     record { nodes-grow = omega arith; tests-grow = omega arith }
 
-pub grows-await : (w : List ℕ) (s : Placed) → Grows (event w s) (await w s)
+pub grows-await : (k : ℕ) (w : List ℕ) (s : Placed) → Grows (event w s) (await k w s)
 unfolding await
-grows-await w s = grows-node 8 _ 1 (event w s)
+grows-await k w s = grows-node k _ 1 (event w s)
 
 grows-single : (k : ℕ) (w : List ℕ) (s : Placed) → Grows s (single k w s)
 unfolding single
@@ -113,12 +114,12 @@ grows-form : (k : ℕ) (w : List ℕ) (s : Placed) → Grows s (form k w s)
 unfolding form
 grows-form k w s =
     grows-either
-    (eqb k 3 || eqb k 4)
+    (eqb (inside k 4) 133)
     (grows-row k s)
     (grows-either
-    (eqb k 8)
-    (grows-then (grows-event w s) (grows-await w s))
-    (grows-either (eqb k 9 || eqb k 10) (grows-then (grows-event w s) (grows-choice k w s)) (grows-single k w s)))
+    (eqb (inside k 0) 134)
+    (grows-then (grows-event w s) (grows-either (eqb (inside k 1) 44) (grows-choice k w s) (grows-await k w s)))
+    (grows-single k w s))
 
 grows-comma : (level : ℕ) (s : Placed) → Grows s (comma level s)
 unfolding comma
@@ -127,7 +128,7 @@ grows-comma level s = grows-either (eqb level 1) (grows-joint s) (grows-self s)
 grows-place : (b level : ℕ) (w : List ℕ) (s : Placed) → Grows s (place b level w s)
 unfolding place name
 grows-place b level w s =
-    let k : ℕ = kindOf (byte w 2) (byte w 4) in
+    let k : ℕ = kindOf (drop 2 w) in
     grows-either
     (eqb b 32)
     (grows-event w s)
@@ -137,7 +138,7 @@ grows-place b level w s =
     (grows-either
     (eqb b 44)
     (grows-comma level s)
-    (grows-either (eqb b 74) (grows-form k (drop (inside k) w) s) (grows-self s))))
+    (grows-either (eqb b 74) (grows-form k (drop (behindJ k) w) s) (grows-self s))))
 
 grows-text : (m : ℕ) (w x : List ℕ) → Grows (placed m x) (placed m (w ++ x))
 unfolding placed

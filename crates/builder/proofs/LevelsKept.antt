@@ -4,6 +4,7 @@ use mathlib.Core.Path.{_≡_, refl, ap, _∙_}
 use mathlib.Core.List.{List, _∷_, _++_, append-assoc}
 use native.Mathlib.Omega.{arith}
 use borrow.Author.Tests.{ne-eqb}
+use Rattle.form.proofs.Rows.{no-pair}
 use lib.ListN.{set, drop}
 use Rattle.junior.specs.Configuration.{Config}
 use Rattle.table.specs.Records.{byte}
@@ -40,7 +41,7 @@ levels-close x = refl
 -- a blank before what is neither `and` nor `or`
 pub levels-blank : (x : List ℕ) → byte x 0 < 97 → levels (32 ∷ x) ≡ levels x
 unfolding levels relevel
-levels-blank x h = simp (ne-eqb (byte x 0) 97 (λ e. omega arith), ne-eqb (byte x 0) 111 (λ e. omega arith))
+levels-blank x h = rw (no-pair x h)
 
 pub levels-and : (x : List ℕ) → byte x 0 < 97 → levels (bytes " and " ++ x) ≡ set (levels x) 0 2
 unfolding levels relevel
@@ -70,7 +71,7 @@ levels-comma :
     → (x : List ℕ)
     → levels (44 ∷ 32 ∷ (u ++ x)) ≡ set (levels (u ++ x)) 0 1
 unfolding levels relevel
-levels-comma d x = rw (begins d x)
+levels-comma {u = u} d x = let b = begins d x in rw (no-pair (u ++ x) (omega arith))
 
 -- a whole program leaves the levels; with a comma before it, what stands behind the first comma of a Seq or Par leaves its bracket's
 abbrev pub Kept : Piece → List ℕ → List ℕ → Type 0

@@ -1,19 +1,25 @@
 -- What a name or a comma places in front of what its parts have placed.
-use Prim.Native.Nat.{ℕ, _+_, _≤_, _<_}
+use Prim.Native.Nat.{ℕ, suc, _+_, _-_, _≤_, _<_}
+use mathlib.Core.Bool.{Bool, true, false, cond, _&&_, false≢true}
 use mathlib.Core.Path.{_≡_, refl, ap, _∙_}
-use mathlib.Core.List.{List, _∷_, _++_, append-assoc}
+use mathlib.Core.List.{List, [], _∷_, _++_, append-assoc}
 use native.Mathlib.Nat.{div-add-mod'}
 use native.Mathlib.Omega.{arith}
-use borrow.Author.Tests.{ne-eqb, le-ltb}
+use lib.Dec.{eqb, leb}
+use lib.ListN.{length, drop}
+use borrow.Author.Tests.{eqb-false, ne-eqb, le-ltb, leb-true}
 use Rattle.junior.specs.Configuration.{Config}
 use Rattle.junior.specs.Program.{Program, Seq, Par, size, kind}
 use Rattle.table.specs.Records.{byte, word}
-use Rattle.letters.specs.Text.{bytes}
+use Rattle.form.specs.Names.{formOf, opening as opened}
 use Rattle.form.specs.Made.{big, tests, nodesFrom, testRecords, testsOf}
 use Rattle.form.specs.Inside.Machine.{isDigit}
+use Rattle.form.specs.Inside.Rows.{rowAt, formRow, kinds, nameEnd}
+use Rattle.form.proofs.Tested.{both, all, all-at}
+use Rattle.form.proofs.Rows.{name-long, kind-told, no-not}
 use Rattle.builder.specs.Building.{Placed, number, joint, event, opening, labelled, row, choice}
 use Rattle.builder.specs.Building.{await, ownSize, single}
-use Rattle.builder.specs.Building.{kindOf, inside, form, name, comma, place, levels, placed}
+use Rattle.builder.specs.Building.{behindJ, form, name, comma, place, levels, placed}
 use Rattle.builder.proofs.LevelsKept.{levels-blank}
 use Rattle.builder.proofs.Headed.{size-there, kind-small, joined-nodes}
 use Rattle.builder.proofs.Spread.{Spine, ends, goes, labels}
@@ -31,63 +37,49 @@ pub record Enclosed (y : List ℕ) : Type 0 where
   pub low : level ≤ 1
   pub letter : byte y 0 < 110
 
+-- letters that place nothing
+unfoldable quiet : List ℕ → Bool
+quiet [] = true
+quiet (b ∷ u) = leb 45 b && cond (eqb b 74) false (quiet u)
+
+not-J : (b : ℕ) (r : Bool) → cond (eqb b 74) false r ≡ true → (b ≡ 74 → ⊥) × (r ≡ true)
+not-J b r = go (eqb b 74) refl
+  where
+    go : (t : Bool) → eqb b 74 ≡ t → cond t false r ≡ true → (b ≡ 74 → ⊥) × (r ≡ true)
+    go true f e = absurd (false≢true e)
+    go false f e = (eqb-false b 74 f, e)
+
+quiet-name : (k : ℕ) → k < kinds → quiet (formOf k .name) ≡ true
+unfolding all quiet formOf
+quiet-name = all-at kinds (λ k. quiet (formOf k .name)) refl
+
+past : (u y : List ℕ) → drop (suc (length u)) (u ++ (40 ∷ y)) ≡ y
+past [] y = refl
+past (b ∷ u) y = past u y
+
 module _ (m : ℕ) (y : List ℕ) (g : Enclosed y) where
   -- such a bracket places nothing
-  plain : opening (byte (levels y) 0) y (placed m y) ≡ placed m y
-  unfolding opening
-  plain = rw (g .levels-are, le-ltb 1 (g .level) (g .low), ne-eqb (byte y 0) 110 (λ e. let l = g .letter in omega arith))
+  plain : placed m (40 ∷ y) ≡ placed m y
+  unfolding placed place opening
+  plain = rw (g .levels-are, le-ltb 1 (g .level) (g .low), no-not y (g .letter))
 
-  pub reads-nothing : placed m (bytes "Jr.Nothing(" ++ y) ≡ form 0 y (placed m y)
-  unfolding placed place name kindOf inside
-  reads-nothing = ap (form 0 y) plain
+  letters : (u z : List ℕ) → quiet u ≡ true → placed m (u ++ z) ≡ placed m z
+  unfolding quiet placed place
+  letters [] z e = refl
+  letters (b ∷ u) z e =
+      let h = leb-true 45 b (both {b = cond (eqb b 74) false (quiet u)} e .0) in
+      let (n, r) = not-J b (quiet u) (both {a = leb 45 b} e .1) in
+      simp (ne-eqb b 32 (λ x. omega arith), ne-eqb b 40 (λ x. omega arith), ne-eqb b 44 (λ x. omega arith), ne-eqb b 74 n) (letters u z r)
 
-  pub reads-stop : placed m (bytes "Jr.Stop(" ++ y) ≡ form 1 y (placed m y)
-  unfolding placed place name kindOf inside
-  reads-stop = ap (form 1 y) plain
-
-  pub reads-atom : placed m (bytes "Jr.Atom(" ++ y) ≡ form 2 y (placed m y)
-  unfolding placed place name kindOf inside
-  reads-atom = ap (form 2 y) plain
-
-  pub reads-seq : placed m (bytes "Jr.Seq(" ++ y) ≡ form 3 y (placed m y)
-  unfolding placed place name kindOf inside
-  reads-seq = ap (form 3 y) plain
-
-  pub reads-par : placed m (bytes "Jr.Par(" ++ y) ≡ form 4 y (placed m y)
-  unfolding placed place name kindOf inside
-  reads-par = ap (form 4 y) plain
-
-  pub reads-loop : placed m (bytes "Jr.Loop(" ++ y) ≡ form 5 y (placed m y)
-  unfolding placed place name kindOf inside
-  reads-loop = ap (form 5 y) plain
-
-  pub reads-repeat : placed m (bytes "Jr.Repeat(" ++ y) ≡ form 6 y (placed m y)
-  unfolding placed place name kindOf inside
-  reads-repeat = ap (form 6 y) plain
-
-  pub reads-generate : placed m (bytes "Jr.Generate(" ++ y) ≡ form 7 y (placed m y)
-  unfolding placed place name kindOf inside
-  reads-generate = ap (form 7 y) plain
-
-  pub reads-await : placed m (bytes "Jr.Await(" ++ y) ≡ form 8 y (placed m y)
-  unfolding placed place name kindOf inside
-  reads-await = ap (form 8 y) plain
-
-  pub reads-when : placed m (bytes "Jr.When(" ++ y) ≡ form 9 y (placed m y)
-  unfolding placed place name kindOf inside
-  reads-when = ap (form 9 y) plain
-
-  pub reads-until : placed m (bytes "Jr.Until(" ++ y) ≡ form 10 y (placed m y)
-  unfolding placed place name kindOf inside
-  reads-until = ap (form 10 y) plain
-
-  pub reads-control : placed m (bytes "Jr.Control(" ++ y) ≡ form 11 y (placed m y)
-  unfolding placed place name kindOf inside
-  reads-control = ap (form 11 y) plain
-
-  pub reads-local : placed m (bytes "Jr.Local(" ++ y) ≡ form 12 y (placed m y)
-  unfolding placed place name kindOf inside
-  reads-local = ap (form 12 y) plain
+  -- the name of kind k before this text
+  pub reads : (k : ℕ) → k < kinds → placed m (opened k ++ y) ≡ form k y (placed m y)
+  unfolding opened placed place name behindJ
+  reads k h =
+      let u : List ℕ = formOf k .name in
+      let e : (u ++ (40 ∷ [])) ++ y ≡ u ++ (40 ∷ y) = append-assoc u (40 ∷ []) y in
+      let d : nameEnd (formRow k) - rowAt (formRow k) ≡ suc (length u) = let l = name-long k h in omega arith in
+      let f : 2 + suc (length u) ≡ suc (suc (suc (length u))) = omega arith in
+      rw (e, kind-told k h y, d, f, past u y) (ap (form k y) (letters u (40 ∷ y) (quiet-name k h) ∙ plain))
 
 -- a comma before a program: the last of its bracket, or another
 module _ (m : ℕ) (y l : List ℕ) (b : byte y 0 ≡ 74) where
@@ -191,12 +183,12 @@ row-placed {k} {p} {q} {r} o j {s} {z} g h =
 
 -- an Await
 pub await-placed :
-    (c : Config) (j : ℕ) (y : List ℕ) (s r : Placed)
+    (k : ℕ) (c : Config) (j : ℕ) (y : List ℕ) (s r : Placed)
     → event y s ≡ overTest c j r
     → j ≤ 65535
-    → await y s ≡ made (8 ∷ 0 ∷ (big j ++ (big 1 ++ r .nodes))) (testRecords c ++ r .tests) j
+    → await k y s ≡ made (k ∷ 0 ∷ (big j ++ (big 1 ++ r .nodes))) (testRecords c ++ r .tests) j
 unfolding await
-await-placed c j y s r e h = rw (e, small-mod j 65536 (omega arith))
+await-placed k c j y s r e h = rw (e, small-mod j 65536 (omega arith))
 
 -- a When or an Until whose node is not labelled yet
 pub choice-placed :

@@ -12,6 +12,7 @@ use Rattle.table.specs.Records.{byte, word}
 use Rattle.table.specs.Spells.{weight}
 use Rattle.letters.specs.Decimal.{decimal}
 use Rattle.letters.specs.Text.{bytes}
+use Rattle.form.specs.Names.{opening}
 use Rattle.form.specs.Form.{SaysTest, Piece, whole, later-seq, later-par, Says}
 use Rattle.form.specs.Form.{says-nothing, says-stop, says-atom, says-seq, last-of-seq, more-of-seq, says-par}
 use Rattle.form.specs.Form.{last-of-par}
@@ -28,11 +29,7 @@ use Rattle.builder.proofs.Begins.{begins-test, begins}
 use Rattle.builder.proofs.LevelsKept.{levels-number, levels-close, levels-test, levels-kept}
 use Rattle.builder.proofs.Headed.{size-there}
 use Rattle.builder.proofs.PlacedTests.{made, overTest, placed-number, reads-close, test-placed}
-use Rattle.builder.proofs.PlacedForms.{over, Enclosed, reads-nothing, reads-stop, reads-atom, reads-seq}
-use Rattle.builder.proofs.PlacedForms.{reads-par, reads-loop}
-use Rattle.builder.proofs.PlacedForms.{reads-repeat, reads-generate, reads-await, reads-when, reads-until}
-use Rattle.builder.proofs.PlacedForms.{reads-control}
-use Rattle.builder.proofs.PlacedForms.{reads-local, comma-last, comma-more, singled, Joined, joined-last}
+use Rattle.builder.proofs.PlacedForms.{over, Enclosed, reads, comma-last, comma-more, singled, Joined, joined-last}
 use Rattle.builder.proofs.PlacedForms.{joint-is, Row, seq-row}
 use Rattle.builder.proofs.PlacedForms.{par-row, joined-more, row-placed, await-placed, choice-placed}
 
@@ -229,87 +226,87 @@ module _ (m : ℕ) where
       parted _ x (levels-test t _ ∙ (simp append-assoc at (levels-kept (more-of-seq d (last-of-seq e)) x))) (omega arith)
 
   nothing-placed : Whole Nothing (bytes "Jr.Nothing()")
-  unfolding form ownSize size tests nodesFrom testsOf kind
+  unfolding opening form ownSize size tests nodesFrom testsOf kind
   nothing-placed x j a b h =
-      reads-nothing m (41 ∷ x) (closed _ x (levels-close x) (omega arith))
+      reads m (41 ∷ x) (closed _ x (levels-close x) (omega arith)) 0 (omega arith)
       ∙ (ap (single 0 (41 ∷ x)) (reads-close m x)
       ∙ (singled 0 0 1 (41 ∷ x) (placed m x) (number-ends 0 (41 ∷ x) refl) (omega arith) refl (omega arith) ∙ alike refl refl (h ∙ add-zero j)))
 
   stop-placed : Whole Stop (bytes "Jr.Stop()")
-  unfolding form ownSize size tests nodesFrom testsOf kind
+  unfolding opening form ownSize size tests nodesFrom testsOf kind
   stop-placed x j a b h =
-      reads-stop m (41 ∷ x) (closed _ x (levels-close x) (omega arith))
+      reads m (41 ∷ x) (closed _ x (levels-close x) (omega arith)) 1 (omega arith)
       ∙ (ap (single 1 (41 ∷ x)) (reads-close m x)
       ∙ (singled 1 0 1 (41 ∷ x) (placed m x) (number-ends 0 (41 ∷ x) refl) (omega arith) refl (omega arith) ∙ alike refl refl (h ∙ add-zero j)))
 
   atom-placed : (n : ℕ) → n ≤ 65535 → Whole (Atom n) (bytes "Jr.Atom(" ++ (decimal n ++ bytes ")"))
-  unfolding form ownSize size tests nodesFrom testsOf kind
+  unfolding opening form ownSize size tests nodesFrom testsOf kind
   atom-placed n l x j a b h =
-      rw (append-assoc (decimal n) (41 ∷ []) x) (reads-atom m _ (enclosed-number n x) ∙ leaf 2 n j x l h (λ t. refl))
+      rw (append-assoc (decimal n) (41 ∷ []) x) (reads m _ (enclosed-number n x) 2 (omega arith) ∙ leaf 2 n j x l h (λ t. refl))
 
   generate-placed : (n : ℕ) → n < 256 → Whole (Generate n) (bytes "Jr.Generate(" ++ (decimal n ++ bytes ")"))
-  unfolding form ownSize size tests nodesFrom testsOf kind
+  unfolding opening form ownSize size tests nodesFrom testsOf kind
   generate-placed n l x j a b h =
-      rw (append-assoc (decimal n) (41 ∷ []) x) (reads-generate m _ (enclosed-number n x) ∙ leaf 7 n j x (omega arith) h (λ t. refl))
+      rw (append-assoc (decimal n) (41 ∷ []) x) (reads m _ (enclosed-number n x) 7 (omega arith) ∙ leaf 7 n j x (omega arith) h (λ t. refl))
 
   seq-placed : {p q : Program} {u v : List ℕ} → Says (whole p) u → Says (later-seq q) v → Whole p u → Later 3 q v
       → Whole (Seq p q) (bytes "Jr.Seq(" ++ (u ++ (bytes ", " ++ v)))
-  unfolding form
+  unfolding opening form
   seq-placed {p} {q} {u} {v} d e f g x j a b h =
       rw (append-assoc u (44 ∷ 32 ∷ v) x)
-      (reads-seq m _ (enclosed-row (seq-row p q) d v (levels-kept e) f g x) ∙ row-whole (seq-row p q) d v (levels-kept e) f g x j a b h)
+      (reads m _ (enclosed-row (seq-row p q) d v (levels-kept e) f g x) 3 (omega arith) ∙ row-whole (seq-row p q) d v (levels-kept e) f g x j a b h)
 
   par-placed : {p q : Program} {u v : List ℕ} → Says (whole p) u → Says (later-par q) v → Whole p u → Later 4 q v
       → Whole (Par p q) (bytes "Jr.Par(" ++ (u ++ (bytes ", " ++ v)))
-  unfolding form
+  unfolding opening form
   par-placed {p} {q} {u} {v} d e f g x j a b h =
       rw (append-assoc u (44 ∷ 32 ∷ v) x)
-      (reads-par m _ (enclosed-row (par-row p q) d v (levels-kept e) f g x) ∙ row-whole (par-row p q) d v (levels-kept e) f g x j a b h)
+      (reads m _ (enclosed-row (par-row p q) d v (levels-kept e) f g x) 4 (omega arith) ∙ row-whole (par-row p q) d v (levels-kept e) f g x j a b h)
 
   loop-placed :
       {p : Program} {u : List ℕ}
       → Says (whole p) u
       → Whole p u
       → Whole (Loop p) (bytes "Jr.Loop(" ++ (u ++ bytes ")"))
-  unfolding form ownSize size tests nodesFrom testsOf kind
+  unfolding opening form ownSize size tests nodesFrom testsOf kind
   loop-placed {p} {u} d f x j a b h =
       let c = begins d (41 ∷ x) in
       let s : Placed = over p j (placed m x) in
       rw (append-assoc u (41 ∷ []) x)
-      (reads-loop m (u ++ (41 ∷ x)) (closed _ x (end-levels d x) (omega arith))
+      (reads m (u ++ (41 ∷ x)) (closed _ x (end-levels d x) (omega arith)) 5 (omega arith)
       ∙ (ap (single 5 (u ++ (41 ∷ x))) (at-close p u x j f (omega arith) b h)
       ∙ singled 5 0 (1 + size p) (u ++ (41 ∷ x)) s (number-ends 0 _ (ap isDigit c)) (omega arith) (ap (λ n. 1 + n) (size-there j p (placed m x .nodes))) a))
 
   repeat-placed : (n : ℕ) {p : Program} {u : List ℕ} → n ≤ 65535 → Says (whole p) u → Whole p u
       → Whole (Repeat n p) (bytes "Jr.Repeat(" ++ (decimal n ++ (bytes ", " ++ (u ++ bytes ")"))))
-  unfolding form ownSize size tests nodesFrom testsOf kind
+  unfolding opening form ownSize size tests nodesFrom testsOf kind
   repeat-placed n {p} {u} l d f x j a b h =
       rw (append-assoc (decimal n) (44 ∷ 32 ∷ (u ++ (41 ∷ []))) x, append-assoc u (41 ∷ []) x)
-      (reads-repeat m _ (enclosed-numbered n d x) ∙ numbered 6 n j d x l a (λ t. refl) (at-close p u x j f (omega arith) b h))
+      (reads m _ (enclosed-numbered n d x) 6 (omega arith) ∙ numbered 6 n j d x l a (λ t. refl) (at-close p u x j f (omega arith) b h))
 
   control-placed : (n : ℕ) {p : Program} {u : List ℕ} → n < 256 → Says (whole p) u → Whole p u
       → Whole (Control n p) (bytes "Jr.Control(" ++ (decimal n ++ (bytes ", " ++ (u ++ bytes ")"))))
-  unfolding form ownSize size tests nodesFrom testsOf kind
+  unfolding opening form ownSize size tests nodesFrom testsOf kind
   control-placed n {p} {u} l d f x j a b h =
       rw (append-assoc (decimal n) (44 ∷ 32 ∷ (u ++ (41 ∷ []))) x, append-assoc u (41 ∷ []) x)
-      (reads-control m _ (enclosed-numbered n d x) ∙ numbered 11 n j d x (omega arith) a (λ t. refl) (at-close p u x j f (omega arith) b h))
+      (reads m _ (enclosed-numbered n d x) 11 (omega arith) ∙ numbered 11 n j d x (omega arith) a (λ t. refl) (at-close p u x j f (omega arith) b h))
 
   local-placed : (n : ℕ) {p : Program} {u : List ℕ} → n < 256 → Says (whole p) u → Whole p u
       → Whole (Local n p) (bytes "Jr.Local(" ++ (decimal n ++ (bytes ", " ++ (u ++ bytes ")"))))
-  unfolding form ownSize size tests nodesFrom testsOf kind
+  unfolding opening form ownSize size tests nodesFrom testsOf kind
   local-placed n {p} {u} l d f x j a b h =
       rw (append-assoc (decimal n) (44 ∷ 32 ∷ (u ++ (41 ∷ []))) x, append-assoc u (41 ∷ []) x)
-      (reads-local m _ (enclosed-numbered n d x) ∙ numbered 12 n j d x (omega arith) a (λ t. refl) (at-close p u x j f (omega arith) b h))
+      (reads m _ (enclosed-numbered n d x) 12 (omega arith) ∙ numbered 12 n j d x (omega arith) a (λ t. refl) (at-close p u x j f (omega arith) b h))
 
   awaits-placed : {c : Config} {u : List ℕ} → SaysTest c u → Whole (Await c) (bytes "Jr.Await(" ++ (u ++ bytes ")"))
-  unfolding form size tests nodesFrom testsOf kind
+  unfolding opening form size tests nodesFrom testsOf kind
   awaits-placed {c} {u} t x j a b h =
       let n = begins-test t (41 ∷ x) in
       let l : placed m x .left ≡ j + weight c = omega arith in
       let e = test-placed m t (41 ∷ x) j (omega arith) refl (ap (λ s. s .left) (reads-close m x) ∙ l) ∙ ap (overTest c j) (reads-close m x) in
       rw (append-assoc u (41 ∷ []) x, append-nil (testRecords c))
-      (reads-await m (u ++ (41 ∷ x)) (closed _ x (levels-test t (41 ∷ x) ∙ levels-close x) (omega arith))
-      ∙ await-placed c j (u ++ (41 ∷ x)) (placed m (u ++ (41 ∷ x))) (placed m x) e (omega arith))
+      (reads m (u ++ (41 ∷ x)) (closed _ x (levels-test t (41 ∷ x) ∙ levels-close x) (omega arith)) 8 (omega arith)
+      ∙ await-placed 8 c j (u ++ (41 ∷ x)) (placed m (u ++ (41 ∷ x))) (placed m x) e (omega arith))
 
   -- the text of a test and two programs, before x
   abbrev three : List ℕ → List ℕ → List ℕ → List ℕ → List ℕ
@@ -326,10 +323,10 @@ module _ (m : ℕ) where
       → Whole p v
       → Whole q w
       → Whole (When c p q) (bytes "Jr.When(" ++ (three u v w []))
-  unfolding form size tests
+  unfolding opening form size tests
   when-placed {c} {p} {q} {u} {v} {w} t d e f g x j a b h =
       rw (three-before u v w x)
-      (reads-when m _ (enclosed-chosen t d e x) ∙ (chosen 9 t d e f g x j a b h _ refl ∙ over-when c p q j (placed m x)))
+      (reads m _ (enclosed-chosen t d e x) 9 (omega arith) ∙ (chosen 9 t d e f g x j a b h _ refl ∙ over-when c p q j (placed m x)))
 
   until-placed :
       {c : Config} {p q : Program} {u v w : List ℕ}
@@ -339,10 +336,10 @@ module _ (m : ℕ) where
       → Whole p v
       → Whole q w
       → Whole (Until c p q) (bytes "Jr.Until(" ++ (three u v w []))
-  unfolding form size tests
+  unfolding opening form size tests
   until-placed {c} {p} {q} {u} {v} {w} t d e f g x j a b h =
       rw (three-before u v w x)
-      (reads-until m _ (enclosed-chosen t d e x) ∙ (chosen 10 t d e f g x j a b h _ refl ∙ over-until c p q j (placed m x)))
+      (reads m _ (enclosed-chosen t d e x) 10 (omega arith) ∙ (chosen 10 t d e f g x j a b h _ refl ∙ over-until c p q j (placed m x)))
 
   pub piece-placed : {s : Piece} {u : List ℕ} → Says s u → Outcome s u
   piece-placed says-nothing = nothing-placed

@@ -1,19 +1,21 @@
 -- What each function of the builder places, by the records that it reads.
-use Prim.Native.Nat.{ℕ, _+_, _-_, _%_, _≤_, _<_}
-use mathlib.Core.Bool.{true, false}
+use Prim.Native.Nat.{ℕ, _+_, _-_, _*_, _%_, _≤_, _<_}
+use mathlib.Core.Bool.{Bool, true, false, cond, _||_}
 use mathlib.Core.Path.{_≡_, sym, ap, subst, _∙_}
 use mathlib.Core.List.{List, _++_}
 use native.Mathlib.Nat.{add-zero}
-use borrow.Author.Tests.{ne-eqb, lt-ltb, le-ltb}
+use lib.Dec.{eqb}
+use borrow.Author.Tests.{eq-eqb, ne-eqb, lt-ltb, le-ltb}
 use lib.ListN.{length, take, drop}
 use lib.Seq.{sets, getD-drop}
 use Rattle.table.specs.Records.{byte, word}
 use Rattle.builder.specs.declared.build.Front.{Front}
 use Rattle.form.specs.Made.{big}
 use Rattle.form.specs.Inside.Machine.{isDigit}
+use Rattle.form.specs.Inside.Rows.{wordRow, formRow, codeAt, nameEnd, inside, named, kindOf}
 use Rattle.builder.specs.Building.{Placed, withNode, withTest, number, joinedSize, joint, pair}
 use Rattle.builder.specs.Building.{negation, event}
-use Rattle.builder.specs.Building.{opening, labelled, row, choice, await, ownSize, single, kindOf, inside}
+use Rattle.builder.specs.Building.{opening, labelled, row, choice, await, hasPart, ownSize, single, behindJ}
 use Rattle.builder.specs.Building.{form, name}
 use Rattle.builder.specs.Building.{comma, place, Holds, Room, Ready, Places}
 use Rattle.builder.proofs.Growing.{room-before, length-spread, grows-row-joint, choice-length, grows-choice}
@@ -53,36 +55,37 @@ module _ {n m : ℕ} {t : List ℕ} {f : Front} {s : Placed} (h : Holds n m t f 
   unfolding negation
   negation-here e = rw (e, tests-part h)
 
-  pub single-here : (k a : ℕ) (w : List ℕ) → z ≡ ownSize k nodes-of → a ≡ number 0 w → withNode k a z s ≡ single k w s
-  unfolding single
-  single-here k a w e g = rw (e, g, nodes-part h)
+  pub single-here : (k a : ℕ) {b : Bool} (w : List ℕ) → b ≡ hasPart k → z ≡ cond b (1 + word nodes-of 4) 1 → a ≡ number 0 w
+      → withNode k a z s ≡ single k w s
+  unfolding single ownSize
+  single-here k a w p e g = rw (e, p, g, nodes-part h)
 
 -- an Await: its event, then its node
-module _ (w : List ℕ) {t : List ℕ} {f : Front} where
-  pub await-first : Ready (await w) t f → Ready (event w) t f
-  await-first (n, m, s, h, r) = (n, m, s, h, room-before (grows-await w s) r)
+module _ (k : ℕ) (w : List ℕ) {t : List ℕ} {f : Front} where
+  pub await-first : Ready (await k w) t f → Ready (event w) t f
+  await-first (n, m, s, h, r) = (n, m, s, h, room-before (grows-await k w s) r)
 
   pub await-second :
       {t′ : List ℕ} {f′ : Front}
-      → Ready (await w) t f
+      → Ready (await k w) t f
       → Places (event w) t f t′ f′
-      → Ready (withNode 8 (f′ .left) 1) t′ f′
+      → Ready (withNode k (f′ .left) 1) t′ f′
   unfolding await
   await-second (n, m, s, h, r) p =
-      let g = p n m s h (room-before (grows-await w s) r) in
+      let g = p n m s h (room-before (grows-await k w s) r) in
       (n, m, event w s, g, rw (g .left-is) r)
 
   pub await-done :
       {t′ : List ℕ} {f′ : Front} {t″ : List ℕ} {f″ : Front}
       → Places (event w) t f t′ f′
-      → Places (withNode 8 (f′ .left) 1) t′ f′ t″ f″
-      → Places (await w) t f t″ f″
+      → Places (withNode k (f′ .left) 1) t′ f′ t″ f″
+      → Places (await k w) t f t″ f″
   unfolding await
   await-done {t″ = t″} {f″ = f″} p q n m s h r =
-      let g = p n m s h (room-before (grows-await w s) r) in
+      let g = p n m s h (room-before (grows-await k w s) r) in
       let e = g .left-is in
-      subst (λ (x : ℕ). Holds n m t″ f″ (withNode 8 x 1 (event w s))) e
-      (q n m (event w s) g (subst (λ (x : ℕ). Room n m (withNode 8 x 1 (event w s))) (sym e) r))
+      subst (λ (x : ℕ). Holds n m t″ f″ (withNode k x 1 (event w s))) e
+      (q n m (event w s) g (subst (λ (x : ℕ). Room n m (withNode k x 1 (event w s))) (sym e) r))
 
 -- a row: its node, then the labels
 module _ (k : ℕ) {t : List ℕ} {f : Front} where
@@ -130,13 +133,13 @@ module _ (level : ℕ) (w : List ℕ) (s : Placed) where
   unfolding opening
   opening-pair h = rw (lt-ltb 1 level h)
 
-  pub opening-not : level ≤ 1 → byte w 0 ≡ 110 → negation s ≡ opening level w s
+  pub opening-not : level ≤ 1 → named (wordRow 1) w ≡ true → negation s ≡ opening level w s
   unfolding opening
   opening-not h e = rw (le-ltb 1 level h, e)
 
-  pub opening-none : level ≤ 1 → (byte w 0 ≡ 110 → ⊥) → opening level w s ≡ s
+  pub opening-none : level ≤ 1 → named (wordRow 1) w ≡ false → opening level w s ≡ s
   unfolding opening
-  opening-none h e = rw (le-ltb 1 level h, ne-eqb (byte w 0) 110 e)
+  opening-none h e = rw (le-ltb 1 level h, e)
 
 -- `,`
 module _ (level : ℕ) (s : Placed) where
@@ -148,37 +151,48 @@ module _ (level : ℕ) (s : Placed) where
   unfolding comma
   comma-none e = rw (ne-eqb level 1 e)
 
--- the form of a kind
-module _ (k : ℕ) (w : List ℕ) (s : Placed) where
-  pub form-seq : k ≡ 3 → row 3 s ≡ form k w s
-  unfolding form
-  form-seq e = rw e
+-- the form of a kind, by the codes in its brackets, which begin at place n of the table of names
+module _ (k n : ℕ) (is : n ≡ nameEnd (formRow k)) (w : List ℕ) (s : Placed) where
+  code-at : (j : ℕ) → codeAt (n + j) ≡ inside k j
+  unfolding inside
+  code-at j = rw is
 
-  pub form-par : k ≡ 4 → row 4 s ≡ form k w s
-  unfolding form
-  form-par e = rw e
+  first-at : codeAt n ≡ inside k 0
+  first-at = ap codeAt (sym (add-zero n)) ∙ code-at 0
 
-  pub form-await : k ≡ 8 → await w s ≡ form k w s
+  pub form-row : codeAt (n + 4) ≡ 133 → row k s ≡ form k w s
   unfolding form
-  form-await e = rw e
+  form-row e = rw (eq-eqb (inside k 4) 133 (sym (code-at 4) ∙ e))
 
-  pub form-when : k ≡ 9 → choice 9 w s ≡ form k w s
-  unfolding form
-  form-when e = rw e
+  module _ (o : codeAt (n + 4) ≡ 133 → ⊥) where
+    no-row : eqb (inside k 4) 133 ≡ false
+    no-row = ne-eqb (inside k 4) 133 (λ e. o (code-at 4 ∙ e))
 
-  pub form-until : k ≡ 10 → choice 10 w s ≡ form k w s
-  unfolding form
-  form-until e = rw e
+    pub form-choice : codeAt n ≡ 134 → codeAt (n + 1) ≡ 44 → choice k w s ≡ form k w s
+    unfolding form
+    form-choice e f = rw (no-row, eq-eqb (inside k 0) 134 (sym first-at ∙ e), eq-eqb (inside k 1) 44 (sym (code-at 1) ∙ f))
 
-  pub form-single : (k ≡ 3 → ⊥) → (k ≡ 4 → ⊥) → (k ≡ 8 → ⊥) → (k ≡ 9 → ⊥) → (k ≡ 10 → ⊥) → single k w s ≡ form k w s
-  unfolding form
-  form-single a b c d e = rw (ne-eqb k 3 a, ne-eqb k 4 b, ne-eqb k 8 c, ne-eqb k 9 d, ne-eqb k 10 e)
+    pub form-await : codeAt n ≡ 134 → (codeAt (n + 1) ≡ 44 → ⊥) → await k w s ≡ form k w s
+    unfolding form
+    form-await e f = rw (no-row, eq-eqb (inside k 0) 134 (sym first-at ∙ e), ne-eqb (inside k 1) 44 (λ z. f (code-at 1 ∙ z)))
+
+    pub form-single : (codeAt n ≡ 134 → ⊥) → single k w s ≡ form k w s
+    unfolding form
+    form-single e = rw (no-row, ne-eqb (inside k 0) 134 (λ z. e (first-at ∙ z)))
+
+  pub part-is : {b : Bool} → b ≡ (eqb (codeAt n) 128 || eqb (codeAt (n + 3)) 128) → b ≡ hasPart k
+  unfolding hasPart
+  part-is e = e ∙ rw (first-at, code-at 3)
+
+pub behind-is : (k n x : ℕ) → n ≡ nameEnd (6 + x) → x ≡ k → 2 + (n - 20 * (6 + x)) ≡ behindJ k
+unfolding behindJ
+behind-is k n x e f = rw (e, f)
 
 -- `J`
 pub name-here :
     (w : List ℕ) (k i : ℕ) (s : Placed)
-    → k ≡ kindOf (byte w 2) (byte w 4)
-    → i ≡ inside k
+    → k ≡ kindOf (drop 2 w)
+    → i ≡ behindJ k
     → form k (drop i w) s ≡ name w s
 unfolding name
 name-here w k i s e f = rw (f, e)

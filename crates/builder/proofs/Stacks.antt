@@ -9,6 +9,7 @@ use borrow.Author.Tests.{ne-eqb}
 use lib.Dec.{eqb}
 use lib.ListN.{length, set, drop, length-set, length-drop}
 use lib.Seq.{drop-set-add, drop-set-lt, drop-cons, getD-set-same}
+use Rattle.form.specs.Inside.Rows.{pairOf}
 use Rattle.builder.specs.Building.{relevel, Stacked, Levels}
 
 stacked-set : {t l : List ℕ} {d : ℕ} (x : ℕ) → Stacked t d l → Stacked (set t d x) d (set l 0 x)
@@ -25,20 +26,20 @@ stacked-either :
 stacked-either true s r = s
 stacked-either false s r = r
 
-module _ (b c : ℕ) (t : List ℕ) (d : ℕ) where
+module _ (b : ℕ) (w t : List ℕ) (d : ℕ) where
   -- a blank
   pub level-blank :
-      (t′ : List ℕ) → b ≡ 32 → t′ ≡ cond (eqb c 97) (set t d 2) (cond (eqb c 111) (set t d 3) t) → Levels (relevel b c) t d t′ d
+      (t′ : List ℕ) → b ≡ 32 → t′ ≡ cond (eqb (pairOf w) 0) t (set t d (pairOf w)) → Levels (relevel b w) t d t′ d
   unfolding relevel
-  level-blank t′ e f l s h = rw (e, f) (stacked-either (eqb c 97) (stacked-set 2 s) (stacked-either (eqb c 111) (stacked-set 3 s) s))
+  level-blank t′ e f l s h = rw (e, f) (stacked-either (eqb (pairOf w) 0) s (stacked-set (pairOf w) s))
 
   -- `(`
-  pub level-opens : (r : ℕ) → b ≡ 40 → r ≤ length t → drop r t ≡ drop 1 (drop d t) → Levels (relevel b c) t d t r
+  pub level-opens : (r : ℕ) → b ≡ 40 → r ≤ length t → drop r t ≡ drop 1 (drop d t) → Levels (relevel b w) t d t r
   unfolding relevel
   level-opens r e n f l s h = rw e (record { within = n; there = f ∙ ap (drop 1) (s .there) })
 
   -- `)`
-  pub room-to-close : (l : List ℕ) → b ≡ 41 → Stacked t d l → length (relevel b c l) ≤ length t → 1 ≤ d
+  pub room-to-close : (l : List ℕ) → b ≡ 41 → Stacked t d l → length (relevel b w l) ≤ length t → 1 ≤ d
   unfolding relevel
   room-to-close l e s h =
       let n = s .within in
@@ -46,7 +47,7 @@ module _ (b c : ℕ) (t : List ℕ) (d : ℕ) where
       let m : suc (length l) ≤ length t = rw e at h in
       omega arith
 
-  pub level-closes : b ≡ 41 → Levels (relevel b c) t d (set t (d - 1) 0) (d - 1)
+  pub level-closes : b ≡ 41 → Levels (relevel b w) t d (set t (d - 1) 0) (d - 1)
   unfolding relevel
   level-closes e l s h =
       let o = room-to-close l e s h in
@@ -60,12 +61,12 @@ module _ (b c : ℕ) (t : List ℕ) (d : ℕ) where
       rw e (record { within = omega arith; there = g ∙ ap (λ y. 0 ∷ y) (s .there) })
 
   -- `,`
-  pub level-comma : (t′ : List ℕ) → b ≡ 44 → t′ ≡ set t d 1 → Levels (relevel b c) t d t′ d
+  pub level-comma : (t′ : List ℕ) → b ≡ 44 → t′ ≡ set t d 1 → Levels (relevel b w) t d t′ d
   unfolding relevel
   level-comma t′ e f l s h = rw (e, f) (stacked-set 1 s)
 
   -- any other byte
   pub level-other :
-      (b ≡ 32 → ⊥) → (b ≡ 40 → ⊥) → (b ≡ 41 → ⊥) → (b ≡ 44 → ⊥) → Levels (relevel b c) t d t d
+      (b ≡ 32 → ⊥) → (b ≡ 40 → ⊥) → (b ≡ 41 → ⊥) → (b ≡ 44 → ⊥) → Levels (relevel b w) t d t d
   unfolding relevel
   level-other e f g o l s h = simp (ne-eqb b 32 e, ne-eqb b 40 f, ne-eqb b 41 g, ne-eqb b 44 o) s

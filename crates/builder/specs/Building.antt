@@ -1,18 +1,19 @@
 -- Building the table of a text in the form, from its last byte to its first: what is placed once an end of the text is read. A record's
 -- parts are placed before it, so its size is read off theirs.
 use Prim.Native.Nat.{ℕ, zero, suc, _+_, _-_, _*_, _%_, _≤_}
-use mathlib.Core.Bool.{cond, _||_}
+use mathlib.Core.Bool.{Bool, cond, _||_}
 use mathlib.Core.Path.{_≡_}
 use mathlib.Core.List.{List, [], _∷_, _++_}
 use lib.Dec.{eqb, ltb}
-use lib.ListN.{length, getD, set, drop}
+use lib.ListN.{length, set, drop}
 use lib.Seq.{sets}
 use Rattle.junior.specs.Program.{Program, size}
 use Rattle.table.specs.Records.{byte, word}
 use Rattle.builder.specs.declared.build.Front.{Front}
 use Rattle.form.specs.Form.{Says, whole}
 use Rattle.form.specs.Inside.Machine.{isDigit}
-use Rattle.form.specs.Made.{big, named, tests, tableOf, needed}
+use Rattle.form.specs.Inside.Rows.{rowAt, wordRow, formRow, nameEnd, inside, named, kindOf, pairOf}
+use Rattle.form.specs.Made.{big, named as eventsOf, tests, tableOf, needed}
 
 -- the records that are placed, and how many configurations are still to come
 pub record Placed : Type 0 where
@@ -62,8 +63,9 @@ event w s = cond (isDigit (byte w 0)) (withTest 0 (number 0 w) 1 s) s
 
 -- `(` at this level, before this text
 unfoldable pub opening : ℕ → List ℕ → Placed → Placed
+unfolding named
 opening level w s =
-    let plain = cond (eqb (byte w 0) 110) (negation s) s in
+    let plain = cond (named (wordRow 1) w) (negation s) s in
     let joined = pair level (event w s) in
     cond (ltb 1 level) joined plain
 
@@ -89,57 +91,47 @@ choice k w s =
     let e = event w s in
     record { nodes = sets (labelled k (e .nodes)) 2 (big (e .left % 65536)); tests = e .tests; left = e .left }
 
-unfoldable pub await : List ℕ → Placed → Placed
-await w s =
+-- an Await
+unfoldable pub await : ℕ → List ℕ → Placed → Placed
+await k w s =
     let e = event w s in
-    withNode 8 (e .left) 1 e
+    withNode k (e .left) 1 e
+
+-- whether a program stands in the brackets of kind k, alone or behind a number
+unfoldable pub hasPart : ℕ → Bool
+unfolding inside
+hasPart k = eqb (inside k 0) 128 || eqb (inside k 3) 128
 
 -- 1, and the size of the child in front if there is to be one
 unfoldable pub ownSize : ℕ → List ℕ → ℕ
-ownSize k l = cond (eqb k 5 || (eqb k 6 || (eqb k 11 || eqb k 12))) (1 + word l 4) 1
+unfolding hasPart
+ownSize k l = cond (hasPart k) (1 + word l 4) 1
 
 -- any other form; w begins with its number
 unfoldable pub single : ℕ → List ℕ → Placed → Placed
 single k w s = withNode k (number 0 w) (ownSize k (s .nodes)) s
 
--- the kind by the first and the third letter of its name
-unfoldable pub kindOf : ℕ → ℕ → ℕ
-kindOf first third =
-    cond
-    (eqb first 78)
-    0
-    (cond
-    (eqb first 83)
-    (cond (eqb third 111) 1 3)
-    (cond
-    (eqb first 65)
-    (cond (eqb third 111) 2 8)
-    (cond
-    (eqb first 80)
-    4
-    (cond
-    (eqb first 76)
-    (cond (eqb third 111) 5 12)
-    (cond (eqb first 82) 6 (cond (eqb first 71) 7 (cond (eqb first 87) 9 (cond (eqb first 85) 10 11))))))))
-
--- how far behind the `J` of a name the text inside its bracket begins
-unfoldable pub inside : ℕ → ℕ
-inside k = getD (10 ∷ 7 ∷ 7 ∷ 6 ∷ 6 ∷ 7 ∷ 9 ∷ 11 ∷ 8 ∷ 7 ∷ 8 ∷ 10 ∷ 8 ∷ []) k 0
-
--- the form of kind k, the text inside its bracket being w
+-- the form of kind k by what stands in its brackets: parts; a configuration, and programs behind it or none; the text inside them being w
 unfoldable pub form : ℕ → List ℕ → Placed → Placed
+unfolding inside
 form k w s =
     let r = row k s in
-    let a = await w s in
+    let a = await k w s in
     let c = choice k w s in
     let o = single k w s in
-    cond (eqb k 3 || eqb k 4) r (cond (eqb k 8) a (cond (eqb k 9 || eqb k 10) c o))
+    cond (eqb (inside k 4) 133) r (cond (eqb (inside k 0) 134) (cond (eqb (inside k 1) 44) c a) o)
+
+-- how far behind the `J` of a name the text inside its bracket begins
+unfoldable pub behindJ : ℕ → ℕ
+unfolding nameEnd
+behindJ k = 2 + (nameEnd (formRow k) - rowAt (formRow k))
 
 -- `J` before this text
 unfoldable pub name : List ℕ → Placed → Placed
+unfolding kindOf behindJ
 name w s =
-    let k = kindOf (byte w 2) (byte w 4) in
-    form k (drop (inside k) w) s
+    let k = kindOf (drop 2 w) in
+    form k (drop (behindJ k) w) s
 
 -- `,` at this level
 unfoldable pub comma : ℕ → Placed → Placed
@@ -157,17 +149,18 @@ place b level w s =
     cond (eqb b 32) e (cond (eqb b 40) o (cond (eqb b 44) c (cond (eqb b 74) n s)))
 
 -- The levels of the brackets that are closed and not yet opened, the innermost first: 0; 1 once a comma is read; 2 for `and`, 3 for `or`.
--- Byte b, before c:
-unfoldable pub relevel : ℕ → ℕ → List ℕ → List ℕ
-relevel b c l =
+-- Byte b, before the text w:
+unfoldable pub relevel : ℕ → List ℕ → List ℕ → List ℕ
+unfolding pairOf
+relevel b w l =
     cond
     (eqb b 32)
-    (cond (eqb c 97) (set l 0 2) (cond (eqb c 111) (set l 0 3) l))
+    (cond (eqb (pairOf w) 0) l (set l 0 (pairOf w)))
     (cond (eqb b 40) (drop 1 l) (cond (eqb b 41) (0 ∷ l) (cond (eqb b 44) (set l 0 1) l)))
 
 unfoldable pub levels : List ℕ → List ℕ
 levels [] = []
-levels (b ∷ w) = relevel b (byte w 0) (levels w)
+levels (b ∷ w) = relevel b w (levels w)
 
 -- what is placed once a text is read that m configurations stand in
 unfoldable pub placed : ℕ → List ℕ → Placed
@@ -220,7 +213,7 @@ pub record Measured (text : List ℕ) (n m v room : ℕ) (p : Program) : Type 0 
   pub says : Says (whole p) text
   pub n-is : n ≡ size p
   pub m-is : m ≡ tests p
-  pub v-is : v ≡ named p
+  pub v-is : v ≡ eventsOf p
   pub long : room ≡ needed p
   pub small : needed p ≤ 32778
 

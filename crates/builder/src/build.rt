@@ -10,10 +10,24 @@ ghost use mathlib.Core.List.{_++_};
 ghost use Rattle.table.specs.Records.{byte, word};
 ghost use Rattle.form.specs.Made.{big};
 ghost use Rattle.builder.specs.Building.{nodeBytes, testBytes, withNode, withTest, number, joinedSize};
-ghost use Rattle.builder.specs.Building.{joint, pair, negation, event, opening, labelled, row, choice, await, ownSize, single};
-ghost use Rattle.builder.specs.Building.{kindOf, inside, form, name, comma, place as placing, relevel as leveling};
+ghost use Rattle.form.specs.Inside.Rows.{TheNames, formRow, kinds, long, codeAt, nameEnd, kindOf, pairOf};
+ghost use Rattle.builder.specs.Building.{joint, pair, negation, event, opening, labelled, row, choice, await, single};
+ghost use Rattle.builder.specs.Building.{form, name, comma, place as placing, relevel as leveling};
 ghost use Rattle.builder.specs.Building.{Ready, Places, LevelReady, Levels, Buildable, Builds};
 use form::is_digit;
+use form::names::FIRST_FORM;
+use form::names::FIRST_WORD;
+use form::names::LONG;
+use form::names::NAMES;
+use form::names::PARTS;
+use form::names::PROGRAM;
+use form::names::ROW;
+use form::names::TEST;
+use form::names::code;
+use form::names::is_named;
+use form::names::kind_named;
+use form::names::name_end;
+use form::names::pair_named;
 use table::records::wide;
 
 // The first bytes of the nodes and of the configurations that are placed, the bytes where they end, and how many configurations are
@@ -31,6 +45,7 @@ pub fn build(text: &[u8], n: usize, m: usize, v: usize, table: &mut [u8])
     requires { ⌜ Buildable (now text) n m v (length (now table)) ⌝ }
     ensures { λ r. ⌜ Builds (now (text .entry)) n m v (length (now (table .entry))) (now (table .exit)) ⌝ }
 {
+    let names = NAMES;
     let mut levels = [0u8; 8192];
     let mut depth = 8192;
     let mut front = Front {
@@ -46,9 +61,8 @@ pub fn build(text: &[u8], n: usize, m: usize, v: usize, table: &mut [u8])
         i -= 1;
         let b = text[i];
         let level = byte_at(&levels, depth);
-        front = place(b, level, &text[rest..], table, front);
-        let next = byte_at(text, rest);
-        depth = relevel(b, next, &mut levels, depth);
+        front = place(&names, b, level, &text[rest..], table, front);
+        depth = relevel(&names, b, &text[rest..], &mut levels, depth);
     }
     put_trailer(table, 6 * n + 4 * m, n, m, v);
 }
@@ -90,49 +104,12 @@ fn number_at(text: &[u8], i: usize) -> usize
     v
 }
 
-// The kind by the first and the third letter of its name.
-fn kind_of(first: u8, third: u8) -> u8
-    ensures { λ r. ⌜ (r ≡ kindOf first third) × (r < 13) ⌝ }
+// The kind of the name behind a `J`.
+fn kind_of(names: &[u8; LONG], text: &[u8]) -> u8
+    requires { ⌜ TheNames (now names) ⌝ }
+    ensures { λ r. ⌜ (r ≡ kindOf (drop 2 (now (text .entry)))) × (r ≤ kinds) ⌝ }
 {
-    match first {
-        b'N' => 0,
-        b'S' => {
-            if third == b'o' {
-                return 1;
-            }
-            3
-        }
-        b'A' => {
-            if third == b'o' {
-                return 2;
-            }
-            8
-        }
-        b'P' => 4,
-        b'L' => {
-            if third == b'o' {
-                return 5;
-            }
-            12
-        }
-        b'R' => 6,
-        b'G' => 7,
-        b'W' => 9,
-        b'U' => 10,
-        _ => 11,
-    }
-}
-
-// By kind.
-const INSIDE: [usize; 13] = [10, 7, 7, 6, 6, 7, 9, 11, 8, 7, 8, 10, 8];
-
-// How far behind the `J` of a name the text inside its bracket begins.
-fn inside_of(kind: u8) -> usize
-    requires { ⌜ kind < 13 ⌝ }
-    ensures { λ r. ⌜ r ≡ inside kind ⌝ }
-{
-    let k = wide(kind);
-    INSIDE[k]
+    kind_named(names, text, 2) as u8
 }
 
 // The number of 16 bits at byte i; bytes behind the end are 0.
@@ -153,18 +130,20 @@ fn joined_size(records: &[u8], long: usize, at: usize) -> usize
     1 + first + word_in(records, long * first + at)
 }
 
-// A Loop, a Repeat, a Control or a Local.
-fn has_part(kind: u8) -> bool
-    ensures { λ r. ⌜ r ≡ (eqb kind 5 || (eqb kind 6 || (eqb kind 11 || eqb kind 12))) ⌝ }
+// Whether a program stands in a form's brackets, alone or behind a number; they begin at a place of the table of names.
+fn has_part(names: &[u8; LONG], end: usize) -> bool
+    requires { ⌜ TheNames (now names) ⌝ }
+    requires { ⌜ end ≤ long ⌝ }
+    ensures { λ r. ⌜ r ≡ (eqb (codeAt end) 128 || eqb (codeAt (end + 3)) 128) ⌝ }
 {
-    kind == 5 || (kind == 6 || (kind == 11 || kind == 12))
+    code(names, end) == PROGRAM || code(names, end + 3) == PROGRAM
 }
 
 // The size of a node without parts or with one in front.
-fn own_size(nodes: &[u8], kind: u8) -> usize
-    ensures { λ r. ⌜ r ≡ ownSize kind (now (nodes .entry)) ⌝ }
+fn own_size(nodes: &[u8], part: bool) -> usize
+    ensures { λ r. ⌜ r ≡ cond part (1 + word (now (nodes .entry)) 4) 1 ⌝ }
 {
-    if has_part(kind) {
+    if part {
         return 1 + word_in(nodes, 4);
     }
     1
@@ -313,7 +292,14 @@ fn place_not(table: &mut [u8], front: Front) -> Front
 }
 
 // `(` before this text.
-fn place_opening(level: u8, text: &[u8], table: &mut [u8], front: Front) -> Front
+fn place_opening(
+    names: &[u8; LONG],
+    level: u8,
+    text: &[u8],
+    table: &mut [u8],
+    front: Front,
+) -> Front
+    requires { ⌜ TheNames (now names) ⌝ }
     requires { ⌜ Ready (opening level (now text)) (now table) front ⌝ }
     ensures { λ r. ⌜ Places (opening level (now (text .entry))) (now (table .entry)) front (now (table .exit)) r ⌝ }
 {
@@ -321,7 +307,7 @@ fn place_opening(level: u8, text: &[u8], table: &mut [u8], front: Front) -> Fron
         let next = place_event(text, 0, table, front);
         return place_pair(level, table, next);
     }
-    if byte_at(text, 0) == b'n' {
+    if is_named(names, FIRST_WORD + 1, text, 0) {
         return place_not(table, front);
     }
     front
@@ -352,49 +338,74 @@ fn place_choice(kind: u8, text: &[u8], i: usize, table: &mut [u8], front: Front)
 }
 
 // An Await, its test beginning at byte i.
-fn place_await(text: &[u8], i: usize, table: &mut [u8], front: Front) -> Front
-    requires { ⌜ Ready (await (drop i (now text))) (now table) front ⌝ }
-    ensures { λ r. ⌜ Places (await (drop i (now (text .entry)))) (now (table .entry)) front (now (table .exit)) r ⌝ }
+fn place_await(kind: u8, text: &[u8], i: usize, table: &mut [u8], front: Front) -> Front
+    requires { ⌜ Ready (await kind (drop i (now text))) (now table) front ⌝ }
+    ensures { λ r. ⌜ Places (await kind (drop i (now (text .entry)))) (now (table .entry)) front (now (table .exit)) r ⌝ }
 {
     let next = place_event(text, i, table, front);
-    place_node(table, 8, next.left, 1, next)
+    place_node(table, kind, next.left, 1, next)
 }
 
 // Any other form; its number begins at byte i if it has one.
-fn place_single(kind: u8, text: &[u8], i: usize, table: &mut [u8], front: Front) -> Front
+fn place_single(
+    names: &[u8; LONG],
+    kind: u8,
+    end: usize,
+    text: &[u8],
+    i: usize,
+    table: &mut [u8],
+    front: Front,
+) -> Front
+    requires { ⌜ TheNames (now names) ⌝ }
+    requires { ⌜ (end ≡ nameEnd (formRow kind)) × (end ≤ long) ⌝ }
     requires { ⌜ Ready (single kind (drop i (now text))) (now table) front ⌝ }
     ensures { λ r. ⌜ Places (single kind (drop i (now (text .entry)))) (now (table .entry)) front (now (table .exit)) r ⌝ }
 {
+    let part = has_part(names, end);
     let node = front.node;
     let middle = front.middle;
-    let size = own_size(&table[node..middle], kind);
+    let size = own_size(&table[node..middle], part);
     let argument = number_at(text, i);
     place_node(table, kind, argument, size, front)
 }
 
-// The form of this kind, the text inside its bracket beginning at byte i.
-fn place_form(kind: u8, text: &[u8], i: usize, table: &mut [u8], front: Front) -> Front
+// The form of this kind, whose name ends at a place of the table of names; the text inside its bracket begins at byte i.
+fn place_form(
+    names: &[u8; LONG],
+    kind: u8,
+    end: usize,
+    text: &[u8],
+    i: usize,
+    table: &mut [u8],
+    front: Front,
+) -> Front
+    requires { ⌜ TheNames (now names) ⌝ }
+    requires { ⌜ (end ≡ nameEnd (formRow kind)) × (end ≤ long) ⌝ }
     requires { ⌜ Ready (form kind (drop i (now text))) (now table) front ⌝ }
     ensures { λ r. ⌜ Places (form kind (drop i (now (text .entry)))) (now (table .entry)) front (now (table .exit)) r ⌝ }
 {
-    match kind {
-        3 => place_row(3, table, front),
-        4 => place_row(4, table, front),
-        8 => place_await(text, i, table, front),
-        9 => place_choice(9, text, i, table, front),
-        10 => place_choice(10, text, i, table, front),
-        _ => place_single(kind, text, i, table, front),
+    if code(names, end + 4) == PARTS {
+        return place_row(kind, table, front);
     }
+    if code(names, end) == TEST {
+        if code(names, end + 1) == b',' {
+            return place_choice(kind, text, i, table, front);
+        }
+        return place_await(kind, text, i, table, front);
+    }
+    place_single(names, kind, end, text, i, table, front)
 }
 
 // `J` before this text.
-fn place_name(text: &[u8], table: &mut [u8], front: Front) -> Front
+fn place_name(names: &[u8; LONG], text: &[u8], table: &mut [u8], front: Front) -> Front
+    requires { ⌜ TheNames (now names) ⌝ }
     requires { ⌜ Ready (name (now text)) (now table) front ⌝ }
     ensures { λ r. ⌜ Places (name (now (text .entry))) (now (table .entry)) front (now (table .exit)) r ⌝ }
 {
-    let kind = kind_of(byte_at(text, 2), byte_at(text, 4));
-    let i = inside_of(kind);
-    place_form(kind, text, i, table, front)
+    let kind = kind_of(names, text);
+    let row = FIRST_FORM + wide(kind);
+    let end = name_end(names, row);
+    place_form(names, kind, end, text, 2 + (end - ROW * row), table, front)
 }
 
 // `,` at this level.
@@ -409,28 +420,30 @@ fn place_comma(level: u8, table: &mut [u8], front: Front) -> Front
 }
 
 // What byte b places at this level, before this text.
-fn place(b: u8, level: u8, text: &[u8], table: &mut [u8], front: Front) -> Front
+fn place(names: &[u8; LONG], b: u8, level: u8, text: &[u8], table: &mut [u8], front: Front) -> Front
+    requires { ⌜ TheNames (now names) ⌝ }
     requires { ⌜ Ready (placing b level (now text)) (now table) front ⌝ }
     ensures { λ r. ⌜ Places (placing b level (now (text .entry))) (now (table .entry)) front (now (table .exit)) r ⌝ }
 {
     match b {
         b' ' => place_event(text, 0, table, front),
-        b'(' => place_opening(level, text, table, front),
+        b'(' => place_opening(names, level, text, table, front),
         b',' => place_comma(level, table, front),
-        b'J' => place_name(text, table, front),
+        b'J' => place_name(names, text, table, front),
         _ => front,
     }
 }
 
-// A blank before `and` or `or`.
-fn name_level(c: u8, levels: &mut [u8], depth: usize)
-    ensures { λ r. ⌜ now (levels .exit) ≡ cond (eqb c 97) (set (now (levels .entry)) depth 2) (cond (eqb c 111) (set (now (levels .entry)) depth 3) (now (levels .entry))) ⌝ }
+// A blank before this text.
+fn name_level(names: &[u8; LONG], text: &[u8], levels: &mut [u8], depth: usize)
+    requires { ⌜ TheNames (now names) ⌝ }
+    ensures { λ r. ⌜ now (levels .exit) ≡ cond (eqb (pairOf (now (text .entry))) 0) (now (levels .entry)) (set (now (levels .entry)) depth (pairOf (now (text .entry)))) ⌝ }
 {
-    match c {
-        b'a' => store(levels, depth, 2),
-        b'o' => store(levels, depth, 3),
-        _ => {}
+    let kind = pair_named(names, text, 0);
+    if kind == 0 {
+        return;
     }
+    store(levels, depth, kind);
 }
 
 // The level around that in front.
@@ -444,14 +457,15 @@ fn outer(levels: &[u8], depth: usize) -> usize
     depth
 }
 
-// The levels before byte b, which c follows.
-fn relevel(b: u8, c: u8, levels: &mut [u8], depth: usize) -> usize
-    requires { ⌜ LevelReady (leveling b c) (now levels) depth ⌝ }
-    ensures { λ r. ⌜ Levels (leveling b c) (now (levels .entry)) depth (now (levels .exit)) r ⌝ }
+// The levels before byte b, which this text follows.
+fn relevel(names: &[u8; LONG], b: u8, text: &[u8], levels: &mut [u8], depth: usize) -> usize
+    requires { ⌜ TheNames (now names) ⌝ }
+    requires { ⌜ LevelReady (leveling b (now text)) (now levels) depth ⌝ }
+    ensures { λ r. ⌜ Levels (leveling b (now (text .entry))) (now (levels .entry)) depth (now (levels .exit)) r ⌝ }
 {
     match b {
         b' ' => {
-            name_level(c, levels, depth);
+            name_level(names, text, levels, depth);
             depth
         }
         b'(' => outer(levels, depth),

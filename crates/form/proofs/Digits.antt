@@ -7,7 +7,7 @@ use native.Mathlib.Omega.{arith}
 use borrow.Author.Tests.{le-leb, leb-true}
 use Rattle.letters.specs.Decimal.{decimal}
 use Rattle.letters.proofs.Decimal.{one-or-more, decimal-digit, decimal-more}
-use Rattle.table.proofs.Laid.{both}
+use Rattle.form.proofs.Tested.{both}
 use Rattle.form.specs.Inside.Machine.{isDigit}
 
 pub is-digit : (d : ℕ) → d < 10 → isDigit (48 + d) ≡ true

@@ -1,4 +1,7 @@
 -- The laws, in the order in which they lean on one another.
+pub mod Tested
+pub mod Rows
+pub mod NamesRead
 pub mod Digits
 pub mod Steps
 pub mod Accepts

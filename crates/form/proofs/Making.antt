@@ -1,5 +1,5 @@
 -- The program of a text, made by the reading machine's steps from left to right.
-use Prim.Native.Nat.{ℕ}
+use Prim.Native.Nat.{ℕ, _-_, _/_}
 use mathlib.Core.Bool.{cond}
 use mathlib.Core.List.{List, [], _∷_}
 use lib.Dec.{eqb}
@@ -7,7 +7,8 @@ use lib.ListN.{getD}
 use Rattle.junior.specs.Configuration.{Config, Event, Not, And, Or}
 use Rattle.junior.specs.Program.{Program, Nothing, Stop, Atom, Seq, Par, Loop, Repeat, Generate, Await, When, Until}
 use Rattle.junior.specs.Program.{Control, Local}
-use Rattle.form.specs.Inside.Machine.{Sym, Stack, byte, prog, name, s-name, a-name, lo-name, parts, conf, inner}
+use Rattle.form.specs.Inside.Rows.{formRow, inName, home, placeOf}
+use Rattle.form.specs.Inside.Machine.{Sym, Stack, byte, prog, name, parts, conf, inner}
 use Rattle.form.specs.Inside.Machine.{joint, num, tail, endByte, Next, dead, on, step}
 
 -- what stands between brackets
@@ -57,6 +58,28 @@ branchedOf f l = program (f (testOf (item l 2)) (programOf (item l 1)) (programO
 abbrev joinedOf : (Config → Config → Config) → Maker
 joinedOf f l = test (f (testOf (item l 1)) (testOf (item l 0)))
 
+-- the makers of the forms, by kind
+unfoldable makers : List Maker
+makers =
+    (λ l. program Nothing)
+    ∷ (λ l. program Stop)
+    ∷ (λ l. program (Atom (valueOf (item l 0))))
+    ∷ severalOf Seq
+    ∷ severalOf Par
+    ∷ (λ l. program (Loop (programOf (item l 0))))
+    ∷ numberedOf Repeat
+    ∷ (λ l. program (Generate (valueOf (item l 0))))
+    ∷ (λ l. program (Await (testOf (item l 0))))
+    ∷ branchedOf When
+    ∷ branchedOf Until
+    ∷ numberedOf Control
+    ∷ numberedOf Local
+    ∷ []
+
+unfoldable makerOf : ℕ → Maker
+unfolding makers
+makerOf k = getD makers k (λ l. value 0)
+
 -- an open bracket and its items so far
 pub data Bracket : Type 0 where
   bracket : Maker → List Item → Bracket
@@ -79,22 +102,10 @@ shut (bracket f l ∷ k) = add (f l) k
 
 -- a byte's share where the stack begins with this symbol, but for a closing bracket
 unfoldable pub mark : Sym → ℕ → List Bracket → List Bracket
+unfolding inName placeOf makerOf
 mark (byte c) b k = k
 mark prog b k = k
-mark name b k =
-    cond (eqb b 78) (begin (λ l. program Nothing) k)
-    (cond (eqb b 80) (begin (severalOf Par) k)
-    (cond (eqb b 82) (begin (numberedOf Repeat) k)
-    (cond (eqb b 71) (begin (λ l. program (Generate (valueOf (item l 0)))) k)
-    (cond (eqb b 87) (begin (branchedOf When) k)
-    (cond (eqb b 85) (begin (branchedOf Until) k)
-    (cond (eqb b 67) (begin (numberedOf Control) k)
-    k))))))
-mark s-name b k = cond (eqb b 101) (begin (severalOf Seq) k) (begin (λ l. program Stop) k)
-mark a-name b k =
-    cond (eqb b 119) (begin (λ l. program (Await (testOf (item l 0)))) k)
-    (begin (λ l. program (Atom (valueOf (item l 0)))) k)
-mark lo-name b k = cond (eqb b 99) (begin (numberedOf Local) k) (begin (λ l. program (Loop (programOf (item l 0)))) k)
+mark (name p) b k = cond (eqb b 40) (begin (makerOf (placeOf (home p) b / 20 - formRow 0)) k) k
 mark parts b k = k
 mark (conf e) b k = cond (eqb b 40) (begin (λ l. value 0) k) k
 mark inner b k =

@@ -10,8 +10,9 @@ use Rattle.letters.specs.Text.{bytes}
 use Rattle.junior.specs.Configuration.{Config}
 use Rattle.junior.specs.Program.{Program}
 use Rattle.form.specs.Form.{SaysTest, Says, whole, later-seq, later-par}
-use Rattle.form.specs.Inside.Machine.{endByte, limit, Sym, Stack, lit, byte, prog, name, s-name, a-name}
-use Rattle.form.specs.Inside.Machine.{lo-name, parts, conf, inner, joint, num, tail}
+use Rattle.form.specs.Inside.Rows.{home, letters}
+use Rattle.form.specs.Inside.Machine.{endByte, limit, Sym, Stack, lit, byte, prog, name}
+use Rattle.form.specs.Inside.Machine.{parts, conf, inner, joint, num, tail}
 
 -- a program is said with these letters in front
 abbrev pub After : List ℕ → List ℕ → Type 0
@@ -21,10 +22,7 @@ After w u = (p : Program) × Says (whole p) (w ++ u)
 abbrev pub Means : Sym → List ℕ → Type 0
 Means (byte c) u = u ≡ c ∷ []
 Means prog u = After [] u
-Means name u = After (bytes "Jr.") u
-Means s-name u = After (bytes "Jr.S") u
-Means a-name u = After (bytes "Jr.A") u
-Means lo-name u = After (bytes "Jr.Lo") u
+Means (name p) u = After (bytes "Jr." ++ letters (home p)) u
 Means parts u =
     ((p : Program) (w : List ℕ) → Says (whole p) w → (q : Program) × Says (later-seq q) (w ++ u))
     × ((p : Program) (w : List ℕ) → Says (whole p) w → (q : Program) × Says (later-par q) (w ++ u))

@@ -1,28 +1,31 @@
 -- What the reading machine accepts has a reading.
-use Prim.Native.Nat.{ℕ, _+_, _-_, _/_, _%_, _≤_, _<_}
-use mathlib.Core.Bool.{Bool, true, false, _&&_}
+use Prim.Native.Nat.{ℕ, suc, _+_, _-_, _/_, _%_, _≤_, _<_}
+use mathlib.Core.Bool.{Bool, true, false, cond, _&&_, false≢true}
 use mathlib.Core.Path.{_≡_, refl, ap, sym, subst, _∙_}
 use mathlib.Core.List.{List, [], _∷_, _++_, append-assoc, append-nil}
 use native.Mathlib.Omega.{arith}
-use lib.Dec.{leb}
-use borrow.Author.Tests.{eqb-true, leb-true}
+use lib.Dec.{eqb, leb}
+use borrow.Author.Tests.{eqb-true, eqb-false, leb-true}
 use Rattle.letters.specs.Decimal.{decimal}
 use Rattle.letters.specs.Text.{bytes}
 use Rattle.letters.proofs.Decimal.{decimal-digit, decimal-more}
 use Rattle.junior.specs.Configuration.{Config, Event, Not, And, Or}
 use Rattle.junior.specs.Program.{Program, Nothing, Stop, Atom, Seq, Par, Loop, Repeat, Generate, Await, When, Until}
 use Rattle.junior.specs.Program.{Control, Local}
-use Rattle.table.proofs.Laid.{both}
+use Rattle.form.specs.Names.{formOf, opening}
 use Rattle.form.specs.Form.{SaysTest, says-event, says-not, says-and, says-or, whole, later-seq, later-par}
 use Rattle.form.specs.Form.{Says, says-nothing, says-stop, says-atom, says-seq, last-of-seq, more-of-seq}
 use Rattle.form.specs.Form.{says-par, last-of-par, more-of-par, says-loop, says-repeat, says-generate}
 use Rattle.form.specs.Form.{says-await, says-when, says-until, says-control, says-local}
+use Rattle.form.specs.Inside.Rows.{formRow, kinds, nameEnd, codes, inName, firstName, home, letters, placeOf}
 use Rattle.form.specs.Inside.Machine.{End, close, comma, space, endByte, Number, event, plain, limit, isDigit}
-use Rattle.form.specs.Inside.Machine.{grown, Sym, Stack, byte, prog, name, s-name, a-name, lo-name, parts, conf}
-use Rattle.form.specs.Inside.Machine.{inner, joint, num, tail, several, body, branches, ways, Next, dead, on}
+use Rattle.form.specs.Inside.Machine.{grown, Sym, Stack, byte, prog, name, parts, conf}
+use Rattle.form.specs.Inside.Machine.{inner, joint, num, tail, syms, ways, Next, dead, on}
 use Rattle.form.specs.Inside.Machine.{choose, then, run}
+use Rattle.form.proofs.Tested.{both, Each, each-at}
+use Rattle.form.proofs.NamesRead.{home-in, name-on, name-code, column, letters-on, Read, read, opened}
 use Rattle.form.proofs.Digits.{digit-is}
-use Rattle.form.proofs.Meaning.{After, Means, Reads, taken}
+use Rattle.form.proofs.Meaning.{After, Means, Reads, reads-split, taken}
 
 only : (s : Sym) (u : List ℕ) → Reads (s ∷ []) u → Means s u
 only s u (v, x, e, m, r) = let k : u ≡ v = simp (e, r, append-nil) in subst (Means s) (sym k) m
@@ -33,7 +36,7 @@ Several u =
     (p : Program) × (v : List ℕ) × (w : List ℕ) × Says (whole p) v × (u ≡ v ++ (bytes ", " ++ w))
     × ((q : Program) × Says (later-seq q) w) × ((q : Program) × Says (later-par q) w)
 
-is-several : (u : List ℕ) → Reads (several []) u → Several u
+is-several : (u : List ℕ) → Reads (prog ∷ byte 44 ∷ byte 32 ∷ prog ∷ parts ∷ []) u → Several u
 is-several u (v, x, e, (p, d), (u1, v1, e1, m1, (u2, v2, e2, m2, (w, x3, e3, (q, d3), (t, x4, e4, m4, r))))) =
     (p, v, w ++ t, d, simp (e, e1, m1, e2, m2, e3, e4, r, append-nil), m4 .0 q w d3, m4 .1 q w d3)
 
@@ -43,7 +46,7 @@ Numbered n u =
     (a : ℕ) × (p : Program) × (v : List ℕ) × (a ≤ limit n) × Says (whole p) v
     × (u ≡ decimal a ++ (bytes ", " ++ (v ++ bytes ")")))
 
-is-numbered : (n : Number) (u : List ℕ) → Reads (num n comma ∷ body []) u → Numbered n u
+is-numbered : (n : Number) (u : List ℕ) → Reads (num n comma ∷ byte 32 ∷ prog ∷ byte 41 ∷ []) u → Numbered n u
 is-numbered n u (t, x, e, (a, l, k), (u1, v1, e1, m1, (v, v2, e2, (p, d), (u3, v3, e3, m3, r)))) =
     (a, p, v, l, d, simp (e, k, append-assoc, e1, m1, e2, e3, m3, r))
 
@@ -61,7 +64,7 @@ Branched u =
     × SaysTest c t × Says (whole p) v × Says (whole q) w
     × (u ≡ t ++ (bytes ", " ++ (v ++ (bytes ", " ++ (w ++ bytes ")")))))
 
-is-branched : (u : List ℕ) → Reads (branches []) u → Branched u
+is-branched : (u : List ℕ) → Reads (conf comma ∷ byte 32 ∷ prog ∷ byte 44 ∷ byte 32 ∷ prog ∷ byte 41 ∷ []) u → Branched u
 is-branched u (s, x, e, (c, t, d, k), (u1, v1, e1, m1, (v, v2, e2, (p, d2), (u3, v3, e3, m3, y)))) =
     let (u4, v4, e4, m4, (w, v5, e5, (q, d5), (u6, v6, e6, m6, r))) = y in
     (c, p, q, t, v, w, d, d2, d5, simp (e, k, append-assoc, e1, m1, e2, e3, m3, e4, m4, e5, e6, m6, r))
@@ -197,38 +200,80 @@ infixr 4 _or_
 _or_ : {A B : Type 0} → A → B → A × B
 a or b = (a, b)
 
-by-name : (σ : Stack) (b : ℕ) (w : List ℕ) → Backs (ways name σ b) w (Reads (name ∷ σ) (b ∷ w))
-unfolding ways
-by-name σ b w =
-    taken name σ b 78 (bytes "othing()") [] w (λ u e. (Nothing, rw e says-nothing))
-    or taken name σ b 83 [] (s-name ∷ []) w (only s-name)
-    or taken name σ b 65 [] (a-name ∷ []) w (only a-name)
-    or taken name σ b 80 (bytes "ar(") (several []) w (λ u r. of-par u (is-several u r))
-    or taken name σ b 76 (bytes "o") (lo-name ∷ []) w (only lo-name)
-    or taken name σ b 82 (bytes "epeat(") (num plain comma ∷ body []) w (λ u r. of-repeat u (is-numbered plain u r))
-    or taken name σ b 71 (bytes "enerate(") (num event close ∷ []) w (λ u r. of-generate u (only (num event close) u r))
-    or taken name σ b 87 (bytes "hen(") (branches []) w (λ u r. of-when u (is-branched u r))
-    or taken name σ b 85 (bytes "ntil(") (branches []) w (λ u r. of-until u (is-branched u r))
-    or taken name σ b 67 (bytes "ontrol(") (num event comma ∷ body []) w (λ u r. of-control u (is-numbered event u r))
+-- nothing stands in the brackets
+is-shut : (u : List ℕ) → Reads (byte 41 ∷ []) u → u ≡ bytes ")"
+is-shut u (v, x, e, m, r) = simp (e, m, r)
+
+-- what stands behind the name of a kind says a program of it
+abbrev Said : ℕ → Type 0
+Said k = (u : List ℕ) → Reads (syms false (codes (nameEnd (formRow k)))) u → After (opening k) u
+
+each-said : Each kinds 0 Said
+unfolding syms codes nameEnd opening
+each-said =
+    (λ u r. (Nothing, rw (is-shut u r) says-nothing))
+    or (λ u r. (Stop, rw (is-shut u r) says-stop))
+    or (λ u r. of-atom u (only (num plain close) u r))
+    or (λ u r. of-seq u (is-several u r))
+    or (λ u r. of-par u (is-several u r))
+    or (λ u r. of-loop u (is-closed u r))
+    or (λ u r. of-repeat u (is-numbered plain u r))
+    or (λ u r. of-generate u (only (num event close) u r))
+    or (λ u r. of-await u (only (conf close) u r))
+    or (λ u r. of-when u (is-branched u r))
+    or (λ u r. of-until u (is-branched u r))
+    or (λ u r. of-control u (is-numbered event u r))
+    or (λ u r. of-local u (is-numbered event u r))
     or tt
+
+-- a byte in a name: a letter more, or the bracket
+module _ (p b : ℕ) (w : List ℕ) (σ : Stack) where
+  abbrev q : ℕ
+  q = placeOf (home p) b
+
+  module _ (o : Read (home p) b q) where
+    letter-back : (b ≡ 40 → ⊥) → Reads (name (suc q) ∷ σ) w → Reads (name p ∷ σ) (b ∷ w)
+    letter-back n (u, v, e, m, r) =
+        let i : inName (suc q) ≡ true = name-on q (o .in-name) (λ z. n (sym (o .code-is) ∙ z)) in
+        let l : letters (suc q) ≡ letters (home p) ++ (b ∷ []) =
+        letters-on q (column q (name-code q (o .in-name))) ∙ rw (o .letters-are, o .code-is) in
+        let k : After (bytes "Jr." ++ (letters (home p) ++ (b ∷ []))) u = rw (i, l) at m in
+        (b ∷ u, v, ap (λ x. b ∷ x) e, (k .0, rw (append-assoc (letters (home p)) (b ∷ []) u) at (k .1)), r)
+
+    bracket-back : b ≡ 40 → (u v : List ℕ) → w ≡ u ++ v → Reads (syms false (codes (suc q))) u → Reads σ v → Reads (name p ∷ σ) (b ∷ w)
+    unfolding opening
+    bracket-back f u v e m t =
+        let c = opened q (o .code-is ∙ f) in
+        let i : Reads (syms false (codes (nameEnd (formRow (c .kind))))) u = subst (λ (x : ℕ). Reads (syms false (codes x)) u) (c .end-is) m in
+        let k : After (opening (c .kind)) u = each-at Said kinds 0 each-said (c .kind) (omega arith) (c .known) u i in
+        let n : formOf (c .kind) .name ≡ letters (home p) = sym (c .name-is) ∙ o .letters-are in
+        let d : Says (whole (k .0)) (bytes "Jr." ++ (letters (home p) ++ (40 ∷ u))) =
+        rw (n, append-assoc (letters (home p)) (40 ∷ []) u) at (k .1) in
+        let z : After (bytes "Jr." ++ letters (home p)) (b ∷ u) =
+        subst (λ (x : ℕ). After (bytes "Jr." ++ letters (home p)) (x ∷ u)) (sym f) (k .0, d) in
+        (b ∷ u, v, ap (λ x. b ∷ x) e, z, t)
+
+  by-name : cond (eqb q 0) false true ≡ true → Reads (cond (eqb b 40) (syms false (codes (suc q)) ++ σ) (name (suc q) ∷ σ)) w
+      → Reads (name p ∷ σ) (b ∷ w)
+  by-name t = go (eqb q 0) refl (eqb b 40) refl t
+    where
+      go : (y : Bool) → eqb q 0 ≡ y → (z : Bool) → eqb b 40 ≡ z → cond y false true ≡ true
+          → Reads (cond z (syms false (codes (suc q)) ++ σ) (name (suc q) ∷ σ)) w → Reads (name p ∷ σ) (b ∷ w)
+      go true e z f g r = absurd (false≢true g)
+      go false e true f g r =
+          let k = reads-split (syms false (codes (suc q))) σ w r in
+          bracket-back (read (home p) b (home-in p) (eqb-false q 0 e)) (eqb-true b 40 f) (k .0) (k .1) (k .2) (k .3) (k .4)
+      go false e false f g r = letter-back (read (home p) b (home-in p) (eqb-false q 0 e)) (eqb-false b 40 f) r
+
+first-name : (u : List ℕ) → Reads (name firstName ∷ []) u → Means prog (bytes "Jr." ++ u)
+unfolding inName letters
+first-name u r = only (name firstName) u r
 
 step-back : (s : Sym) (σ : Stack) (b : ℕ) (w : List ℕ) → Backs (ways s σ b) w (Reads (s ∷ σ) (b ∷ w))
 unfolding ways
 step-back (byte c) σ b w = (λ t r. (c ∷ [], w, ap (λ x. x ∷ w) (eqb-true b c t), refl, r)) or tt
-step-back prog σ b w = taken prog σ b 74 (bytes "r.") (name ∷ []) w (only name) or tt
-step-back name σ b w = by-name σ b w
-step-back s-name σ b w =
-    taken s-name σ b 116 (bytes "op()") [] w (λ u e. (Stop, rw e says-stop))
-    or taken s-name σ b 101 (bytes "q(") (several []) w (λ u r. of-seq u (is-several u r))
-    or tt
-step-back a-name σ b w =
-    taken a-name σ b 116 (bytes "om(") (num plain close ∷ []) w (λ u r. of-atom u (only (num plain close) u r))
-    or taken a-name σ b 119 (bytes "ait(") (conf close ∷ []) w (λ u r. of-await u (only (conf close) u r))
-    or tt
-step-back lo-name σ b w =
-    taken lo-name σ b 111 (bytes "p(") (prog ∷ byte 41 ∷ []) w (λ u r. of-loop u (is-closed u r))
-    or taken lo-name σ b 99 (bytes "al(") (num event comma ∷ body []) w (λ u r. of-local u (is-numbered event u r))
-    or tt
+step-back prog σ b w = taken prog σ b 74 (bytes "r.") (name firstName ∷ []) w first-name or tt
+step-back (name p) σ b w = by-name p b w σ or tt
 step-back parts σ b w =
     taken parts σ b 41 [] [] w of-last or taken parts σ b 44 (bytes " ") (prog ∷ parts ∷ []) w of-more or tt
 step-back (conf e) σ b w =

@@ -1,4 +1,5 @@
 -- The definitions, in reading order.
+pub mod Names
 pub mod Form
 pub mod Fails
 pub mod InForm

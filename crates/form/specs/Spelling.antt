@@ -4,9 +4,9 @@ use mathlib.Core.List.{List, [], _++_}
 use Rattle.letters.specs.Decimal.{decimal}
 use Rattle.letters.specs.Text.{bytes}
 use Rattle.junior.specs.Configuration.{Config, Event, Not, And, Or}
-use Rattle.junior.specs.Program.{Program, Nothing, Stop, Atom, Seq, Par, Loop, Repeat, Generate, Await, When, Until}
-use Rattle.junior.specs.Program.{Control, Local, Argument, no-argument, number, event, configuration, argument}
+use Rattle.junior.specs.Program.{Program, Argument, no-argument, number, event, configuration, argument, kind}
 use Rattle.junior.specs.Program.{Parts, no-part, one-part, two-parts, parts}
+use Rattle.form.specs.Names.{opening}
 
 unfoldable pub spellTest : Config → List ℕ
 spellTest (Event s) = decimal s
@@ -14,21 +14,9 @@ spellTest (Not c) = bytes "(not " ++ (spellTest c ++ bytes ")")
 spellTest (And c d) = bytes "(" ++ (spellTest c ++ (bytes " and " ++ (spellTest d ++ bytes ")")))
 spellTest (Or c d) = bytes "(" ++ (spellTest c ++ (bytes " or " ++ (spellTest d ++ bytes ")")))
 
--- each form's name, with the bracket
+-- the name of its kind, with the bracket
 abbrev pub name : Program → List ℕ
-name Nothing = bytes "Jr.Nothing("
-name Stop = bytes "Jr.Stop("
-name (Atom a) = bytes "Jr.Atom("
-name (Seq p q) = bytes "Jr.Seq("
-name (Par p q) = bytes "Jr.Par("
-name (Loop p) = bytes "Jr.Loop("
-name (Repeat n p) = bytes "Jr.Repeat("
-name (Generate s) = bytes "Jr.Generate("
-name (Await c) = bytes "Jr.Await("
-name (When c p q) = bytes "Jr.When("
-name (Until c p q) = bytes "Jr.Until("
-name (Control s p) = bytes "Jr.Control("
-name (Local s p) = bytes "Jr.Local("
+name p = opening (kind p)
 
 abbrev pub spellArgument : Argument → List ℕ
 spellArgument no-argument = []
@@ -50,4 +38,5 @@ spellParts {p} (two-parts f q r) =
     name p ++ before (argument p) (spellParts q ++ (bytes ", " ++ (spellParts r ++ bytes ")")))
 
 unfoldable pub spell : Program → List ℕ
+unfolding kind opening
 spell p = spellParts (parts p)

@@ -1,10 +1,13 @@
 -- Printing a node's own record: its argument by what its kind takes, and the head of its text.
-use Prim.Native.Nat.{ℕ, _+_, _≤_}
+use Prim.Native.Nat.{ℕ, _+_, _≤_, _<_}
 use mathlib.Core.Bool.{Bool, true, false}
 use mathlib.Core.Path.{_≡_, refl, sym, ap, subst₂, _∙_}
 use mathlib.Core.List.{List, [], _++_}
 use native.Mathlib.Omega.{arith}
-use lib.ListN.{length}
+use lib.Dec.{leb}
+use native.Mathlib.Nat.{add-zero}
+use lib.ListN.{length, getD}
+use borrow.Author.Tests.{leb-true, eq-eqb, ne-eqb, le-leb, lt-leb}
 use Rattle.letters.specs.Decimal.{decimal}
 use Rattle.junior.specs.Configuration.{Config}
 use Rattle.junior.specs.Program.{Program, Nothing, Stop, Atom, Seq, Par, Loop, Repeat, Generate, Await, When, Until}
@@ -18,7 +21,10 @@ use Rattle.table.proofs.Tree.{kind-is}
 use Rattle.table.proofs.TestParts.{Test, ends-inside}
 use Rattle.table.proofs.Loaded.{fine-at}
 use Rattle.form.specs.Spelling.{spellTest}
-use Rattle.printer.specs.Printing.{Fits, Puts, nameOf, link, takesTest, takesNumber, argument, head}
+use Rattle.form.specs.Names.{opening}
+use Rattle.form.specs.Inside.Rows.{names, formRow, kinds, nameEnd, inside}
+use Rattle.form.proofs.Tested.{all, all-at}
+use Rattle.printer.specs.Printing.{Fits, Puts, linked, link, takesTest, takesNumber, argument, head}
 use Rattle.printer.specs.Printing.{Standing, Shows, Testable, ShowsTest}
 use Rattle.printer.proofs.Puts.{puts-none, puts-then, fits-first, fits-on}
 
@@ -70,6 +76,34 @@ number-of (a-number e) = e
 none-of : {t : List ℕ} {i : ℕ} {p : Program} → Argued t i p false false → argument p ≡ []
 none-of (no-argument e) = e
 
+-- what the first code in the brackets tells
+module _ {x : ℕ} (k : ℕ) (e : x ≡ inside k 0) where
+  pub is-test : x ≡ 134 → takesTest k ≡ true
+  unfolding takesTest
+  is-test h = eq-eqb (inside k 0) 134 (sym e ∙ h)
+
+  pub is-no-test : (x ≡ 134 → ⊥) → takesTest k ≡ false
+  unfolding takesTest
+  is-no-test h = ne-eqb (inside k 0) 134 (λ z. h (e ∙ z))
+
+  pub is-number : 138 ≤ x → takesNumber k ≡ true
+  unfolding takesNumber
+  is-number h = le-leb 138 (inside k 0) (omega arith)
+
+  pub is-no-number : x < 138 → takesNumber k ≡ false
+  unfolding takesNumber
+  is-no-number h = lt-leb 138 (inside k 0) (omega arith)
+
+-- these codes stand behind the name in the table of names
+module _ (l : List ℕ) (k n : ℕ) (e : l ≡ names) (f : n ≡ nameEnd (formRow k)) where
+  pub first-code : getD l n 0 ≡ inside k 0
+  unfolding inside
+  first-code = rw (e, f, add-zero (nameEnd (formRow k)))
+
+  pub link-is : linked (getD l n 0) (getD l (n + 1) 0) ≡ link k
+  unfolding inside link
+  link-is = rw (e, f, add-zero (nameEnd (formRow k)))
+
 -- the test that a node has
 pub test-at : {t : List ℕ} {i : ℕ} {p : Program} → Placed t i p → argumentLimit t (kind p) ≡ configurations t → (d : Config)
     → Configured t (tested t i) d → Test t (argumentAt t i) d
@@ -107,22 +141,28 @@ module _ {t : List ℕ} {i : ℕ} where
     pub puts-no-argument : takesNumber (kindAt t i) ≡ false → {a : List ℕ} {at : ℕ} → Shows argument t i a a at at
     puts-no-argument f {a} {at} = record { puts = λ p h. rw (none-of (argued-at h e f)) (puts-none a at) }
 
--- a known kind's name is short
-pub known-kind : {k : ℕ} → Kind k → (k ≤ 12) × (length (nameOf k) ≤ 12)
-unfolding nameOf
-known-kind k0 = (omega arith, omega arith)
-known-kind k1 = (omega arith, omega arith)
-known-kind k2 = (omega arith, omega arith)
-known-kind k3 = (omega arith, omega arith)
-known-kind k4 = (omega arith, omega arith)
-known-kind k5 = (omega arith, omega arith)
-known-kind k6 = (omega arith, omega arith)
-known-kind k7 = (omega arith, omega arith)
-known-kind k8 = (omega arith, omega arith)
-known-kind k9 = (omega arith, omega arith)
-known-kind k10 = (omega arith, omega arith)
-known-kind k11 = (omega arith, omega arith)
-known-kind k12 = (omega arith, omega arith)
+-- a known kind, and its name is short
+pub known-kind : {k : ℕ} → Kind k → k < kinds
+known-kind k0 = omega arith
+known-kind k1 = omega arith
+known-kind k2 = omega arith
+known-kind k3 = omega arith
+known-kind k4 = omega arith
+known-kind k5 = omega arith
+known-kind k6 = omega arith
+known-kind k7 = omega arith
+known-kind k8 = omega arith
+known-kind k9 = omega arith
+known-kind k10 = omega arith
+known-kind k11 = omega arith
+known-kind k12 = omega arith
+
+unfoldable brief : ℕ → Bool
+brief k = leb (length (opening k)) 12
+
+pub name-short : {k : ℕ} → Kind k → length (opening k) ≤ 12
+unfolding all brief opening
+name-short {k} h = leb-true _ 12 (all-at kinds brief refl k (known-kind h))
 
 -- the name, the argument, and what links it to a part
 module _ {t : List ℕ} {i k : ℕ} (e : k ≡ kindAt t i) where
@@ -133,18 +173,18 @@ module _ {t : List ℕ} {i k : ℕ} (e : k ≡ kindAt t i) where
     k-is : kind p ≡ k
     k-is = sym (e ∙ kind-is t i p (h .placed .spelled))
 
-    whole : Fits at (nameOf k ++ (argument p ++ link k))
+    whole : Fits at (opening k ++ (argument p ++ link k))
     whole = rw k-is at (h .fits)
 
-    pub kind-few : k ≤ 12
-    kind-few = omega (arith, k-is, known-kind (fine-at (h .placed) .known) .0)
+    pub kind-few : k < kinds
+    kind-few = omega (arith, k-is, known-kind (fine-at (h .placed) .known))
 
-    pub name-fits : Fits at (nameOf k)
-    name-fits = fits-first (nameOf k) (argument p ++ link k) whole
+    pub name-fits : Fits at (opening k)
+    name-fits = fits-first (opening k) (argument p ++ link k) whole
 
-    module _ {a b : List ℕ} {x : ℕ} (u : Puts a b at (nameOf k) x) where
+    module _ {a b : List ℕ} {x : ℕ} (u : Puts a b at (opening k) x) where
       behind-name : Fits x (argument p ++ link k)
-      behind-name = fits-on (nameOf k) (argument p ++ link k) whole u
+      behind-name = fits-on (opening k) (argument p ++ link k) whole u
 
       pub argument-part : Standing argument t i x
       argument-part = record { program = p; placed = h .placed; fits = fits-first (argument p) (link k) behind-name }
@@ -152,7 +192,7 @@ module _ {t : List ℕ} {i k : ℕ} (e : k ≡ kindAt t i) where
       pub link-fits : {c : List ℕ} {y : ℕ} → Shows argument t i b c x y → Fits y (link k)
       link-fits v = fits-on (argument p) (link k) behind-name (v .puts p (h .placed .spelled))
 
-  pub puts-head : {a b c d : List ℕ} {at x y r : ℕ} → Puts a b at (nameOf k) x → Shows argument t i b c x y
+  pub puts-head : {a b c d : List ℕ} {at x y r : ℕ} → Puts a b at (opening k) x → Shows argument t i b c x y
       → Puts c d y (link k) r → Shows head t i a d at r
   puts-head u v w =
       record { puts = λ p h. rw (← (e ∙ kind-is t i p h)) (puts-then u (puts-then (v .puts p h) w)) }

@@ -1,12 +1,12 @@
 -- Texts that are put into a room, one behind the other.
 use mathlib.Core.Path.{_≡_, refl, sym, ap, _∙_}
 use mathlib.Core.List.{List, [], _∷_, _++_}
-use Prim.Native.Nat.{ℕ, suc, _+_, _<_}
+use Prim.Native.Nat.{ℕ, suc, _+_, _-_, _≤_, _<_}
 use native.Mathlib.Omega.{arith}
 use native.Mathlib.Nat.{add-zero}
 use native.Mathlib.Numerals.{add-one}
-use lib.ListN.{length, getD, set, take, length-append}
-use lib.Seq.{sets, length-sets, take-suc}
+use lib.ListN.{length, getD, set, take, drop, length-append, length-take, length-drop}
+use lib.Seq.{sets, length-sets, take-suc, getD-drop}
 use Rattle.letters.proofs.Rooms.{sets-append}
 use Rattle.printer.specs.Printing.{Fits, Puts}
 
@@ -34,6 +34,20 @@ pub puts-byte : {a b c : List ℕ} {x : ℕ} (w : List ℕ) (k : ℕ) → k < le
     → c ≡ set b (x + k) (getD w k 0) → Puts a c x (take (k + 1) w) (x + (k + 1))
 puts-byte w k h p e =
     rw (add-one k, take-suc w k 0 h) (puts-then p (record { next = omega arith; room = e }))
+
+-- one more byte of a part of a row
+pub puts-on : {a b c : List ℕ} {at to : ℕ} (l : List ℕ) (begin p : ℕ) → begin ≤ p → p < length l
+    → Puts a b at (take (p - begin) (drop begin l)) to → c ≡ set b to (getD l p 0)
+    → Puts a c at (take (p + 1 - begin) (drop begin l)) (to + 1)
+puts-on l begin p h g u e =
+    let n : p - begin < length (drop begin l) = rw (length-drop begin l) (omega arith) in
+    let m : p + 1 - begin ≡ suc (p - begin) = omega arith in
+    let o : begin + (p - begin) ≡ p = omega arith in
+    let x : getD (drop begin l) (p - begin) 0 ≡ getD l p 0 = getD-drop begin l (p - begin) 0 ∙ rw o in
+    rw (m, take-suc (drop begin l) (p - begin) 0 n, x) (puts-then u (record { next = refl; room = e }))
+
+pub part-long : (l : List ℕ) (begin end : ℕ) → begin ≤ end → end ≤ length l → length (take (end - begin) (drop begin l)) ≡ end - begin
+part-long l begin end h g = rw (length-take (end - begin) (drop begin l), length-drop begin l) (omega arith)
 
 -- a text that fits, fits in parts
 module _ (u v : List ℕ) {at : ℕ} (h : Fits at (u ++ v)) where

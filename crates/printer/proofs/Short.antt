@@ -1,6 +1,6 @@
 -- The text of a loaded table's program is so short that every place in it is a number of 64 bits.
 use Prim.Native.Nat.{ℕ, zero, suc, _+_, _*_, _≤_}
-use mathlib.Core.Bool.{Bool, true, false, cond, _||_}
+use mathlib.Core.Bool.{Bool, true, false, cond, _&&_, _||_}
 use mathlib.Core.List.{List, [], _++_}
 use native.Mathlib.Omega.{arith}
 use lib.ListN.{length, length-append}
@@ -14,19 +14,24 @@ use Rattle.table.proofs.Tree.{written}
 use Rattle.table.proofs.TestParts.{ends-inside}
 use Rattle.table.proofs.Loaded.{limit-few, fine-at}
 use Rattle.form.specs.Spelling.{spell}
-use Rattle.printer.specs.Printing.{argument, link, head, rest, Fits}
+use Rattle.form.specs.Inside.Rows.{inside}
+use Rattle.printer.specs.Printing.{argument, linked, link, head, rest, Fits}
 use Rattle.printer.proofs.SpelledBy.{spelled-by, Parts, no-part, one-part, two-parts, parts-of}
 use Rattle.printer.proofs.Bounds.{test-short}
 use Rattle.printer.proofs.ArgumentsIn.{Argued, no-argument, a-number, a-test, argued, test-at}
-use Rattle.printer.proofs.ArgumentsIn.{known-kind}
+use Rattle.printer.proofs.ArgumentsIn.{name-short}
 
-link-few : (k : ℕ) → length (link k) ≤ 2
-unfolding link
-link-few k = go (eqb k 6 || leb 9 k)
+linked-few : (x y : ℕ) → length (linked x y) ≤ 2
+unfolding linked
+linked-few x y = go (leb 134 x && eqb y 44)
   where
     go : (b : Bool) → length (cond b (bytes ", ") []) ≤ 2
     go true = omega arith
     go false = omega arith
+
+link-few : (k : ℕ) → length (link k) ≤ 2
+unfolding link
+link-few k = linked-few (inside k 0) (inside k 1)
 
 argument-few : {t : List ℕ} {i : ℕ} {p : Program} → Placed t i p → length (argument p) ≤ 614400
 argument-few {t} {i} {p} h = go (argued t i p (h .spelled))
@@ -41,7 +46,7 @@ argument-few {t} {i} {p} h = go (argued t i p (h .spelled))
 
 head-few : {t : List ℕ} {i : ℕ} {p : Program} → Placed t i p → length (head p) ≤ 614414
 head-few {t} {i} {p} h =
-    simp length-append (omega (arith, known-kind (fine-at h .known) .1, argument-few h, link-few (kind p)))
+    simp length-append (omega (arith, name-short (fine-at h .known), argument-few h, link-few (kind p)))
 
 short : (n : ℕ) {t : List ℕ} {i : ℕ} {p : Program} → Placed t i p → size p ≤ n → length (spell p) ≤ 614500 * size p
 short zero {t} {i} {p} h l = go (parts-of t i p (h .spelled))

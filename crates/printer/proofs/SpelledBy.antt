@@ -8,11 +8,12 @@ use Rattle.junior.specs.Program.{Control, Local, size, kind}
 use Rattle.table.specs.Records.{secondAt}
 use Rattle.table.specs.Good.{children}
 use Rattle.table.specs.Spells.{Spells}
+use Rattle.form.specs.Names.{opening}
 use Rattle.form.specs.Spelling.{spell}
-use Rattle.printer.specs.Printing.{nameOf, argument, link, head, rest}
+use Rattle.printer.specs.Printing.{argument, link, head, rest}
 
 pub spelled-by : (p : Program) → spell p ≡ head p ++ rest p
-unfolding spell kind nameOf argument link rest
+unfolding spell kind opening argument link rest
 spelled-by Nothing = refl
 spelled-by Stop = refl
 spelled-by (Atom a) = simp append-assoc

@@ -1,9 +1,9 @@
 -- What the functions that print promise one another; the public call is crate text's.
 use Prim.Native.Nat.{ℕ, _+_, _*_, _≤_, _<_}
-use mathlib.Core.Bool.{Bool, cond, _&&_, _||_}
+use mathlib.Core.Bool.{Bool, cond, _&&_}
 use mathlib.Core.Path.{_≡_}
-use mathlib.Core.List.{List, [], _∷_, _++_}
-use lib.ListN.{length, getD}
+use mathlib.Core.List.{List, [], _++_}
+use lib.ListN.{length}
 use lib.Dec.{eqb, leb}
 use lib.Seq.{sets}
 use Rattle.letters.specs.Decimal.{decimal}
@@ -13,7 +13,9 @@ use Rattle.junior.specs.Program.{Program, Nothing, Stop, Atom, Seq, Par, Loop, 
 use Rattle.junior.specs.Program.{Control, Local, kind}
 use Rattle.table.specs.Spells.{Spells, Configured, weight}
 use Rattle.table.specs.Inside.{Placed}
+use Rattle.form.specs.Names.{opening}
 use Rattle.form.specs.Spelling.{spell, spellTest}
+use Rattle.form.specs.Inside.Rows.{inside}
 
 -- the place behind the text w at `at` is a number of 64 bits
 pub record Fits (at : ℕ) (w : List ℕ) : Type 0 where
@@ -25,33 +27,15 @@ pub record Puts (old new : List ℕ) (at : ℕ) (w : List ℕ) (r : ℕ) : Type 
   pub room : new ≡ sets old at w
 
 -- A program's spelling in two, what its own record tells and the rest; the law `spelled-by` says that these are all. The record tells the
--- name of its kind with the bracket, its argument, and the comma behind the argument if parts follow.
-unfoldable pub nameOf : ℕ → List ℕ
-nameOf k =
-    getD
-    (bytes "Jr.Nothing("
-    ∷ bytes "Jr.Stop("
-    ∷ bytes "Jr.Atom("
-    ∷ bytes "Jr.Seq("
-    ∷ bytes "Jr.Par("
-    ∷ bytes "Jr.Loop("
-    ∷ bytes "Jr.Repeat("
-    ∷ bytes "Jr.Generate("
-    ∷ bytes "Jr.Await("
-    ∷ bytes "Jr.When("
-    ∷ bytes "Jr.Until("
-    ∷ bytes "Jr.Control("
-    ∷ bytes "Jr.Local("
-    ∷ [])
-    k
-    []
-
--- kinds whose argument is a configuration, and those whose argument is written as it is
+-- name of its kind with the bracket, its argument, and the comma behind the argument if parts follow. The first code in the brackets of a kind
+-- tells whether its argument is a configuration, or is written as it is.
 unfoldable pub takesTest : ℕ → Bool
-takesTest k = leb 8 k && leb k 10
+unfolding inside
+takesTest k = eqb (inside k 0) 134
 
 unfoldable pub takesNumber : ℕ → Bool
-takesNumber k = ((eqb k 2 || eqb k 6) || eqb k 7) || leb 11 k
+unfolding inside
+takesNumber k = leb 138 (inside k 0)
 
 unfoldable pub argument : Program → List ℕ
 argument Nothing = []
@@ -68,11 +52,16 @@ argument (Until c p q) = spellTest c
 argument (Control s p) = decimal s
 argument (Local s p) = decimal s
 
+-- between the argument and a part, by the first two codes
+unfoldable pub linked : ℕ → ℕ → List ℕ
+linked code behind = cond (leb 134 code && eqb behind 44) (bytes ", ") []
+
 unfoldable pub link : ℕ → List ℕ
-link k = cond (eqb k 6 || leb 9 k) (bytes ", ") []
+unfolding inside linked
+link k = linked (inside k 0) (inside k 1)
 
 abbrev pub head : Program → List ℕ
-head p = nameOf (kind p) ++ (argument p ++ link (kind p))
+head p = opening (kind p) ++ (argument p ++ link (kind p))
 
 unfoldable pub rest : Program → List ℕ
 rest Nothing = bytes ")"

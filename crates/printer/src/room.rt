@@ -1,8 +1,11 @@
 // Putting bytes into a lent room. A byte past the room's end goes nowhere, so a text is measured by putting it into no room.
 ghost use mathlib.Core.Path.{_≡_};
-ghost use lib.ListN.{set};
+ghost use Prim.Native.Nat.{_-_, _≤_};
+ghost use lib.ListN.{set, take, drop};
 ghost use Rattle.letters.specs.Decimal.{decimal};
+ghost use Rattle.form.specs.Inside.Rows.{TheNames, long, names as names-are};
 ghost use Rattle.printer.specs.Printing.{Fits, Puts};
+use form::names::LONG;
 
 // Puts a text at `at`; the answer is the place behind it.
 pub fn put(room: &mut [u8], at: usize, w: &[u8]) -> usize
@@ -15,6 +18,24 @@ pub fn put(room: &mut [u8], at: usize, w: &[u8]) -> usize
         k += 1;
     }
     at + k
+}
+
+// Puts the name that begins and ends at places of the table of names.
+pub fn put_name(names: &[u8; LONG], begin: usize, end: usize, room: &mut [u8], at: usize) -> usize
+    requires { ⌜ TheNames (now names) ⌝ }
+    requires { ⌜ begin ≤ end ⌝ }
+    requires { ⌜ end ≤ long ⌝ }
+    requires { ⌜ Fits at (take (end - begin) (drop begin names-are)) ⌝ }
+    ensures { λ r. ⌜ Puts (now (room .entry)) (now (room .exit)) at (take (end - begin) (drop begin names-are)) r ⌝ }
+{
+    let mut p = begin;
+    let mut to = at;
+    while p < end {
+        put_byte(room, to, names[p]);
+        p += 1;
+        to += 1;
+    }
+    to
 }
 
 // Puts a number in decimal.

@@ -1,13 +1,21 @@
 // Printing a node or a configuration where it stands in the table (01, "Written form"), with all below it.
 ghost use mathlib.Core.Path.{_≡_};
-ghost use Prim.Native.Nat.{_≤_};
+ghost use Prim.Native.Nat.{_<_};
 ghost use Rattle.table.specs.Records.{kindAt};
+ghost use Rattle.form.specs.Names.{opening};
 ghost use Rattle.form.specs.Spelling.{spell};
-ghost use Rattle.printer.specs.Printing.{Fits, Puts, nameOf, argument, link, head, joint, takesTest};
-ghost use Rattle.printer.specs.Printing.{takesNumber};
-ghost use Rattle.printer.specs.Printing.{Standing, Shows, Testable, ShowsTest};
+ghost use Rattle.form.specs.Inside.Rows.{TheNames, kinds, formRow, nameEnd, inside};
+ghost use Rattle.printer.specs.Printing.{Fits, Puts, argument, linked, head, joint, Standing, Shows, Testable, ShowsTest};
 use crate::room::put;
+use crate::room::put_name;
 use crate::room::put_number;
+use form::names::EVENT;
+use form::names::FIRST_FORM;
+use form::names::LONG;
+use form::names::NAMES;
+use form::names::ROW;
+use form::names::TEST;
+use form::names::name_end;
 use table::nodes::children_of;
 use table::records::argument_at;
 use table::records::kind_at;
@@ -22,90 +30,77 @@ pub fn put_program(table: &[u8], i: usize, room: &mut [u8], at: usize) -> usize
     requires { ⌜ Standing spell (now table) i at ⌝ }
     ensures { λ r. ⌜ Shows spell (now (table .entry)) i (now (room .entry)) (now (room .exit)) at r ⌝ }
 {
-    let begun = put_head(table, i, room, at);
+    let names = NAMES;
+    put_node(&names, table, i, room, at)
+}
+
+// The same, with the table of names lent.
+fn put_node(names: &[u8; LONG], table: &[u8], i: usize, room: &mut [u8], at: usize) -> usize
+    requires { ⌜ TheNames (now names) ⌝ }
+    requires { ⌜ Standing spell (now table) i at ⌝ }
+    ensures { λ r. ⌜ Shows spell (now (table .entry)) i (now (room .entry)) (now (room .exit)) at r ⌝ }
+{
+    let begun = put_head(names, table, i, room, at);
     let count = children_of(kind_at(table, i));
     if count == 0 {
         return put(room, begun, b")");
     }
-    let first = put_program(table, i + 1, room, begun);
+    let first = put_node(names, table, i + 1, room, begun);
     if count == 1 {
         return put(room, first, b")");
     }
     let between = put(room, first, b", ");
-    let second = put_program(table, second_at(table, i), room, between);
+    let second = put_node(names, table, second_at(table, i), room, between);
     put(room, second, b")")
 }
 
 // What its own record tells: the name, the argument, and what stands between the argument and a part.
-fn put_head(table: &[u8], i: usize, room: &mut [u8], at: usize) -> usize
+fn put_head(names: &[u8; LONG], table: &[u8], i: usize, room: &mut [u8], at: usize) -> usize
+    requires { ⌜ TheNames (now names) ⌝ }
     requires { ⌜ Standing head (now table) i at ⌝ }
     ensures { λ r. ⌜ Shows head (now (table .entry)) i (now (room .entry)) (now (room .exit)) at r ⌝ }
 {
     let k = kind_at(table, i);
-    let named = put_name(room, at, k);
-    let argued = put_argument(table, i, k, room, named);
-    put_link(room, argued, k)
+    let inside = name_end(names, FIRST_FORM + k);
+    let named = put_opening(names, k, inside, room, at);
+    let argued = put_argument(table, i, names[inside], room, named);
+    put_link(room, argued, names[inside], names[inside + 1])
 }
 
-// The name of kind k, with its bracket.
-fn put_name(room: &mut [u8], at: usize, k: usize) -> usize
-    requires { ⌜ k ≤ 12 ⌝ }
-    requires { ⌜ Fits at (nameOf k) ⌝ }
-    ensures { λ r. ⌜ Puts (now (room .entry)) (now (room .exit)) at (nameOf k) r ⌝ }
+// The name of kind k with its bracket, which ends at a place of the table of names.
+fn put_opening(names: &[u8; LONG], k: usize, end: usize, room: &mut [u8], at: usize) -> usize
+    requires { ⌜ TheNames (now names) ⌝ }
+    requires { ⌜ k < kinds ⌝ }
+    requires { ⌜ end ≡ nameEnd (formRow k) ⌝ }
+    requires { ⌜ Fits at (opening k) ⌝ }
+    ensures { λ r. ⌜ Puts (now (room .entry)) (now (room .exit)) at (opening k) r ⌝ }
 {
-    match k {
-        0 => put(room, at, b"Jr.Nothing("),
-        1 => put(room, at, b"Jr.Stop("),
-        2 => put(room, at, b"Jr.Atom("),
-        3 => put(room, at, b"Jr.Seq("),
-        4 => put(room, at, b"Jr.Par("),
-        5 => put(room, at, b"Jr.Loop("),
-        6 => put(room, at, b"Jr.Repeat("),
-        7 => put(room, at, b"Jr.Generate("),
-        8 => put(room, at, b"Jr.Await("),
-        9 => put(room, at, b"Jr.When("),
-        10 => put(room, at, b"Jr.Until("),
-        11 => put(room, at, b"Jr.Control("),
-        _ => put(room, at, b"Jr.Local("),
-    }
+    let begun = put(room, at, b"Jr.");
+    put_name(names, ROW * (FIRST_FORM + k), end, room, begun)
 }
 
-// The argument of node i, of kind k: a number, a test, or none.
-fn put_argument(table: &[u8], i: usize, k: usize, room: &mut [u8], at: usize) -> usize
-    requires { ⌜ k ≡ kindAt (now table) i ⌝ }
+// The argument of node i: a test, a number, or none, as the first code in its form's brackets tells.
+fn put_argument(table: &[u8], i: usize, code: u8, room: &mut [u8], at: usize) -> usize
+    requires { ⌜ code ≡ inside (kindAt (now table) i) 0 ⌝ }
     requires { ⌜ Standing argument (now table) i at ⌝ }
     ensures { λ r. ⌜ Shows argument (now (table .entry)) i (now (room .entry)) (now (room .exit)) at r ⌝ }
 {
-    if takes_test(k) {
+    if code == TEST {
         let n = word_at(table, table.len() - 10);
         return put_test(table, 6 * n + 4 * argument_at(table, i), room, at);
     }
-    if takes_number(k) {
+    if EVENT <= code {
         return put_number(room, at, argument_at(table, i));
     }
     at
 }
 
-// Await, When and Until.
-fn takes_test(k: usize) -> bool
-    ensures { λ r. ⌜ r ≡ takesTest k ⌝ }
+// What stands between the argument and the first part, where a form has both, as the first two codes in its brackets tell.
+fn put_link(room: &mut [u8], at: usize, code: u8, behind: u8) -> usize
+    requires { ⌜ Fits at (linked code behind) ⌝ }
+    ensures { λ r. ⌜ Puts (now (room .entry)) (now (room .exit)) at (linked code behind) r ⌝ }
 {
-    (8 <= k) & (k <= 10)
-}
-
-// Atom, Repeat, Generate, Control and Local.
-fn takes_number(k: usize) -> bool
-    ensures { λ r. ⌜ r ≡ takesNumber k ⌝ }
-{
-    (k == 2) | (k == 6) | (k == 7) | (11 <= k)
-}
-
-// What stands between the argument and the first part, where a kind has both.
-fn put_link(room: &mut [u8], at: usize, k: usize) -> usize
-    requires { ⌜ Fits at (link k) ⌝ }
-    ensures { λ r. ⌜ Puts (now (room .entry)) (now (room .exit)) at (link k) r ⌝ }
-{
-    if (k == 6) | (9 <= k) {
+    if (TEST <= code) & (behind == b',') {
         return put(room, at, b", ");
     }
     at

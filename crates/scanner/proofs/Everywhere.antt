@@ -1,41 +1,16 @@
--- Facts that hold at each place of the rules, each by one computed test over all of them.
-use Prim.Native.Nat.{ℕ, zero, suc, _-_, _<_, _≤_}
-use mathlib.Core.Bool.{Bool, true, false, cond, _&&_}
-use mathlib.Core.Path.{_≡_, refl, sym, _∙_}
+-- Facts that hold at each place of the table of names, each by one computed test over all of them.
+use Prim.Native.Nat.{ℕ, suc, _-_, _≤_}
+use mathlib.Core.Bool.{Bool, true, false, cond, _&&_, false≢true}
+use mathlib.Core.Path.{_≡_, refl}
 use mathlib.Core.List.{[], _∷_}
 use native.Mathlib.Omega.{arith}
 use lib.Dec.{eqb, ltb, leb}
-use borrow.Author.Tests.{eqb-true, eqb-false, eq-eqb, le-leb}
-use Rattle.table.proofs.Laid.{both}
-use Rattle.scanner.specs.Rules.{codeAt, codes}
+use borrow.Author.Tests.{eqb-true, le-leb}
+use Rattle.form.specs.Inside.Rows.{long, codeAt, codes, same, inName}
+use Rattle.form.proofs.Tested.{both, all, all-at}
+use Rattle.form.proofs.NamesRead.{in-names, at-code, by-code, name-code}
 use Rattle.scanner.specs.Levels.{levelOf}
-use Rattle.scanner.specs.Places.{fits, same, isPlain, isEnd}
-use Rattle.scanner.proofs.Codes.{in-rules}
-
-unfoldable all : ℕ → (ℕ → Bool) → Bool
-all zero f = true
-all (suc n) f = f n && all n f
-
-below : (a c : ℕ) → a < suc c → (a ≡ c → ⊥) → a < c
-below a c l d = omega arith
-
-all-at : (n : ℕ) (f : ℕ → Bool) → all n f ≡ true → (k : ℕ) → k < n → f k ≡ true
-unfolding all
-all-at zero f e k h = absurd (omega arith)
-all-at (suc n) f e k h = go (eqb k n) refl (λ l. all-at n f (both {a = f n} {b = all n f} e .1) k l)
-  where
-    go : (b : Bool) → eqb k n ≡ b → (k < n → f k ≡ true) → f k ≡ true
-    go true q r = rw (eqb-true k n q) (both {a = f n} {b = all n f} e .0)
-    go false q r = r (below k n h (eqb-false k n q))
-
--- a test of each place with the code x
-unfoldable at-code : ℕ → (ℕ → Bool) → ℕ → Bool
-at-code x f p = cond (eqb (codeAt p) x) (f p) true
-
-by-code : (x : ℕ) (f : ℕ → Bool) → (x ≡ 0 → ⊥) → all 175 (at-code x f) ≡ true → (p : ℕ) → codeAt p ≡ x → f p ≡ true
-unfolding at-code
-by-code x f z a p e =
-    simp (eq-eqb (codeAt p) x e) at (all-at 175 (at-code x f) a p (in-rules p (λ o. z (sym e ∙ o))))
+use Rattle.scanner.specs.Places.{heads, fits, isPlain, isEnd}
 
 unfoldable closed : ℕ → Bool
 closed p = eqb (codeAt (suc p)) 0
@@ -56,7 +31,7 @@ after-test p e = by-code 134 ended (λ z. omega arith) refl p e
 pub after-number : (p : ℕ) → 138 ≤ codeAt p → isEnd (codeAt (suc p)) ≡ true
 unfolding all codeAt ended
 after-number p h =
-    simp (le-leb 138 (codeAt p) h) at (all-at 175 (λ q. cond (leb 138 (codeAt q)) (ended q) true) refl p (in-rules p (λ o. omega arith)))
+    simp (le-leb 138 (codeAt p) h) at (all-at long (λ q. cond (leb 138 (codeAt q)) (ended q) true) refl p (in-names p (λ o. omega arith)))
 
 unfoldable second : ℕ → Bool
 second p = same (codes (suc p)) (32 ∷ 137 ∷ []) && eqb (codeAt (p - 1)) 0
@@ -88,6 +63,30 @@ unfoldable fitting : ℕ → Bool
 fitting p = fits (levelOf (codeAt (p - 2)) (codeAt (p - 1))) 0 (codes (suc p))
 
 -- a form's name tells its level
-pub behind-bracket : (p : ℕ) → codeAt p ≡ 40 → fits (levelOf (codeAt (p - 2)) (codeAt (p - 1))) 0 (codes (suc p)) ≡ true
+pub level-told : (p : ℕ) → codeAt p ≡ 40 → fits (levelOf (codeAt (p - 2)) (codeAt (p - 1))) 0 (codes (suc p)) ≡ true
 unfolding all at-code codeAt codes levelOf fits fitting
-behind-bracket p e = by-code 40 fitting (λ z. omega arith) refl p e
+level-told p e = by-code 40 fitting (λ z. omega arith) refl p e
+
+-- a closing bracket is in no name
+unfoldable outside : ℕ → Bool
+outside p = cond (inName p) false true
+
+pub close-out : (p : ℕ) → codeAt p ≡ 41 → inName p ≡ true → ⊥
+unfolding all at-code codeAt inName outside
+close-out p e h = false≢true (rw h at (by-code 41 outside (λ z. omega arith) refl p e))
+
+-- within a name its bracket is to come
+unfoldable headed : ℕ → Bool
+headed p = cond (inName p) (heads (codes p)) true
+
+pub name-heads : (p : ℕ) → inName p ≡ true → heads (codes p) ≡ true
+unfolding all codeAt codes inName heads headed
+name-heads p h = rw h at (all-at long headed refl p (in-names p (name-code p h)))
+
+-- before a name stands the dot
+unfoldable dotted : ℕ → Bool
+dotted p = eqb (codeAt (p - 1)) 46
+
+pub before-name : (p : ℕ) → codeAt p ≡ 129 → codeAt (p - 1) ≡ 46
+unfolding all at-code codeAt dotted
+before-name p e = eqb-true _ 46 (by-code 129 dotted (λ z. omega arith) refl p e)

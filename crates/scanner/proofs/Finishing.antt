@@ -14,18 +14,20 @@ use Rattle.scanner.specs.declared.scan.Tally.{Tally}
 use Rattle.scanner.specs.declared.scan.Scanned.the-variants as answered
 use Rattle.form.specs.Fails.{Fails}
 use Rattle.form.specs.Made.{tests}
-use Rattle.form.specs.Inside.Machine.{Stack, Sym, byte, prog, conf, num}
+use Rattle.form.specs.Inside.Machine.{Stack, Sym, byte, prog, name, conf, num}
 use Rattle.form.specs.Inside.Counted.{Counts}
 use Rattle.form.specs.Inside.Standing.{start, Stands}
-use Rattle.scanner.specs.Rules.{codeAt, codes, last, ending, sortOf, syms, held}
+use Rattle.form.specs.Inside.Rows.{codeAt, codes, inName}
+use Rattle.form.specs.Inside.Machine.{last, ending, sortOf, syms}
+use Rattle.scanner.specs.Rules.{held}
 use Rattle.scanner.specs.Levels.{back, levelAt, top}
 use Rattle.scanner.specs.Places.{fits, Placed, in-bracket, Numbered, Lies}
 use Rattle.scanner.specs.Scanning.{Taken, countsOf, oneNode, oneTest, eventTo, tallyCode, tallyNumber}
 use Rattle.scanner.specs.Scanning.{tallyAt, Tells}
 use Rattle.form.proofs.Standing.{stands-first, stands-on, stands-dead, stands-short, stands-whole}
-use Rattle.scanner.proofs.Codes.{codes-more}
-use Rattle.scanner.proofs.Turning.{held-end, end-known}
-use Rattle.scanner.proofs.Sitting.{follows-symbol}
+use Rattle.form.proofs.NamesRead.{codes-more}
+use Rattle.scanner.proofs.SymbolSteps.{held-end, end-known}
+use Rattle.scanner.proofs.PlaceKept.{follows-symbol}
 use Rattle.scanner.proofs.Leaving.{at-end}
 use Rattle.scanner.proofs.Tallying.{counts-at}
 
@@ -149,7 +151,12 @@ some-symbol x l = go (ltb x 128) (eqb x 128) (eqb x 134) (leb 138 x)
 
 some-left : (p n : ℕ) → (codeAt p ≡ 0 → ⊥) → (s : Sym) × (σ : Stack) × (held p n ≡ s ∷ σ)
 unfolding held
-some-left p zero e = rw (codes-more p e) (some-symbol (codeAt p) (codes (suc p)))
+some-left p zero e = go (inName p) (rw (codes-more p e) (some-symbol (codeAt p) (codes (suc p))))
+  where
+    go : (b : Bool) → (s : Sym) × (σ : Stack) × (syms false (codes p) ≡ s ∷ σ)
+        → (s : Sym) × (σ : Stack) × (cond b (name p ∷ []) (syms false (codes p)) ≡ s ∷ σ)
+    go true h = (name p, [], refl)
+    go false h = h
 some-left p (suc v) e = (_, _, refl)
 
 -- within a number the rule has not ended

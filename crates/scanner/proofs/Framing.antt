@@ -1,4 +1,4 @@
--- A reader that takes the turn of each byte: into a rule, and out of a bracket.
+-- A reader that goes into a program or into a configuration's bracket stays where the text and the table of names agree.
 use Prim.Native.Nat.{ℕ, zero, suc, _-_, _%_, _<_, _≤_}
 use mathlib.Core.Bool.{Bool, true, false, cond, false≢true}
 use mathlib.Core.Path.{_≡_, refl, sym, _∙_, ap, subst}
@@ -7,22 +7,24 @@ use native.Mathlib.Omega.{arith}
 use lib.Dec.{ltb}
 use lib.ListN.{length, getD, set}
 use borrow.Author.Tests.{lt-ltb, ltb-true}
-use Rattle.table.proofs.Laid.{both}
+use Rattle.form.proofs.Tested.{both}
 use Rattle.scanner.specs.declared.levels.Bracket.{Bracket}
 use Rattle.scanner.specs.declared.levels.Level.{Level}
 use Rattle.scanner.specs.declared.levels.Level.the-variants.{Test}
 use Rattle.scanner.specs.declared.scan.Place.{Place}
 use Rattle.form.specs.Inside.Machine.{Stack}
-use Rattle.scanner.specs.Rules.{codeAt, codes, held}
+use Rattle.form.specs.Inside.Rows.{codeAt, codes}
+use Rattle.scanner.specs.Rules.{behind-j, behind-bracket, held}
 use Rattle.scanner.specs.Levels.{found, around, levelOf, levelAt, restOf, outerAt, restAt, Under, level}
-use Rattle.scanner.specs.Places.{isBracket, same, heads, fits, Follows, Placed, in-name, in-bracket}
+use Rattle.form.specs.Inside.Rows.{same}
+use Rattle.scanner.specs.Places.{isBracket, heads, fits, Follows, Placed, in-name, in-bracket}
 use Rattle.scanner.specs.Places.{roomOf, entered, Lies}
-use Rattle.scanner.proofs.Codes.{codes-more}
-use Rattle.scanner.proofs.Turning.{same-list}
+use Rattle.form.proofs.NamesRead.{codes-more}
+use Rattle.form.proofs.Tested.{same-list}
 use Rattle.scanner.proofs.Across.{around-same, around-open}
 use Rattle.scanner.proofs.Ringing.{kept-push, held-same}
-use Rattle.scanner.proofs.Sitting.{Tests, one-back, follows-first}
-use Rattle.scanner.proofs.Moving.{level-is}
+use Rattle.scanner.proofs.PlaceKept.{Tests, one-back, follows-first}
+use Rattle.scanner.proofs.LevelKept.{level-is}
 
 module _ (t : List ℕ) (q o c : ℕ) (a : around t q ≡ found o c) where
   outer-is : outerAt t q ≡ o
@@ -54,15 +56,15 @@ unfolding levelOf
 test-level t i h f =
     level-is t i (getD t (i - 2) 0) (getD t (i - 1) 0) h refl refl ∙ rw (lt-ltb (getD t (i - 1) 0) 97 f) refl
 
-inner-starts : fits Test 0 (codes 151) ≡ true
+inner-starts : fits Test 0 (codes behind-bracket) ≡ true
 unfolding codes fits
 inner-starts = refl
 
-name-starts : heads (codes 3) ≡ true
+name-starts : heads (codes behind-j) ≡ true
 unfolding codes heads
 name-starts = refl
 
-follows-inner : (t : List ℕ) (i : ℕ) → getD t i 0 ≡ 40 → Follows t (suc i) 151
+follows-inner : (t : List ℕ) (i : ℕ) → getD t i 0 ≡ 40 → Follows t (suc i) behind-bracket
 unfolding codeAt
 follows-inner t i e =
     record {
@@ -71,9 +73,9 @@ follows-inner t i e =
       first = λ h. rw (one-back i, e) (omega arith);
     }
 
-follows-name : (t : List ℕ) (i : ℕ) → getD t i 0 ≡ 74 → Follows t (suc i) 3
+follows-name : (t : List ℕ) (i : ℕ) → getD t i 0 ≡ 74 → Follows t (suc i) behind-j
 unfolding codeAt
-follows-name t i e = follows-first 2 74 refl (λ z. omega arith) refl t i e
+follows-name t i e = follows-first 20 74 refl (λ z. omega arith) refl t i e
 
 module _ (t : List ℕ) (i : ℕ) (at : Place) (opens rests : List ℕ) (σ : Stack) (s : Lies t i at opens rests σ)
     (g : length opens ≡ 4096) (h : length rests ≡ 4096) where
@@ -103,7 +105,7 @@ module _ (t : List ℕ) (i : ℕ) (at : Place) (opens rests : List ℕ) (σ : St
         deep = omega arith;
         few = few-more;
         numbered = tt;
-        under = subst (λ (τ : Stack). Under t q (τ ++ σ)) (held-same (restAt t q) (suc (at .pc)) (sym x))
+        under = subst (λ (τ : Stack). Under t q (τ ++ σ)) (sym (held-same (suc (at .pc)) (restAt t q) x r))
             (level z (subst (λ (o : ℕ). Under t o σ) (sym (outer-is t q (at .bracket) c a)) (s .under)));
         placed = k;
         follows = f;
@@ -111,20 +113,20 @@ module _ (t : List ℕ) (i : ℕ) (at : Place) (opens rests : List ℕ) (σ : St
             (outer-is t q (at .bracket) c a) (x, r) (s .kept);
       }
 
-  pub lies-program : getD t i 0 ≡ 74 → codeAt (at .pc) ≡ 128 → Enters 3 (suc i)
+  pub lies-program : getD t i 0 ≡ 74 → codeAt (at .pc) ≡ 128 → Enters behind-j (suc i)
   lies-program b e = go (s .placed)
     where
-      go : Placed t i (at .pc) (at .bracket) → Enters 3 (suc i)
+      go : Placed t i (at .pc) (at .bracket) → Enters behind-j (suc i)
       go (in-name k o a) = absurd (no-head-program (at .pc) e k)
       go (in-bracket c a f) =
           let n = around-same t i (λ z. omega arith) (λ z. omega arith) (λ z. omega arith) in
-          enters 3 (suc i) c (n ∙ a) (omega arith) (omega arith) (program-fits (at .pc) (levelAt t (at .bracket)) c e f) (omega arith)
+          enters behind-j (suc i) c (n ∙ a) (omega arith) (omega arith) (program-fits (at .pc) (levelAt t (at .bracket)) c e f) (omega arith)
           (in-name name-starts (omega arith) refl) (follows-name t i b)
 
-  pub lies-test : getD t i 0 ≡ 40 → Tests (at .pc) → Enters 151 i
+  pub lies-test : getD t i 0 ≡ 40 → Tests (at .pc) → Enters behind-bracket i
   lies-test b u = go (s .placed)
     where
-      go : Placed t i (at .pc) (at .bracket) → Enters 151 i
+      go : Placed t i (at .pc) (at .bracket) → Enters behind-bracket i
       go (in-name k o a) = absurd (u .no-head k)
       go (in-bracket c a f) =
           let m = u .in-body (levelAt t (at .bracket)) c f in
@@ -132,5 +134,5 @@ module _ (t : List ℕ) (i : ℕ) (at : Place) (opens rests : List ℕ) (σ : St
           let o = in-a-bracket t (at .bracket) (m .0) in
           let z : 0 < i = omega arith in
           let y = test-level t i z (u .following t i (s .follows)) in
-          enters 151 i c a z (omega arith) (m .1) (u .is-symbol)
+          enters behind-bracket i c a z (omega arith) (m .1) (u .is-symbol)
           (in-bracket 0 (around-open t i b) (rw y inner-starts)) (follows-inner t i b)

@@ -1,6 +1,6 @@
--- A reader that takes the turn of each byte: out of a bracket, and at the end of the rules.
-use Prim.Native.Nat.{ℕ, zero, suc, _-_, _%_, _<_, _≤_}
-use mathlib.Core.Bool.{Bool, true, false, cond, false≢true}
+-- A reader that goes out of a bracket stays where the text and the table of names agree; at the end of the text nothing is left over.
+use Prim.Native.Nat.{ℕ, zero, suc, _+_, _-_, _%_, _<_, _≤_}
+use mathlib.Core.Bool.{Bool, true, false, cond, _&&_, false≢true}
 use mathlib.Core.Path.{_≡_, refl, sym, _∙_, ap, subst}
 use mathlib.Core.List.{List, [], _++_}
 use native.Mathlib.Omega.{arith}
@@ -11,16 +11,17 @@ use Rattle.scanner.specs.declared.levels.Level.{Level}
 use Rattle.scanner.specs.declared.levels.Level.the-variants.{Top, Several, Branches, Test, One}
 use Rattle.scanner.specs.declared.scan.Place.{Place}
 use Rattle.form.specs.Inside.Machine.{Stack}
-use Rattle.scanner.specs.Rules.{codeAt, codes, held}
-use Rattle.scanner.specs.Levels.{found, around, levelOf, levelAt, restOf, outerAt, restAt, Under, top}
+use Rattle.form.specs.Inside.Rows.{formRow, kinds, codeAt, nameEnd, codes}
+use Rattle.scanner.specs.Rules.{held}
+use Rattle.scanner.specs.Levels.{found, around, levelIn, levelFrom, levelOf, levelAt, restOf, outerAt, restAt, Under, top}
 use Rattle.scanner.specs.Levels.{level}
 use Rattle.scanner.specs.Places.{isTop, heads, fits, Placed, in-name, in-bracket, Resumes, Kept}
 use Rattle.scanner.specs.Places.{Numbered, leaving, Lies}
-use Rattle.scanner.proofs.Codes.{codes-end}
-use Rattle.scanner.proofs.Going.{back-within}
+use Rattle.form.proofs.NamesRead.{codes-end}
+use Rattle.scanner.proofs.BackToBracket.{back-within}
 use Rattle.scanner.proofs.Across.{around-close}
 use Rattle.scanner.proofs.Ringing.{held-same}
-use Rattle.scanner.proofs.Sitting.{Closes, follows-symbol}
+use Rattle.scanner.proofs.PlaceKept.{Closes, follows-symbol}
 use Rattle.scanner.proofs.Framing.{in-a-bracket}
 
 -- each rest fits its level
@@ -123,7 +124,7 @@ module _ (t : List ℕ) (i : ℕ) (at : Place) (opens rests : List ℕ) (σ : St
       let f = kept-last t (at .bracket) (at .depth) l opens rests k in (
         τ,
         out-at t i at opens rests σ s (leaving t at (suc l) opens rests) b z c a (f .0) (f .1) refl (omega arith) (omega arith) (f .2) τ u,
-        e ∙ ap (λ (ρ : Stack). ρ ++ τ) (sym (held-same (getD rests ((at .depth - 1) % 4096) 0) (restAt t (at .bracket)) (f .1 .0))),
+        e ∙ ap (λ (ρ : Stack). ρ ++ τ) (sym (held-same (getD rests ((at .depth - 1) % 4096) 0) (restAt t (at .bracket)) (f .1 .0) (f .1 .1))),
       )
 
   pub lies-out : getD t i 0 ≡ 41 → Closes (at .pc) → Leaves (at .live)
@@ -137,19 +138,29 @@ module _ (t : List ℕ) (i : ℕ) (at : Place) (opens rests : List ℕ) (σ : St
           out-to b z c a (u .0) (u .1) (u .2) (at .live) (s .few) (s .kept)
 
 -- no bracket has the level of all
+in-not-top : (n : ℕ) → isTop (levelIn n) ≡ false
+unfolding levelIn
+in-not-top n = go (eqb (codeAt (n + 4)) 133) (eqb (codeAt (n + 6)) 128)
+  where
+    go : (r s : Bool) → isTop (cond r Several (cond s Branches One)) ≡ false
+    go true s = refl
+    go false true = refl
+    go false false = refl
+
+either-not-top : (b : Bool) (k m : Level) → isTop k ≡ false → isTop m ≡ false → isTop (cond b k m) ≡ false
+either-not-top true k m e f = e
+either-not-top false k m e f = f
+
+from-not-top : (n k a b : ℕ) → isTop (levelFrom n k a b) ≡ false
+unfolding levelFrom
+from-not-top zero k a b = refl
+from-not-top (suc n) k a b =
+    let e : ℕ = nameEnd (formRow k) in
+    either-not-top (eqb b (codeAt (e - 2)) && eqb a (codeAt (e - 3))) (levelIn e) (levelFrom n (suc k) a b) (in-not-top e) (from-not-top n (suc k) a b)
+
 not-top : (a b : ℕ) → isTop (levelOf a b) ≡ false
 unfolding levelOf
-not-top a b = go (ltb b 97) (eqb b 113) (eqb b 114) (eqb b 110) (eqb b 108) (eqb a 105)
-  where
-    go : (q r s u v w : Bool)
-        → isTop (cond q Test (cond r Several (cond s Several (cond u Branches (cond v (cond w Branches One) One))))) ≡ false
-    go true r s u v w = refl
-    go false true s u v w = refl
-    go false false true u v w = refl
-    go false false false true v w = refl
-    go false false false false true true = refl
-    go false false false false true false = refl
-    go false false false false false w = refl
+not-top a b = either-not-top (ltb b 97) Test (levelFrom kinds 0 a b) refl (from-not-top kinds 0 a b)
 
 top-is : (t : List ℕ) (o : ℕ) → isTop (levelAt t o) ≡ true → o ≡ 0
 unfolding levelAt

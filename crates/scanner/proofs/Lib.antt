@@ -1,18 +1,17 @@
 -- The laws, in the order in which they lean on one another.
-pub mod Codes
-pub mod Jumping
-pub mod Going
+pub mod RowSearch
+pub mod BackToBracket
 pub mod Everywhere
-pub mod Turning
-pub mod Naming
-pub mod Sitting
-pub mod Settling
-pub mod Seating
+pub mod SymbolSteps
+pub mod TurnSteps
+pub mod PlaceKept
+pub mod PlaceKeptByTests
+pub mod PlaceKeptByTurns
 pub mod Across
 pub mod Ringing
-pub mod Moving
+pub mod LevelKept
 pub mod Framing
 pub mod Leaving
-pub mod Taking
+pub mod ByteRead
 pub mod Tallying
 pub mod Finishing

@@ -1,5 +1,5 @@
 -- The ring of frames: a frame more, a frame fewer.
-use Prim.Native.Nat.{ℕ, zero, suc, _+_, _%_, _<_, _≤_}
+use Prim.Native.Nat.{ℕ, zero, suc, _+_, _-_, _%_, _<_, _≤_}
 use mathlib.Core.Bool.{Bool, true, false, cond}
 use mathlib.Core.Path.{_≡_, refl, sym, _∙_, ap, subst}
 use mathlib.Core.List.{List, _++_}
@@ -10,7 +10,9 @@ use lib.Seq.{getD-set-same, getD-set-other}
 use borrow.Author.Tests.{ltb-true, ltb-false}
 use Rattle.scanner.specs.declared.levels.Bracket.{Bracket}
 use Rattle.form.specs.Inside.Machine.{Stack}
-use Rattle.scanner.specs.Rules.{codes, held}
+use Rattle.form.specs.Inside.Rows.{codeAt, codes, opens, inName}
+use Rattle.form.proofs.NamesRead.{behind-symbol}
+use Rattle.scanner.specs.Rules.{held}
 use Rattle.scanner.specs.Levels.{around, levelAt, restOf, outerAt, restAt, Under, top, level}
 use Rattle.scanner.specs.Places.{Resumes, Kept, roomOf}
 
@@ -69,9 +71,12 @@ kept-push t o q d l p opens rests g h m e f k = go (ltb l 4096) refl
     go false b = let z = ltb-false l 4096 b in let y : l ≡ 4096 = omega arith in full l y k
 
 -- the same rest is the same still to come
-pub held-same : (p q : ℕ) → codes p ≡ codes q → held p 0 ≡ held q 0
-unfolding held
-held-same p q e = rw e
+pub held-same : (p q : ℕ) → codes p ≡ codes q → 128 ≤ codeAt (p - 1) → held p 0 ≡ held q 0
+unfolding held inName
+held-same p q e h =
+    let o = behind-symbol p h in
+    let r : opens (codes q) ≡ false = rw e at o in
+    rw (o, r, e)
 
 module _ (t : List ℕ) (o i : ℕ) (e : around t i ≡ around t o) where
   outer-same : outerAt t i ≡ outerAt t o

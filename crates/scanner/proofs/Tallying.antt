@@ -8,14 +8,16 @@ use lib.Dec.{eqb, ltb, leb}
 use borrow.Author.Tests.{eqb-true, eqb-false, ne-eqb, ltb-true, ltb-false, leb-true, leb-false}
 use Rattle.scanner.specs.declared.scan.Tally.{Tally}
 use Rattle.form.specs.Made.{larger}
-use Rattle.form.specs.Inside.Machine.{endByte, event, plain, Stack, name, s-name, a-name, lo-name}
+use Rattle.form.specs.Inside.Machine.{endByte, event, plain, Stack, name}
 use Rattle.form.specs.Inside.Machine.{joint, tail}
 use Rattle.form.specs.Inside.Counted.{Counts, counts, a-node, a-test, counted}
-use Rattle.scanner.specs.Rules.{codeAt, codes, ending, last, syms, held}
+use Rattle.form.specs.Inside.Rows.{codeAt, codes, inName, firstName}
+use Rattle.form.specs.Inside.Machine.{ending, last, syms}
+use Rattle.scanner.specs.Rules.{held}
 use Rattle.scanner.specs.Places.{Numbered, isEnd}
 use Rattle.scanner.specs.Scanning.{countsOf, oneNode, oneTest, eventTo, tallyCode, tallyNumber, tallyAt}
-use Rattle.scanner.proofs.Turning.{held-byte, held-end, held-digits, held-test, held-inner, end-known}
-use Rattle.scanner.proofs.Naming.{held-program, held-last, more}
+use Rattle.scanner.proofs.SymbolSteps.{held-byte, held-end, held-digits, held-test, held-inner, end-known}
+use Rattle.scanner.proofs.TurnSteps.{held-name, held-program, held-last, more}
 
 pub tally-none : (p n b : ℕ) (k : Tally) → n ≡ 0 → tallyAt p n b k ≡ tallyCode (codeAt p) b k
 unfolding tallyAt
@@ -71,20 +73,19 @@ none-counted x b k e f g h = simp (ne-eqb x 128 e, ne-eqb x 133 f, ne-eqb x 134 
 -- names and what joins two configurations count nothing
 last-counted : (x b : ℕ) (σ : Stack) (k : Counts) → (x ≡ 133 → ⊥) → (x ≡ 136 → ⊥) → counted (last x ∷ σ) b k ≡ k
 unfolding counted
-last-counted x b σ k e f =
-    rw (ne-eqb x 133 e, ne-eqb x 136 f) (go (eqb x 129) (eqb x 130) (eqb x 131) (eqb x 132))
+last-counted x b σ k e f = rw (ne-eqb x 133 e, ne-eqb x 136 f) (go (eqb x 129))
   where
-    go : (r s t u : Bool)
-        → counted (cond r name (cond s s-name (cond t a-name (cond u lo-name joint))) ∷ σ) b k ≡ k
-    go true s t u = refl
-    go false true t u = refl
-    go false false true u = refl
-    go false false false true = refl
-    go false false false false = refl
+    go : (r : Bool) → counted (cond r (name firstName) joint ∷ σ) b k ≡ k
+    go true = refl
+    go false = refl
 
 byte-counted : (p b : ℕ) (σ : Stack) (k : Counts) → (codeAt p ≡ 0 → ⊥) → codeAt p < 128 → counted (held p 0 ++ σ) b k ≡ k
 unfolding counted
-byte-counted p b σ k e h = rw (held-byte p e h) refl
+byte-counted p b σ k e h = go (inName p) refl
+  where
+    go : (r : Bool) → inName p ≡ r → counted (held p 0 ++ σ) b k ≡ k
+    go true o = rw (held-name p o) refl
+    go false o = rw (held-byte p o e h) refl
 
 end-counted : (p b : ℕ) (σ : Stack) (k : Counts) → codeAt p ≡ 0 → σ ≡ [] → counted (held p 0 ++ σ) b k ≡ k
 unfolding counted

@@ -1,5 +1,5 @@
 -- The bracket that a place of a text stands in, and what is still to come of the levels round it.
-use Prim.Native.Nat.{ℕ, zero, suc, _-_, _<_}
+use Prim.Native.Nat.{ℕ, zero, suc, _+_, _-_, _<_}
 use mathlib.Core.Bool.{Bool, cond, _&&_}
 use mathlib.Core.List.{List, [], _++_}
 use lib.Dec.{eqb, ltb}
@@ -7,6 +7,7 @@ use lib.ListN.{getD}
 use Rattle.scanner.specs.declared.levels.Bracket.{Bracket}
 use Rattle.scanner.specs.declared.levels.Level.{Level}
 use Rattle.scanner.specs.declared.levels.Level.the-variants.{Top, Several, Branches, Test, One}
+use Rattle.form.specs.Inside.Rows.{codeAt, rowAt, wordRow, formRow, kinds, nameEnd}
 use Rattle.form.specs.Inside.Machine.{Stack}
 use Rattle.scanner.specs.Rules.{held}
 
@@ -34,13 +35,23 @@ back t (suc i) n m =
 abbrev pub around : List ℕ → ℕ → Bracket
 around t i = back t i 0 0
 
+-- the level in the brackets of a form, which begin at place n of the table of names: parts, two programs, or not so
+unfoldable pub levelIn : ℕ → Level
+unfolding codeAt
+levelIn n = cond (eqb (codeAt (n + 4)) 133) Several (cond (eqb (codeAt (n + 6)) 128) Branches One)
+
+-- the level of the form of kind k or higher, of which n are left, whose name ends with these two letters
+unfoldable pub levelFrom : ℕ → ℕ → ℕ → ℕ → Level
+unfolding codeAt nameEnd levelIn
+levelFrom zero k before last = One
+levelFrom (suc n) k before last =
+    let e = nameEnd (formRow k) in
+    cond (eqb last (codeAt (e - 2)) && eqb before (codeAt (e - 3))) (levelIn e) (levelFrom n (suc k) before last)
+
 -- the level of a bracket behind these two bytes: a form's name ends with a small letter
 unfoldable pub levelOf : ℕ → ℕ → Level
-levelOf before last =
-    cond (ltb last 97) Test
-    (cond (eqb last 113) Several
-    (cond (eqb last 114) Several
-    (cond (eqb last 110) Branches (cond (eqb last 108) (cond (eqb before 105) Branches One) One))))
+unfolding levelFrom
+levelOf before last = cond (ltb last 97) Test (levelFrom kinds 0 before last)
 
 unfoldable pub levelAt : List ℕ → ℕ → Level
 unfolding levelOf
@@ -54,22 +65,22 @@ bySpaces none one more (suc (suc c)) = more
 -- where the rules go on behind a part of a Seq or Par, its first or a later one; behind the test and the first branch of a When or Until;
 -- behind the first part of a configuration; and behind any other part, before the closing bracket
 abbrev pub first-part : ℕ
-first-part = 115
+first-part = rowAt (formRow 3) + 5
 
 abbrev pub later-part : ℕ
-later-part = 118
+later-part = rowAt (formRow 3) + 8
 
 abbrev pub branch-test : ℕ
-branch-test = 68
+branch-test = rowAt (formRow 9) + 6
 
 abbrev pub first-branch : ℕ
-first-branch = 71
+first-branch = rowAt (formRow 9) + 9
 
 abbrev pub first-test : ℕ
-first-test = 152
+first-test = rowAt (wordRow 0) + 1
 
 abbrev pub last-part : ℕ
-last-part = 74
+last-part = rowAt (formRow 9) + 12
 
 -- where a level's rule goes on behind a bracket in it, by the spaces before that
 unfoldable pub restOf : Level → ℕ → ℕ

@@ -8,8 +8,8 @@ use lib.ListN.{getD}
 use Rattle.scanner.specs.declared.levels.Level.{Level}
 use Rattle.scanner.specs.declared.levels.Level.the-variants.{Top, Several, Branches, Test, One}
 use Rattle.scanner.specs.declared.scan.Place.{Place}
+use Rattle.form.specs.Inside.Rows.{codeAt, codes, same}
 use Rattle.form.specs.Inside.Machine.{Stack}
-use Rattle.scanner.specs.Rules.{codeAt, codes}
 use Rattle.scanner.specs.Levels.{found, around, levelAt, restOf, outerAt, restAt, Under}
 
 abbrev pub isTop : Level → Bool
@@ -40,18 +40,12 @@ isTest Branches = false
 isTest Test = true
 isTest One = false
 
-unfoldable pub same : List ℕ → List ℕ → Bool
-same [] [] = true
-same [] (y ∷ m) = false
-same (x ∷ l) [] = false
-same (x ∷ l) (y ∷ m) = eqb x y && same l m
-
 -- before the bracket of a form
 unfoldable pub heads : List ℕ → Bool
 heads [] = false
 heads (x ∷ l) =
     cond (eqb x 40) true
-    (cond (leb 128 x) (leb 129 x && ltb x 133) (cond (eqb x 32) false (cond (eqb x 41) false (heads l))))
+    (cond (leb 128 x) (eqb x 129) (cond (eqb x 32) false (cond (eqb x 41) false (heads l))))
 
 -- within a bracket of this level, c spaces behind it: each bracket to come in it leaves the rest that `restOf` tells
 unfoldable pub fits : Level → ℕ → List ℕ → Bool
@@ -63,7 +57,7 @@ fits k c (x ∷ l) =
     (cond (eqb x 128) (same (codes (restOf k c)) l && fits k c l)
     (cond (eqb x 134) (isBracket k && (same (codes (restOf k c)) l && fits k c l))
     (cond (eqb x 136) ((isTest k && eqb c 0) && (same (codes (restOf k c)) l && fits k c l))
-    (cond (eqb x 133) (isSeveral k) (cond (ltb x 133) false (cond (ltb x 138) (isTest k) (fits k c l)))))))
+    (cond (eqb x 133) (isSeveral k) (cond (eqb x 129) false (cond (ltb x 138) (isTest k) (fits k c l)))))))
 
 -- a byte to be read as it is
 abbrev pub isPlain : ℕ → Bool

@@ -17,7 +17,8 @@ use Rattle.form.specs.Fails.{Fails}
 use Rattle.form.specs.Made.{named, tests}
 use Rattle.form.specs.Inside.Machine.{Stack, dead, on, step}
 use Rattle.form.specs.Inside.Counted.{Counts, counts}
-use Rattle.scanner.specs.Rules.{codeAt, held}
+use Rattle.form.specs.Inside.Rows.{codeAt}
+use Rattle.scanner.specs.Rules.{held}
 use Rattle.scanner.specs.Places.{Lies}
 
 -- the bracket at i, or behind the J at i

@@ -1,9 +1,21 @@
 // The bracket that a place in a text stands in, and what is to come behind the bracket inside it.
 ghost use Prim.Native.Nat.{_-_, _<_, _≤_};
+ghost use mathlib.Core.Bool.{_&&_};
 ghost use mathlib.Core.Path.{_≡_};
+ghost use lib.Dec.{eqb};
 ghost use lib.ListN.{length};
-ghost use Rattle.scanner.specs.Levels.{isOpen, nested, spaced, around, levelOf, levelAt, bySpaces, restOf};
+ghost use Rattle.form.specs.Inside.Rows.{TheNames, long, codeAt};
+ghost use Rattle.scanner.specs.Levels.{isOpen, nested, spaced, around, levelIn, levelOf, levelAt, bySpaces, restOf};
 ghost use Rattle.scanner.specs.Levels.{outerAt, restAt};
+use form::names::FIRST_FORM;
+use form::names::FIRST_WORD;
+use form::names::KINDS;
+use form::names::LONG;
+use form::names::PARTS;
+use form::names::PROGRAM;
+use form::names::ROW;
+use form::names::code;
+use form::names::name_end;
 
 // An open bracket's place, and the spaces behind it that stand in no bracket of their own; 0 where there is none.
 pub struct Bracket {
@@ -97,33 +109,55 @@ pub enum Level {
     One,
 }
 
+// The level in a form's brackets, which begin at a place of the table of names.
+fn level_in(names: &[u8; LONG], end: usize) -> Level
+    requires { ⌜ TheNames (now names) ⌝ }
+    requires { ⌜ end ≤ long ⌝ }
+    ensures { λ r. ⌜ r ≡ levelIn end ⌝ }
+{
+    if code(names, end + 4) == PARTS {
+        return Level::Several;
+    }
+    if code(names, end + 6) == PROGRAM {
+        return Level::Branches;
+    }
+    Level::One
+}
+
+// Whether a form's name ends with these two letters; its bracket ends at a place of the table of names.
+fn ends_so(names: &[u8; LONG], end: usize, before: u8, last: u8) -> bool
+    requires { ⌜ TheNames (now names) ⌝ }
+    requires { ⌜ 3 ≤ end ⌝ }
+    ensures { λ r. ⌜ r ≡ (eqb last (codeAt (end - 2)) && eqb before (codeAt (end - 3))) ⌝ }
+{
+    if last == code(names, end - 2) {
+        return before == code(names, end - 3);
+    }
+    false
+}
+
 // The level of a bracket behind these two bytes.
-fn level_behind(before: u8, last: u8) -> Level
+fn level_behind(names: &[u8; LONG], before: u8, last: u8) -> Level
+    requires { ⌜ TheNames (now names) ⌝ }
     ensures { λ r. ⌜ r ≡ levelOf before last ⌝ }
 {
     if last < b'a' {
         return Level::Test;
     }
-    if last == b'q' {
-        return Level::Several;
-    }
-    if last == b'r' {
-        return Level::Several;
-    }
-    if last == b'n' {
-        return Level::Branches;
-    }
-    if last == b'l' {
-        if before == b'i' {
-            return Level::Branches;
+    let mut k = 0;
+    while k < KINDS {
+        let end = name_end(names, FIRST_FORM + k);
+        if ends_so(names, end, before, last) {
+            return level_in(names, end);
         }
-        return Level::One;
+        k += 1;
     }
     Level::One
 }
 
 // The level of a bracket in a text; 0 stands for none.
-fn level_at(text: &[u8], bracket: usize) -> Level
+fn level_at(names: &[u8; LONG], text: &[u8], bracket: usize) -> Level
+    requires { ⌜ TheNames (now names) ⌝ }
     requires { ⌜ bracket ≤ length (now text) ⌝ }
     ensures { λ r. ⌜ r ≡ levelAt (now (text .entry)) bracket ⌝ }
 {
@@ -131,9 +165,9 @@ fn level_at(text: &[u8], bracket: usize) -> Level
         return Level::Top;
     }
     if bracket == 1 {
-        return level_behind(text[0], text[0]);
+        return level_behind(names, text[0], text[0]);
     }
-    level_behind(text[bracket - 2], text[bracket - 1])
+    level_behind(names, text[bracket - 2], text[bracket - 1])
 }
 
 fn by_spaces(none: usize, one: usize, more: usize, spaces: usize) -> usize
@@ -150,17 +184,17 @@ fn by_spaces(none: usize, one: usize, more: usize, spaces: usize) -> usize
 
 // Where the rules go on behind a part of a Seq or Par, its first or a later one; behind the test and the first branch of a When or Until;
 // behind the first part of a configuration; and behind any other part, before the closing bracket.
-const FIRST_PART: usize = 115;
+const FIRST_PART: usize = ROW * (FIRST_FORM + 3) + 5;
 
-const LATER_PART: usize = 118;
+const LATER_PART: usize = ROW * (FIRST_FORM + 3) + 8;
 
-const BRANCH_TEST: usize = 68;
+const BRANCH_TEST: usize = ROW * (FIRST_FORM + 9) + 6;
 
-const FIRST_BRANCH: usize = 71;
+const FIRST_BRANCH: usize = ROW * (FIRST_FORM + 9) + 9;
 
-const FIRST_TEST: usize = 152;
+const FIRST_TEST: usize = ROW * FIRST_WORD + 1;
 
-const LAST_PART: usize = 74;
+const LAST_PART: usize = ROW * (FIRST_FORM + 9) + 12;
 
 // Where a level's rule goes on behind a bracket in it, by the spaces before that.
 fn rest(level: Level, spaces: usize) -> usize
@@ -176,7 +210,8 @@ fn rest(level: Level, spaces: usize) -> usize
 }
 
 // The level round a bracket, as the text tells it.
-pub fn outer(text: &[u8], bracket: usize) -> Frame
+pub fn outer(names: &[u8; LONG], text: &[u8], bracket: usize) -> Frame
+    requires { ⌜ TheNames (now names) ⌝ }
     requires { ⌜ bracket ≤ length (now text) ⌝ }
     ensures { λ r. ⌜ (r .bracket ≡ outerAt (now (text .entry)) bracket) × (r .rest ≡ restAt (now (text .entry)) bracket) ⌝ }
 {
@@ -184,6 +219,6 @@ pub fn outer(text: &[u8], bracket: usize) -> Frame
     let open_at = round.at;
     Frame {
         bracket: open_at,
-        rest: rest(level_at(text, open_at), round.spaces),
+        rest: rest(level_at(names, text, open_at), round.spaces),
     }
 }

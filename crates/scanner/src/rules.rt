@@ -1,89 +1,43 @@
-// The written form's rules as bytes, and what each place in them makes of a text's next byte.
-ghost use Prim.Native.Nat.{_-_, _<_, _≤_};
+// What each place in the table of names makes of a text's next byte.
+ghost use Prim.Native.Nat.{_+_, _-_, _%_, _<_, _≤_};
+ghost use mathlib.Core.Bool.{_&&_};
 ghost use mathlib.Core.Path.{_≡_};
-ghost use Rattle.form.specs.Inside.Machine.{limit};
-ghost use Rattle.scanner.specs.Rules.{codeAt, sortOf, TheRules};
-ghost use Rattle.scanner.specs.Turns.{beginsWith, jumped, literalTurn, digitTurn, testTurn, innerTurn};
-ghost use Rattle.scanner.specs.Turns.{partsTurn, nameTurn, symbolTurn, numberTurn, turnOf};
+ghost use lib.Dec.{eqb};
+ghost use Rattle.form.specs.Inside.Rows.{TheNames, rowAt, formRow, kinds, long, codeAt, agree, placeFrom};
+ghost use Rattle.form.specs.Inside.Machine.{limit, sortOf};
+ghost use Rattle.scanner.specs.Turns.{otherTurn, literalTurn, digitTurn, testTurn, innerTurn, partsTurn, jointTurn};
+ghost use Rattle.scanner.specs.Turns.{symbolTurn, numberTurn, turnOf};
+use form::digit_value;
 use form::is_digit;
-use table::records::wide;
+use form::names::EVENT;
+use form::names::FIRST_FORM;
+use form::names::FIRST_WORD;
+use form::names::INNER;
+use form::names::KINDS;
+use form::names::LONG;
+use form::names::NAME;
+use form::names::NUMBER;
+use form::names::PARTS;
+use form::names::PROGRAM;
+use form::names::ROW;
+use form::names::TEST;
+use form::names::code;
 
-// Each rule ends with 0. A byte below 128 is to be read as it is; specs/Rules.antt has the codes above. Each mention of a constant array
-// copies it, so `scan` mentions this one once and lends its copy.
-pub const RULES: [u8; 175] = *b"\x80\x00\
-    Jr.\x81\x00\
-    Nothing()\x00\
-    S\x82\x00\
-    A\x83\x00\
-    Par(\x80, \x80\x85\x00\
-    Lo\x84\x00\
-    Repeat(\x8b, \x80)\x00\
-    Generate(\x8a)\x00\
-    When(\x86, \x80, \x80)\x00\
-    Until(\x86, \x80, \x80)\x00\
-    Control(\x8a, \x80)\x00\
-    top()\x00\
-    eq(\x80, \x80\x85\x00\
-    tom(\x8b)\x00\
-    wait(\x86)\x00\
-    op(\x80)\x00\
-    cal(\x8a, \x80)\x00\
-    \x88 \x89\x00\
-    not \x86)\x00\
-    and \x86)\x00\
-    or \x86)\x00";
+// Where the first form's name begins; and where the table goes on behind the J of a program, the bracket of a configuration, the n of a
+// `not`, the a of an `and`, the o of an `or`, and the comma before a later part.
+const FIRST_NAME: usize = ROW * FIRST_FORM;
 
-// The places where a symbol's rules begin: whose rule, and where.
-const WHOSE: [u8; 18] = [
-    129,
-    129,
-    129,
-    129,
-    129,
-    129,
-    129,
-    129,
-    129,
-    129,
-    130,
-    130,
-    131,
-    131,
-    132,
-    132,
-    137,
-    137,
-];
+const BEHIND_J: usize = ROW + 1;
 
-const BEGINS: [usize; 18] = [
-    7,
-    17,
-    20,
-    23,
-    33,
-    37,
-    50,
-    62,
-    76,
-    91,
-    105,
-    111,
-    120,
-    127,
-    135,
-    141,
-    162,
-    169,
-];
+const BEHIND_BRACKET: usize = ROW * FIRST_WORD;
 
-// Where the rules go on behind the J of a program, the bracket of a configuration, the n of a `not`, and the comma behind a later part.
-const BEHIND_J: usize = 3;
+const BEHIND_N: usize = ROW * (FIRST_WORD + 1) + 1;
 
-const BEHIND_BRACKET: usize = 151;
+const BEHIND_A: usize = ROW * (FIRST_WORD + 2) + 1;
 
-const BEHIND_N: usize = 156;
+const BEHIND_O: usize = ROW * (FIRST_WORD + 3) + 1;
 
-const BEHIND_COMMA: usize = 116;
+const BEHIND_COMMA: usize = ROW * (FIRST_FORM + 3) + 6;
 
 // The largest number of an event, and of anything else.
 const LARGEST_EVENT: usize = 255;
@@ -100,62 +54,87 @@ pub enum Turn {
     Out,
 }
 
-// The code at a place.
-pub fn code(rules: &[u8; 175], at: usize) -> u8
-    requires { ⌜ TheRules (now rules) ⌝ }
-    ensures { λ r. ⌜ r ≡ codeAt at ⌝ }
-{
-    if at < 175 {
-        return rules[at];
-    }
-    0
-}
-
 // The code before a place.
-pub fn code_before(rules: &[u8; 175], pc: usize) -> u8
-    requires { ⌜ TheRules (now rules) ⌝ }
+pub fn code_before(names: &[u8; LONG], pc: usize) -> u8
+    requires { ⌜ TheNames (now names) ⌝ }
     ensures { λ r. ⌜ r ≡ codeAt (pc - 1) ⌝ }
 {
     if pc == 0 {
-        return code(rules, 0);
+        return code(names, 0);
     }
-    code(rules, pc - 1)
+    code(names, pc - 1)
 }
 
-// Whether the owner's rule at a place is the symbol's and begins with b.
-fn begins_with(rules: &[u8; 175], owner: u8, at: usize, symbol: u8, b: u8) -> bool
-    requires { ⌜ TheRules (now rules) ⌝ }
-    ensures { λ r. ⌜ r ≡ beginsWith owner at symbol b ⌝ }
+// Whether so many codes from two places on are the same.
+fn same_codes(names: &[u8; LONG], a: usize, c: usize, n: usize) -> bool
+    requires { ⌜ TheNames (now names) ⌝ }
+    requires { ⌜ (a + n ≤ long) × (c + n ≤ long) ⌝ }
+    ensures { λ r. ⌜ r ≡ agree n a c ⌝ }
 {
-    if owner == symbol {
-        return b == code(rules, at);
+    let mut j = 0;
+    while j < n {
+        if code(names, a + j) != code(names, c + j) {
+            return false;
+        }
+        j += 1;
+    }
+    true
+}
+
+// Whether a row begins with the letters before a place, and has b behind them.
+fn goes_on(names: &[u8; LONG], row: usize, pc: usize, b: u8) -> bool
+    requires { ⌜ TheNames (now names) ⌝ }
+    requires { ⌜ (row < formRow kinds) × (pc < long) ⌝ }
+    ensures { λ r. ⌜ r ≡ (eqb b (codeAt (rowAt row + pc % 20)) && agree (pc % 20) (pc - pc % 20) (rowAt row)) ⌝ }
+{
+    let column = pc % ROW;
+    if b == code(names, ROW * row + column) {
+        return same_codes(names, pc - column, ROW * row, column);
     }
     false
 }
 
-// Behind the first byte of the symbol's rule that begins with b; 0 if there is none.
-fn jump(rules: &[u8; 175], symbol: u8, b: u8) -> usize
-    requires { ⌜ TheRules (now rules) ⌝ }
-    ensures { λ r. ⌜ r ≡ jumped symbol b ⌝ }
+// The place in a form's name that has b behind the letters before a place; 0 if there is none.
+fn other_place(names: &[u8; LONG], pc: usize, b: u8) -> usize
+    requires { ⌜ TheNames (now names) ⌝ }
+    requires { ⌜ pc < long ⌝ }
+    ensures { λ r. ⌜ (r ≡ placeFrom kinds (formRow 0) pc b) × (r < long) ⌝ }
 {
-    let whose = WHOSE;
-    let begins = BEGINS;
-    let mut j: usize = 0;
-    while j < 18 {
-        if begins_with(rules, whose[j], begins[j], symbol, b) {
-            return begins[j] + 1;
+    let mut row = FIRST_FORM;
+    while row < FIRST_FORM + KINDS {
+        if goes_on(names, row, pc, b) {
+            return ROW * row + pc % ROW;
         }
-        j = j + 1;
+        row += 1;
     }
     0
 }
 
+// Behind the same letters in another form's name.
+fn other(names: &[u8; LONG], pc: usize, b: u8) -> Turn
+    requires { ⌜ TheNames (now names) ⌝ }
+    requires { ⌜ pc < long ⌝ }
+    ensures { λ r. ⌜ r ≡ otherTurn pc b ⌝ }
+{
+    if pc < FIRST_NAME {
+        return Turn::Dead;
+    }
+    let at = other_place(names, pc, b);
+    if at == 0 {
+        return Turn::Dead;
+    }
+    if b == b'(' {
+        return Turn::Opens(at + 1);
+    }
+    Turn::On(at + 1, 0)
+}
+
 // At a byte that is to be read as it is.
-fn literal(rules: &[u8; 175], pc: usize, b: u8) -> Turn
-    requires { ⌜ TheRules (now rules) ⌝ }
+fn literal(names: &[u8; LONG], pc: usize, b: u8) -> Turn
+    requires { ⌜ TheNames (now names) ⌝ }
     ensures { λ r. ⌜ r ≡ literalTurn pc b ⌝ }
 {
-    let x = code(rules, pc);
+    let x = code(names, pc);
     if x == 0 {
         return Turn::Dead;
     }
@@ -168,22 +147,22 @@ fn literal(rules: &[u8; 175], pc: usize, b: u8) -> Turn
         }
         return Turn::On(pc + 1, 0);
     }
-    Turn::Dead
+    other(names, pc, b)
 }
 
 // At a number: its value so far is kept one higher, 0 standing for none.
 fn digit(pc: usize, b: u8) -> Turn
-    requires { ⌜ pc < 175 ⌝ }
+    requires { ⌜ pc < long ⌝ }
     ensures { λ r. ⌜ r ≡ digitTurn pc b ⌝ }
 {
     if is_digit(b) {
-        return Turn::On(pc + 1, wide(b - b'0') + 1);
+        return Turn::On(pc + 1, digit_value(b) + 1);
     }
     Turn::Dead
 }
 
 fn test(pc: usize, b: u8) -> Turn
-    requires { ⌜ pc < 175 ⌝ }
+    requires { ⌜ pc < long ⌝ }
     ensures { λ r. ⌜ r ≡ testTurn pc b ⌝ }
 {
     if b == b'(' {
@@ -193,7 +172,7 @@ fn test(pc: usize, b: u8) -> Turn
 }
 
 fn inner(pc: usize, b: u8) -> Turn
-    requires { ⌜ pc < 175 ⌝ }
+    requires { ⌜ pc < long ⌝ }
     ensures { λ r. ⌜ r ≡ innerTurn pc b ⌝ }
 {
     if b == b'n' {
@@ -214,60 +193,62 @@ fn parts(b: u8) -> Turn
     Turn::Dead
 }
 
-fn name(rules: &[u8; 175], symbol: u8, b: u8) -> Turn
-    requires { ⌜ TheRules (now rules) ⌝ }
-    ensures { λ r. ⌜ r ≡ nameTurn symbol b ⌝ }
+fn joint(names: &[u8; LONG], b: u8) -> Turn
+    requires { ⌜ TheNames (now names) ⌝ }
+    ensures { λ r. ⌜ r ≡ jointTurn b ⌝ }
 {
-    let to = jump(rules, symbol, b);
-    if to == 0 {
-        return Turn::Dead;
+    if b == code(names, BEHIND_A - 1) {
+        return Turn::On(BEHIND_A, 0);
     }
-    Turn::On(to, 0)
+    if b == code(names, BEHIND_O - 1) {
+        return Turn::On(BEHIND_O, 0);
+    }
+    Turn::Dead
 }
 
-fn symbol(rules: &[u8; 175], x: u8, pc: usize, b: u8) -> Turn
-    requires { ⌜ TheRules (now rules) ⌝ }
-    requires { ⌜ pc < 175 ⌝ }
+fn symbol(names: &[u8; LONG], x: u8, pc: usize, b: u8) -> Turn
+    requires { ⌜ TheNames (now names) ⌝ }
+    requires { ⌜ pc < long ⌝ }
     ensures { λ r. ⌜ r ≡ symbolTurn x pc b ⌝ }
 {
-    if x == 128 {
+    if x == PROGRAM {
         if b == b'J' {
             return Turn::Into(BEHIND_J);
         }
         return Turn::Dead;
     }
-    if x == 133 {
+    if x == PARTS {
         return parts(b);
     }
-    if x == 134 {
+    if x == TEST {
         return test(pc, b);
     }
-    if x == 136 {
+    if x == INNER {
         return inner(pc, b);
     }
-    if x < 133 {
-        return name(rules, x, b);
+    if x == NAME {
+        return literal(names, FIRST_NAME, b);
     }
-    if x < 138 {
-        return name(rules, 137, b);
+    if x < EVENT {
+        return joint(names, b);
     }
     digit(pc, b)
 }
 
 // The largest number that may end at this place.
-fn limit_at(rules: &[u8; 175], pc: usize) -> usize
-    requires { ⌜ TheRules (now rules) ⌝ }
+fn limit_at(names: &[u8; LONG], pc: usize) -> usize
+    requires { ⌜ TheNames (now names) ⌝ }
     ensures { λ r. ⌜ r ≡ limit (sortOf (codeAt (pc - 1))) ⌝ }
 {
-    if code_before(rules, pc) == 139 {
+    if code_before(names, pc) == NUMBER {
         return LARGEST;
     }
     LARGEST_EVENT
 }
 
 // Within a number whose end byte is at this place.
-fn number(rules: &[u8; 175], pc: usize, value: usize, b: u8) -> Turn
-    requires { ⌜ TheRules (now rules) ⌝ }
+fn number(names: &[u8; LONG], pc: usize, value: usize, b: u8) -> Turn
+    requires { ⌜ TheNames (now names) ⌝ }
     requires { ⌜ value ≤ 65535 ⌝ }
     ensures { λ r. ⌜ r ≡ numberTurn pc value b ⌝ }
 {
@@ -275,27 +256,27 @@ fn number(rules: &[u8; 175], pc: usize, value: usize, b: u8) -> Turn
         if value == 0 {
             return Turn::Dead;
         }
-        let grown = 10 * value + wide(b - b'0');
-        if limit_at(rules, pc) < grown {
+        let grown = 10 * value + digit_value(b);
+        if limit_at(names, pc) < grown {
             return Turn::Dead;
         }
         return Turn::On(pc, grown + 1);
     }
-    literal(rules, pc, b)
+    literal(names, pc, b)
 }
 
 // What the byte b does at a place, within a number or not.
-pub fn turn_at(rules: &[u8; 175], pc: usize, value: usize, b: u8) -> Turn
-    requires { ⌜ TheRules (now rules) ⌝ }
+pub fn turn_at(names: &[u8; LONG], pc: usize, value: usize, b: u8) -> Turn
+    requires { ⌜ TheNames (now names) ⌝ }
     requires { ⌜ value ≤ 65536 ⌝ }
     ensures { λ r. ⌜ r ≡ turnOf pc value b ⌝ }
 {
     if 0 < value {
-        return number(rules, pc, value - 1, b);
+        return number(names, pc, value - 1, b);
     }
-    let x = code(rules, pc);
-    if x < 128 {
-        return literal(rules, pc, b);
+    let x = code(names, pc);
+    if x < PROGRAM {
+        return literal(names, pc, b);
     }
-    symbol(rules, x, pc, b)
+    symbol(names, x, pc, b)
 }

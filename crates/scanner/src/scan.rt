@@ -2,16 +2,22 @@
 ghost use Prim.Native.Nat.{suc, _+_, _<_, _≤_, _%_};
 ghost use mathlib.Core.Path.{_≡_};
 ghost use lib.ListN.{length, set};
-ghost use Rattle.scanner.specs.Rules.{TheRules};
+ghost use Rattle.form.specs.Inside.Rows.{TheNames, long};
 ghost use Rattle.scanner.specs.Places.{roomOf, entered, leaving, Ringed};
 ghost use Rattle.scanner.specs.Scanning.{Somewhere, Taken, openedAt, oneNode, oneTest, tallyCode};
 ghost use Rattle.scanner.specs.Scanning.{tallyNumber, tallyAt, Tells};
 use crate::levels::outer;
-use crate::rules::RULES;
 use crate::rules::Turn;
-use crate::rules::code;
 use crate::rules::code_before;
 use crate::rules::turn_at;
+use form::names::INNER;
+use form::names::LONG;
+use form::names::NAMES;
+use form::names::NUMBER;
+use form::names::PARTS;
+use form::names::PROGRAM;
+use form::names::TEST;
+use form::names::code;
 
 // What reading a text tells: where it fails, or its nodes, configuration records, and one above its highest event.
 pub enum Scanned {
@@ -53,7 +59,7 @@ fn room(live: usize) -> usize
 
 // Into a rule; the ring takes the frame of the level that is left.
 fn enter(at: Place, to: usize, bracket: usize, opens: &mut [usize], rests: &mut [usize]) -> Place
-    requires { ⌜ at .pc < 175 ⌝ }
+    requires { ⌜ at .pc < long ⌝ }
     requires { ⌜ at .depth < 18446744073709551615 ⌝ }
     requires { ⌜ length (now opens) ≡ 4096 ⌝ }
     requires { ⌜ length (now rests) ≡ 4096 ⌝ }
@@ -74,7 +80,8 @@ fn enter(at: Place, to: usize, bracket: usize, opens: &mut [usize], rests: &mut 
 }
 
 // Out of a bracket, to the level round it, which the ring holds or the text tells.
-fn leave(text: &[u8], at: Place, opens: &[usize], rests: &[usize]) -> Place
+fn leave(names: &[u8; LONG], text: &[u8], at: Place, opens: &[usize], rests: &[usize]) -> Place
+    requires { ⌜ TheNames (now names) ⌝ }
     requires { ⌜ at .bracket ≤ length (now text) ⌝ }
     requires { ⌜ Ringed at ⌝ }
     requires { ⌜ length (now opens) ≡ 4096 ⌝ }
@@ -82,7 +89,7 @@ fn leave(text: &[u8], at: Place, opens: &[usize], rests: &[usize]) -> Place
     ensures { λ r. ⌜ r ≡ leaving (now (text .entry)) at (at .live) (now (opens .entry)) (now (rests .entry)) ⌝ }
 {
     if at.live == 0 {
-        let round = outer(text, at.bracket);
+        let round = outer(names, text, at.bracket);
         return Place {
             pc: round.rest,
             number: 0,
@@ -114,14 +121,14 @@ fn opened(b: u8, i: usize) -> usize
 
 // Reads byte i.
 fn read_byte(
-    rules: &[u8; 175],
+    names: &[u8; LONG],
     text: &[u8],
     i: usize,
     at: Place,
     opens: &mut [usize],
     rests: &mut [usize],
 ) -> Took
-    requires { ⌜ TheRules (now rules) ⌝ }
+    requires { ⌜ TheNames (now names) ⌝ }
     requires { ⌜ i < length (now text) ⌝ }
     requires { ⌜ Somewhere (now text) i at (now opens) (now rests) ⌝ }
     requires { ⌜ length (now opens) ≡ 4096 ⌝ }
@@ -129,7 +136,7 @@ fn read_byte(
     ensures { λ r. ⌜ Taken (now (text .entry)) i at (now (opens .entry)) (now (rests .entry)) (now (opens .exit)) (now (rests .exit)) r ⌝ }
 {
     let b = text[i];
-    let turn = turn_at(rules, at.pc, at.number, b);
+    let turn = turn_at(names, at.pc, at.number, b);
     match turn {
         Turn::Dead => Took::Not,
         Turn::On(pc, number) => {
@@ -149,17 +156,17 @@ fn read_byte(
             live: at.live,
         }),
         Turn::Into(pc) => Took::To(enter(at, pc, opened(b, i), opens, rests)),
-        Turn::Out => Took::To(leave(text, at, opens, rests)),
+        Turn::Out => Took::To(leave(names, text, at, opens, rests)),
     }
 }
 
 // An event is named where its number has ended.
-fn named(rules: &[u8; 175], k: Tally, pc: usize, number: usize, b: u8) -> Tally
-    requires { ⌜ TheRules (now rules) ⌝ }
+fn named(names: &[u8; LONG], k: Tally, pc: usize, number: usize, b: u8) -> Tally
+    requires { ⌜ TheNames (now names) ⌝ }
     ensures { λ r. ⌜ r ≡ tallyNumber pc number b k ⌝ }
 {
-    if b == code(rules, pc) {
-        if code_before(rules, pc) == 139 {
+    if b == code(names, pc) {
+        if code_before(names, pc) == NUMBER {
             return k;
         }
         if k.events < number {
@@ -202,19 +209,19 @@ fn counted_at(k: Tally, x: u8, b: u8) -> Tally
     requires { ⌜ k .tests < 18446744073709551615 ⌝ }
     ensures { λ r. ⌜ r ≡ tallyCode x b k ⌝ }
 {
-    if x == 128 {
+    if x == PROGRAM {
         return one_node(k);
     }
-    if x == 133 {
+    if x == PARTS {
         if b == b',' {
             return one_node(k);
         }
         return k;
     }
-    if x == 134 {
+    if x == TEST {
         return one_test(k);
     }
-    if x == 136 {
+    if x == INNER {
         if b == b'n' {
             return k;
         }
@@ -224,23 +231,23 @@ fn counted_at(k: Tally, x: u8, b: u8) -> Tally
 }
 
 // What the byte b adds to the counts.
-fn counted(rules: &[u8; 175], k: Tally, pc: usize, number: usize, b: u8) -> Tally
-    requires { ⌜ TheRules (now rules) ⌝ }
+fn counted(names: &[u8; LONG], k: Tally, pc: usize, number: usize, b: u8) -> Tally
+    requires { ⌜ TheNames (now names) ⌝ }
     requires { ⌜ k .nodes < 18446744073709551615 ⌝ }
     requires { ⌜ k .tests < 18446744073709551615 ⌝ }
     ensures { λ r. ⌜ r ≡ tallyAt pc number b k ⌝ }
 {
     if number == 0 {
-        return counted_at(k, code(rules, pc), b);
+        return counted_at(k, code(names, pc), b);
     }
-    named(rules, k, pc, number, b)
+    named(names, k, pc, number, b)
 }
 
 // Reads a text.
 pub fn scan(text: &[u8]) -> Scanned
     ensures { λ r. ⌜ Tells (now (text .entry)) r ⌝ }
 {
-    let rules = RULES;
+    let names = NAMES;
     let mut opens = [0usize; 4096];
     let mut rests = [0usize; 4096];
     let mut at = Place {
@@ -258,17 +265,17 @@ pub fn scan(text: &[u8]) -> Scanned
     let mut i: usize = 0;
     while i < text.len() {
         let b = text[i];
-        let took = read_byte(&rules, text, i, at, &mut opens, &mut rests);
+        let took = read_byte(&names, text, i, at, &mut opens, &mut rests);
         match took {
             Took::Not => return Scanned::Fails(i),
             Took::To(next) => {
-                k = counted(&rules, k, at.pc, at.number, b);
+                k = counted(&names, k, at.pc, at.number, b);
                 at = next;
                 i = i + 1;
             }
         }
     }
-    if code(&rules, at.pc) == 0 {
+    if code(&names, at.pc) == 0 {
         return Scanned::Counts {
             n: k.nodes,
             m: k.tests,

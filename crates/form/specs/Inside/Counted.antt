@@ -4,7 +4,7 @@ use mathlib.Core.Bool.{cond}
 use mathlib.Core.List.{List, [], _∷_}
 use lib.Dec.{eqb}
 use Rattle.form.specs.Made.{larger}
-use Rattle.form.specs.Inside.Machine.{byte, prog, name, s-name, a-name, lo-name, parts, conf, inner, joint, num}
+use Rattle.form.specs.Inside.Machine.{byte, prog, name, parts, conf, inner, joint, num}
 use Rattle.form.specs.Inside.Machine.{tail, event, plain, endByte, Stack, Next, dead, on, step}
 
 pub record Counts : Type 0 where
@@ -34,10 +34,7 @@ unfoldable pub counted : Stack → ℕ → Counts → Counts
 counted [] b k = k
 counted (byte c ∷ σ) b k = k
 counted (prog ∷ σ) b k = a-node k
-counted (name ∷ σ) b k = k
-counted (s-name ∷ σ) b k = k
-counted (a-name ∷ σ) b k = k
-counted (lo-name ∷ σ) b k = k
+counted (name p ∷ σ) b k = k
 counted (parts ∷ σ) b k = cond (eqb b 44) (a-node k) k
 counted (conf e ∷ σ) b k = a-test k
 counted (inner ∷ σ) b k = cond (eqb b 110) k (a-test k)

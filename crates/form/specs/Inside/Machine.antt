@@ -2,10 +2,12 @@
 use Prim.Native.Char.{code}
 use Prim.Native.String.{String, [] as []ˢ, _∷_ as _∷ˢ_}
 use Prim.Native.Nat.{ℕ, suc, _+_, _*_, _-_}
-use mathlib.Core.Bool.{Bool, true, false, _&&_}
-use mathlib.Core.List.{List, [], _∷_}
-use lib.Dec.{eqb, leb}
+use mathlib.Core.Bool.{Bool, true, false, cond, _&&_}
+use mathlib.Core.List.{List, [], _∷_, _++_}
+use lib.Dec.{eqb, ltb, leb}
+use lib.ListN.{getD}
 use Rattle.letters.specs.Text.{bytes}
+use Rattle.form.specs.Inside.Rows.{codes, inName, firstName, home, placeOf}
 
 -- the byte behind a number or a configuration: none is a digit
 pub data End : Type 0 where
@@ -31,8 +33,8 @@ pub data Sym : Type 0 where
   byte : ℕ → Sym
   -- a program
   prog : Sym
-  -- a form's name and what belongs to it; the same behind `S`, `A` and `Lo`
-  name s-name a-name lo-name : Sym
+  -- what is to come of a form's name from a place in it on, and what belongs to it
+  name : ℕ → Sym
   -- behind the second or a later part of a Seq or Par
   parts : Sym
   -- a configuration
@@ -51,17 +53,25 @@ abbrev pub lit : List ℕ → Stack → Stack
 lit [] σ = σ
 lit (c ∷ w) σ = byte c ∷ lit w σ
 
--- two or more programs
-abbrev pub several : Stack → Stack
-several σ = prog ∷ lit (bytes ", ") (prog ∷ parts ∷ σ)
+abbrev pub ending : ℕ → End
+ending x = cond (eqb x 41) close (cond (eqb x 44) comma space)
 
--- the last program
-abbrev pub body : Stack → Stack
-body σ = byte 32 ∷ prog ∷ byte 41 ∷ σ
+abbrev pub sortOf : ℕ → Number
+sortOf x = cond (eqb x 139) plain event
 
--- a configuration and two programs
-abbrev pub branches : Stack → Stack
-branches σ = conf comma ∷ byte 32 ∷ prog ∷ byte 44 ∷ body σ
+-- a symbol that ends its row
+abbrev pub last : ℕ → Sym
+last x = cond (eqb x 129) (name firstName) (cond (eqb x 133) parts (cond (eqb x 136) inner joint))
+
+-- the symbols that codes stand for; true: the first code is an end byte that belongs to the symbol before it
+unfoldable pub syms : Bool → List ℕ → Stack
+syms b [] = []
+syms true (x ∷ l) = syms false l
+syms false (x ∷ l) =
+    cond (ltb x 128) (byte x ∷ syms false l)
+    (cond (eqb x 128) (prog ∷ syms false l)
+    (cond (eqb x 134) (conf (ending (getD l 0 0)) ∷ syms true l)
+    (cond (leb 138 x) (num (sortOf x) (ending (getD l 0 0)) ∷ syms true l) (last x ∷ []))))
 
 -- a text that may come, and what comes behind it: whether b is its first byte, and the stack then
 abbrev pub way : ℕ → String → Stack → Bool × Stack
@@ -77,23 +87,12 @@ grown v b = 10 * v + (b - 48)
 
 -- the ways on from a symbol over σ at byte b; no two tests hold at once
 unfoldable pub ways : Sym → Stack → ℕ → List (Bool × Stack)
+unfolding inName placeOf codes syms
 ways (byte c) σ b = (eqb b c, σ) ∷ []
-ways prog σ b = way b "Jr." (name ∷ σ) ∷ []
-ways name σ b =
-    way b "Nothing()" σ
-    ∷ way b "S" (s-name ∷ σ)
-    ∷ way b "A" (a-name ∷ σ)
-    ∷ way b "Par(" (several σ)
-    ∷ way b "Lo" (lo-name ∷ σ)
-    ∷ way b "Repeat(" (num plain comma ∷ body σ)
-    ∷ way b "Generate(" (num event close ∷ σ)
-    ∷ way b "When(" (branches σ)
-    ∷ way b "Until(" (branches σ)
-    ∷ way b "Control(" (num event comma ∷ body σ)
-    ∷ []
-ways s-name σ b = way b "top()" σ ∷ way b "eq(" (several σ) ∷ []
-ways a-name σ b = way b "tom(" (num plain close ∷ σ) ∷ way b "wait(" (conf close ∷ σ) ∷ []
-ways lo-name σ b = way b "op(" (prog ∷ byte 41 ∷ σ) ∷ way b "cal(" (num event comma ∷ body σ) ∷ []
+ways prog σ b = way b "Jr." (name firstName ∷ σ) ∷ []
+ways (name p) σ b =
+    let q = placeOf (home p) b in
+    (cond (eqb q 0) false true, cond (eqb b 40) (syms false (codes (suc q)) ++ σ) (name (suc q) ∷ σ)) ∷ []
 ways parts σ b = way b ")" σ ∷ way b ", " (prog ∷ parts ∷ σ) ∷ []
 ways (conf e) σ b = way b "(" (inner ∷ byte (endByte e) ∷ σ) ∷ (isDigit b, tail event (b - 48) e ∷ σ) ∷ []
 ways inner σ b =

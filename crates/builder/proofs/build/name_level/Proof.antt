@@ -1,34 +1,33 @@
+-- `name_level` meets its contract: the level of an `and` or an `or`.
 use Rattle.builder.proofs.build.name_level.Statement.{statement}
 use Rattle.builder.proofs.build.name_level.Tie as tie
 use borrow.Author.Needs.{needs}
-use borrow.Author.Tests.{ne-eqb}
+use mathlib.Core.Path.{sym, _∙_}
+use borrow.Author.Tests.{eq-eqb, ne-eqb}
+use Rattle.form.specs.Inside.Rows.{pairOf}
 
--- fn name_level
+-- return;
 returns : tie.Need-returns
 returns c =
-    let match = c .before .before .before .before .match in
-    let store = c .before .before .store in
-    rw (match .keys1) (store .ensures)
+    let start = c .before .before .before .before in
+    let pair-named = c .before .pair-named in
+    let if1 = c .if1 in
+    rw (eq-eqb (pairOf (start .args .text .now)) 0 (sym (pair-named .ensures) ∙ if1 .taken))
 
+-- fn name_level
 returns-2 : tie.Need-returns-2
 returns-2 c =
-    let match = c .before .before .before .before .match in
-    let store2 = c .before .before .store2 in
-    rw (match .keys2) (store2 .ensures)
-
-returns-3 : tie.Need-returns-3
-returns-3 c =
-    let start = c .before .before in
-    let match = c .match in
-    rw (ne-eqb (start .args .c) 97 (match .rest .0 .1), ne-eqb (start .args .c) 111 (match .rest .1))
+    let start = c .before .before .before .before .before .before .before .before in
+    let pair-named = c .before .before .before .before .before .pair-named in
+    let if1 = c .before .before .before .before .if1 in
+    let store = c .before .before .store in
+    rw (ne-eqb (pairOf (start .args .text .now)) 0 (λ e. if1 .left (pair-named .ensures ∙ e)), ← pair-named .ensures) (store .ensures)
 
 pub name-level-spec : {M : Type 1} → statement M
 name-level-spec =
     tie.close (tie.spec
-    (λ c κs. search needs)  -- store-requires: 97 => store(levels, depth, 2),
-    (λ c κs. search needs)  -- store-requires-2: 111 => store(levels, depth, 3),
-    (λ c. search needs)  -- same-length: fn name_level
+    (λ c κs. search needs)  -- pair-named-requires: let kind = pair_named(names, text, 0);
     returns
-    (λ c. search needs)  -- same-length-2
-    returns-2
-    returns-3)
+    (λ c κs. search needs)  -- store-requires: store(levels, depth, kind);
+    (λ c. search needs)  -- same-length: fn name_level
+    returns-2)

@@ -9,28 +9,28 @@ place-event-requires : tie.Need-place-event-requires
 place-event-requires c κs =
     let start = c .before .before .before .before in
     let match = c .before .match in
-    ready-in (λ n m s h. place-blank (start .args .b) (start .args .level) (start .args .text .now) s (match .keys1)) (start .pre)
+    ready-in (λ n m s h. place-blank (start .args .b) (start .args .level) (start .args .text .now) s (match .keys1)) (start .pre .1)
 
--- 40 => place_opening(level, text, table, front),
+-- 40 => place_opening(names, level, text, table, front),
 place-opening-requires : tie.Need-place-opening-requires
 place-opening-requires c κs =
     let start = c .before .before .before .before in
     let match = c .before .match in
-    ready-in (λ n m s h. place-opens (start .args .b) (start .args .level) (start .args .text .now) s (match .keys2)) (start .pre)
+    (start .pre .0, ready-in (λ n m s h. place-opens (start .args .b) (start .args .level) (start .args .text .now) s (match .keys2)) (start .pre .1))
 
 -- 44 => place_comma(level, table, front),
 place-comma-requires : tie.Need-place-comma-requires
 place-comma-requires c κs =
     let start = c .before .before .before .before in
     let match = c .before .match in
-    ready-in (λ n m s h. place-separates (start .args .b) (start .args .level) (start .args .text .now) s (match .keys3)) (start .pre)
+    ready-in (λ n m s h. place-separates (start .args .b) (start .args .level) (start .args .text .now) s (match .keys3)) (start .pre .1)
 
--- 74 => place_name(text, table, front),
+-- 74 => place_name(names, text, table, front),
 place-name-requires : tie.Need-place-name-requires
 place-name-requires c κs =
     let start = c .before .before .before .before in
     let match = c .before .match in
-    ready-in (λ n m s h. place-names (start .args .b) (start .args .level) (start .args .text .now) s (match .keys4)) (start .pre)
+    (start .pre .0, ready-in (λ n m s h. place-names (start .args .b) (start .args .level) (start .args .text .now) s (match .keys4)) (start .pre .1))
 
 -- fn place
 returns : tie.Need-returns

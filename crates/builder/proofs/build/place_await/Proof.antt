@@ -8,14 +8,14 @@ use Rattle.builder.proofs.Placing.{await-first, await-second, await-don
 place-event-requires : tie.Need-place-event-requires
 place-event-requires c κs =
     let start = c .before .before .before in
-    await-first (drop (start .args .i) (start .args .text .now)) (start .pre)
+    await-first (start .args .kind) (drop (start .args .i) (start .args .text .now)) (start .pre)
 
--- place_node(table, 8, next.left, 1, next)
+-- place_node(table, kind, next.left, 1, next)
 place-node-requires : tie.Need-place-node-requires
 place-node-requires c κs =
     let start = c .before .before .before .before .before .before .before in
     let place-event = c .before .before .before .place-event in
-    await-second (drop (start .args .i) (start .args .text .now)) (start .pre) (place-event .ensures)
+    await-second (start .args .kind) (drop (start .args .i) (start .args .text .now)) (start .pre) (place-event .ensures)
 
 -- fn place_await
 returns : tie.Need-returns
@@ -23,7 +23,7 @@ returns c =
     let start = c .before .before .before .before .before .before .before .before .before .before in
     let place-event = c .before .before .before .before .before .before .place-event in
     let place-node = c .before .before .place-node in
-    await-done (drop (start .args .i) (start .args .text .now)) (place-event .ensures) (place-node .ensures)
+    await-done (start .args .kind) (drop (start .args .i) (start .args .text .now)) (place-event .ensures) (place-node .ensures)
 
 pub place-await-spec : {M : Type 1} → statement M
 place-await-spec =

@@ -1,37 +1,59 @@
+-- `place_name` meets its contract: the name behind the `J`, and where it ends.
 use Rattle.builder.proofs.build.place_name.Statement.{statement}
 use Rattle.builder.proofs.build.place_name.Tie as tie
 use borrow.Author.Needs.{needs}
+use Prim.Native.Nat.{_+_, _-_, _*_}
+use native.Mathlib.Omega.{arith}
+use Rattle.form.proofs.Rows.{name-after}
 use Rattle.builder.proofs.Holding.{ready-in, places-in}
-use Rattle.builder.proofs.Placing.{name-here}
+use Rattle.builder.proofs.Placing.{name-here, behind-is}
 
--- place_form(kind, text, i, table, front)
+-- let end = name_end(names, row);
+name-end-requires : tie.Need-name-end-requires
+name-end-requires c κs =
+    let start = c .before .before .before .before in
+    let kind-of = c .before .kind-of in
+    let wide = c .wide in
+    let k = kind-of .ensures .1 in
+    (start .pre .0, omega (arith, wide .ensures .0))
+
+-- place_form(names, kind, end, text, 2 + (end - ROW * row), table, front)
+sub-place-form : tie.Need-sub-place-form
+sub-place-form c =
+    let wide = c .before .wide in
+    let name-end = c .name-end in
+    let l = name-after (6 + wide .result) in
+    omega (arith, name-end .ensures .0)
+
 place-form-requires : tie.Need-place-form-requires
 place-form-requires c κs =
-    let start = c .before .before .before .before .before .before .before in
-    let byte-at = c .before .before .before .before .byte-at in
-    let byte-at2 = c .before .before .before .byte-at2 in
-    let kind-of = c .before .before .kind-of in
-    let inside-of = c .before .inside-of in
-    ready-in (λ n m s h. name-here (start .args .text .now) (kind-of .result) (inside-of .result) s (rw (byte-at .ensures, byte-at2 .ensures) at (kind-of .ensures .0)) (inside-of .ensures)) (start .pre)
+    let start = c .before .before .before .before .before .before in
+    let kind-of = c .before .before .before .kind-of in
+    let wide = c .before .before .wide in
+    let name-end = c .before .name-end in
+    let e = name-end .ensures in
+    (start .pre .0, ((rw (wide .ensures .0) at (e .0), e .1), ready-in (λ n m s h. name-here (start .args .text .now) (kind-of .result) (2 + (name-end .result - 20 * (6 + wide .result))) s (kind-of .ensures .0) (behind-is (kind-of .result) (name-end .result) (wide .result) (name-end .ensures .0) (wide .ensures .0))) (start .pre .1)))
 
 -- fn place_name
 returns : tie.Need-returns
 returns c =
-    let start = c .before .before .before .before .before .before .before .before .before .before in
-    let byte-at = c .before .before .before .before .before .before .before .byte-at in
-    let byte-at2 = c .before .before .before .before .before .before .byte-at2 in
-    let kind-of = c .before .before .before .before .before .kind-of in
-    let inside-of = c .before .before .before .before .inside-of in
+    let start = c .before .before .before .before .before .before .before .before .before in
+    let kind-of = c .before .before .before .before .before .before .kind-of in
+    let wide = c .before .before .before .before .before .wide in
+    let name-end = c .before .before .before .before .name-end in
     let place-form = c .before .before .place-form in
-    places-in (λ n m s h. name-here (start .args .text .now) (kind-of .result) (inside-of .result) s (rw (byte-at .ensures, byte-at2 .ensures) at (kind-of .ensures .0)) (inside-of .ensures)) (place-form .ensures)
+    places-in (λ n m s h. name-here (start .args .text .now) (kind-of .result) (2 + (name-end .result - 20 * (6 + wide .result))) s (kind-of .ensures .0) (behind-is (kind-of .result) (name-end .result) (wide .result) (name-end .ensures .0) (wide .ensures .0))) (place-form .ensures)
 
 pub place-name-spec : {M : Type 1} → statement M
 place-name-spec =
     tie.close (tie.spec
-    (λ c κs. search needs)  -- byte-at-requires: let kind = kind_of(byte_at(text, 2), byte_at(text..
-    (λ c κs. search needs)  -- byte-at-requires-2
-    (λ c κs. search needs)  -- kind-of-requires
-    (λ c κs. search needs)  -- inside-of-requires: let i = inside_of(kind);
+    (λ c κs. search needs)  -- kind-of-requires: let kind = kind_of(names, text);
+    (λ c κs. search needs)  -- wide-requires: let row = FIRST_FORM + wide(kind);
+    (λ c. search needs)  -- add-row
+    name-end-requires
+    (λ c. search needs)  -- mul-place-form: place_form(names, kind, end, text, 2 + (end - ROW * row), table, front)
+    sub-place-form
+    (λ c. search needs)  -- add-place-form
     place-form-requires
     (λ c. search needs)  -- same-length: fn place_name
     returns)

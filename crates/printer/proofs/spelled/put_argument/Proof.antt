@@ -1,111 +1,89 @@
 -- `put_argument` meets its contract, by what the kind takes.
-use mathlib.Core.Path.{sym, ap, _∙_}
-use native.Mathlib.Omega.{arith}
-use borrow.Author.Needs.{needs}
-use Rattle.table.proofs.Tree.{size-pos}
-use Rattle.table.proofs.Loaded.{in-table}
-use Rattle.printer.specs.Printing.{takesTest, takesNumber}
-use Rattle.printer.proofs.ArgumentsIn.{test-part, puts-test, number-fits, puts-number, puts-no-argument}
 use Rattle.printer.proofs.spelled.put_argument.Statement.{statement}
 use Rattle.printer.proofs.spelled.put_argument.Tie as tie
-
--- let n = word_at(table, table.len() - 10);
-sub-word-at : tie.Need-sub-word-at
-sub-word-at c =
-    let start = c .before .before .before .before in
-    omega (arith, start .pre .1 .placed .loaded .framed .long)
-
-word-at-requires : tie.Need-word-at-requires
-word-at-requires c κs =
-    let start = c .before .before .before .before in
-    omega (arith, start .pre .1 .placed .loaded .framed .long)
+use borrow.Author.Needs.{needs}
+use native.Mathlib.Omega.{arith}
+use Rattle.table.specs.Records.{kindAt}
+use Rattle.table.proofs.Tree.{size-pos}
+use Rattle.table.proofs.Loaded.{in-table}
+use Rattle.printer.proofs.ArgumentsIn.{is-test, is-no-test, is-number, is-no-number, test-part, puts-test, number-fits, puts-number, puts-no-argument}
 
 -- return put_test(table, 6 * n + 4 * argument_at(table, i), room, at);
 argument-at-requires : tie.Need-argument-at-requires
 argument-at-requires c κs =
-    let start = c .before .before .before .before .before in
+    let start = c .before .before .before .before in
     omega (arith, in-table (start .pre .1 .placed) 0 (size-pos (start .pre .1 .program)))
 
 put-test-requires : tie.Need-put-test-requires
 put-test-requires c κs =
-    let start = c .before .before .before .before .before .before .before in
-    let takes-test = c .before .before .before .before .takes-test in
+    let start = c .before .before .before .before .before .before in
     let if1 = c .before .before .before .if1 in
     let word-at = c .before .before .word-at in
     let argument-at = c .before .argument-at in
-    let tests = ap takesTest (sym (start .pre .0)) ∙ (sym (takes-test .ensures) ∙ if1 .taken) in
+    let tests = is-test (kindAt (start .args .table .now) (start .args .i)) (start .pre .0) (if1 .taken) in
     rw (word-at .ensures .0, argument-at .ensures .0) (test-part tests (start .pre .1))
 
 returns : tie.Need-returns
 returns c =
-    let start = c .before .before .before .before .before .before .before .before .before .before in
-    let takes-test = c .before .before .before .before .before .before .before .takes-test in
+    let start = c .before .before .before .before .before .before .before .before .before in
     let if1 = c .before .before .before .before .before .before .if1 in
     let word-at = c .before .before .before .before .before .word-at in
     let argument-at = c .before .before .before .before .argument-at in
     let put-test = c .before .before .put-test in
-    let tests = ap takesTest (sym (start .pre .0)) ∙ (sym (takes-test .ensures) ∙ if1 .taken) in
+    let tests = is-test (kindAt (start .args .table .now) (start .args .i)) (start .pre .0) (if1 .taken) in
     puts-test tests (rw (word-at .ensures .0, argument-at .ensures .0) at (put-test .ensures))
 
 -- return put_number(room, at, argument_at(table, i));
 argument-at-requires-2 : tie.Need-argument-at-requires-2
 argument-at-requires-2 c κs =
-    let start = c .before .before .before .before .before .before .before in
+    let start = c .before .before .before .before .before in
     omega (arith, in-table (start .pre .1 .placed) 0 (size-pos (start .pre .1 .program)))
 
 put-number-requires : tie.Need-put-number-requires
 put-number-requires c κs =
-    let start = c .before .before .before .before .before .before .before .before in
-    let takes-test = c .before .before .before .before .before .takes-test in
-    let if1 = c .before .before .before .before .if1 in
-    let takes-number = c .before .before .before .takes-number in
+    let start = c .before .before .before .before .before .before in
+    let if1 = c .before .before .before .if1 in
     let if2 = c .before .before .if2 in
     let argument-at2 = c .argument-at2 in
-    let no-test = ap takesTest (sym (start .pre .0)) ∙ (sym (takes-test .ensures) ∙ if1 .left) in
-    let number = ap takesNumber (sym (start .pre .0)) ∙ (sym (takes-number .ensures) ∙ if2 .taken) in
+    let no-test = is-no-test (kindAt (start .args .table .now) (start .args .i)) (start .pre .0) (if1 .left) in
+    let number = is-number (kindAt (start .args .table .now) (start .args .i)) (start .pre .0) (if2 .taken) in
     number-fits no-test number (argument-at2 .ensures .0) (start .pre .1)
 
 returns-2 : tie.Need-returns-2
 returns-2 c =
-    let start = c .before .before .before .before .before .before .before .before .before .before .before in
-    let takes-test = c .before .before .before .before .before .before .before .before .takes-test in
-    let if1 = c .before .before .before .before .before .before .before .if1 in
-    let takes-number = c .before .before .before .before .before .before .takes-number in
+    let start = c .before .before .before .before .before .before .before .before .before in
+    let if1 = c .before .before .before .before .before .before .if1 in
     let if2 = c .before .before .before .before .before .if2 in
     let argument-at2 = c .before .before .before .argument-at2 in
     let put-number = c .before .before .put-number in
-    let no-test = ap takesTest (sym (start .pre .0)) ∙ (sym (takes-test .ensures) ∙ if1 .left) in
-    let number = ap takesNumber (sym (start .pre .0)) ∙ (sym (takes-number .ensures) ∙ if2 .taken) in
+    let no-test = is-no-test (kindAt (start .args .table .now) (start .args .i)) (start .pre .0) (if1 .left) in
+    let number = is-number (kindAt (start .args .table .now) (start .args .i)) (start .pre .0) (if2 .taken) in
     puts-number no-test number (argument-at2 .ensures .0) (put-number .ensures)
 
 -- fn put_argument
 returns-3 : tie.Need-returns-3
 returns-3 c =
-    let start = c .before .before .before .before .before .before in
-    let takes-test = c .before .before .before .takes-test in
-    let if1 = c .before .before .if1 in
-    let takes-number = c .before .takes-number in
+    let start = c .before .before .before .before in
+    let if1 = c .before .if1 in
     let if2 = c .if2 in
-    let no-test = ap takesTest (sym (start .pre .0)) ∙ (sym (takes-test .ensures) ∙ if1 .left) in
-    let no-number = ap takesNumber (sym (start .pre .0)) ∙ (sym (takes-number .ensures) ∙ if2 .left) in
+    let no-test = is-no-test (kindAt (start .args .table .now) (start .args .i)) (start .pre .0) (if1 .left) in
+    let no-number = is-no-number (kindAt (start .args .table .now) (start .args .i)) (start .pre .0) (if2 .left) in
     puts-no-argument no-test no-number
 
 pub put-argument-spec : {M : Type 1} → statement M
 put-argument-spec =
     tie.close (tie.spec
-    (λ c κs. search needs)  -- takes-test-requires: if takes_test(k) {
-    sub-word-at
-    word-at-requires
-    (λ c. search needs)  -- mul-put-test: return put_test(table, 6 * n + 4 * argument_at(table, i..
+    (λ c. omega (arith, c .before .before .before .pre .1 .placed .loaded .framed .long))  -- sub-word-at: let n = w..
+    (λ c κs. omega (arith, c .before .before .before .pre .1 .placed .loaded .framed .long))  -- word-at-requires
+    (λ c. search needs)  -- mul-put-test: return put_test(table, 6 * n + 4 * argument_at(table, i)..
     argument-at-requires
     (λ c. search needs)  -- mul-put-test-2
     (λ c. search needs)  -- add-put-test
     put-test-requires
     (λ c. search needs)  -- same-length
     returns
-    (λ c κs. search needs)  -- takes-number-requires: if takes_number(k) {
     argument-at-requires-2
     put-number-requires
-    (λ c. search needs)  -- same-length-2: return put_number(room, at, argument_at(table, i));
+    (λ c. search needs)  -- same-length-2
     returns-2
     returns-3)

@@ -7,7 +7,7 @@ use borrow.Author.Needs.{needs}
 use native.Mathlib.Omega.{arith}
 use lib.ListN.{getD}
 use Rattle.scanner.specs.Levels.{back, around}
-use Rattle.scanner.proofs.Going.{nested-le, spaced-le, back-found, back-on, back-none}
+use Rattle.scanner.proofs.BackToBracket.{nested-le, spaced-le, back-found, back-on, back-none}
 
 abbrev Inv-loop : tie.InvT-loop
 Inv-loop text from at₀ closed₀ spaces₀ at closed spaces =

@@ -2,7 +2,7 @@
 use Rattle.scanner.proofs.levels.by_spaces.Statement.{statement}
 use Rattle.scanner.proofs.levels.by_spaces.Tie as tie
 use borrow.Author.Needs.{needs}
-use Rattle.scanner.proofs.Going.{by-more}
+use Rattle.scanner.proofs.BackToBracket.{by-more}
 
 returns-3 : tie.Need-returns-3
 returns-3 c =

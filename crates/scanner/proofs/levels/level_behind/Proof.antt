@@ -1,101 +1,93 @@
--- `level_behind` meets its contract.
+-- `level_behind` meets its contract: form by form.
 use Rattle.scanner.proofs.levels.level_behind.Statement.{statement}
 use Rattle.scanner.proofs.levels.level_behind.Tie as tie
-use borrow.Author.Tests.{eq-eqb, ne-eqb, lt-ltb, le-ltb}
-use Rattle.scanner.specs.Levels.{levelOf}
+use borrow.Author.Needs.{needs}
+use Prim.Native.Nat.{_+_, _-_, _≤_}
+use mathlib.Core.Path.{_≡_, refl, sym, _∙_}
+use native.Mathlib.Numerals.{add-one}
+use native.Mathlib.Omega.{arith}
+use borrow.Author.Tests.{lt-ltb, le-ltb}
+use Rattle.form.specs.Inside.Rows.{formRow, kinds}
+use Rattle.form.proofs.Rows.{name-after}
+use Rattle.scanner.specs.Levels.{levelFrom, levelOf}
+use Rattle.scanner.proofs.RowSearch.{level-here, level-next, level-none}
 
-returns : tie.Need-returns
+abbrev Inv-loop : tie.InvT-loop
+Inv-loop names before last k₀ k = (levelFrom kinds 0 before last ≡ levelFrom (kinds - k) k before last) × (k ≤ kinds)
+
+abbrev μ-loop : tie.MeasureT-loop
+μ-loop names before last k₀ k = kinds - k
+
+-- return Level::Test;
+returns : tie.Need-returns Inv-loop μ-loop
 unfolding levelOf
 returns c =
+    let start = c .before in
     let if1 = c .if1 in
-    simp (lt-ltb _ _ (if1 .taken))
+    rw (lt-ltb (start .args .last) 97 (if1 .taken)) refl
 
-returns-2 : tie.Need-returns-2
+-- if ends_so(names, end, before, last) {
+ends-so-requires : tie.Need-ends-so-requires Inv-loop μ-loop
+ends-so-requires c κs =
+    let start = c .before .before .before .before in
+    let loop = c .before .before .loop in
+    let name-end = c .name-end in
+    let l = name-after (formRow (loop .k)) in
+    (start .pre, omega (arith, name-end .ensures .0))
+
+-- return level_in(names, end);
+returns-2 : tie.Need-returns-2 Inv-loop μ-loop
 unfolding levelOf
 returns-2 c =
-    let if1 = c .before .if1 in
-    let if2 = c .if2 in
-    simp (le-ltb _ _ (if1 .left), eq-eqb _ _ (if2 .taken))
+    let start = c .before .before .before .before .before .before .before in
+    let if1 = c .before .before .before .before .before .before .if1 in
+    let loop = c .before .before .before .before .before .loop in
+    let loop-test = c .before .before .before .before .loop-test in
+    let name-end = c .before .before .before .name-end in
+    let ends-so = c .before .before .ends-so in
+    let if2 = c .before .if2 in
+    let level-in = c .level-in in
+    let e = rw (name-end .ensures .0) at (ends-so .ensures) in
+    let h = loop .inv .0 ∙ level-here (start .args .before) (start .args .last) (loop .k) (loop-test .taken) (sym e ∙ if2 .taken) in
+    rw (le-ltb (start .args .last) 97 (if1 .left)) (rw (name-end .ensures .0) at (level-in .ensures) ∙ sym h)
 
-returns-3 : tie.Need-returns-3
+-- while k < KINDS {
+loop-again : tie.Need-loop-again Inv-loop μ-loop
+loop-again c =
+    let start = c .before .before .before .before .before .before in
+    let loop = c .before .before .before .before .loop in
+    let loop-test = c .before .before .before .loop-test in
+    let name-end = c .before .before .name-end in
+    let ends-so = c .before .ends-so in
+    let if2 = c .if2 in
+    let e = rw (name-end .ensures .0) at (ends-so .ensures) in
+    let h = loop .inv .0 ∙ level-next (start .args .before) (start .args .last) (loop .k) (loop-test .taken) (sym e ∙ if2 .left) in
+    (simp add-one h, search needs)
+
+-- fn level_behind
+returns-3 : tie.Need-returns-3 Inv-loop μ-loop
 unfolding levelOf
 returns-3 c =
+    let start = c .before .before .before in
     let if1 = c .before .before .if1 in
-    let if2 = c .before .if2 in
-    let if3 = c .if3 in
-    simp (le-ltb _ _ (if1 .left), ne-eqb _ _ (if2 .left), eq-eqb _ _ (if3 .taken))
-
-returns-4 : tie.Need-returns-4
-unfolding levelOf
-returns-4 c =
-    let if1 = c .before .before .before .if1 in
-    let if2 = c .before .before .if2 in
-    let if3 = c .before .if3 in
-    let if4 = c .if4 in
-    simp (le-ltb _ _ (if1 .left), ne-eqb _ _ (if2 .left), ne-eqb _ _ (if3 .left), eq-eqb _ _ (if4 .taken))
-
-returns-5 : tie.Need-returns-5
-unfolding levelOf
-returns-5 c =
-    let if1 = c .before .before .before .before .before .if1 in
-    let if2 = c .before .before .before .before .if2 in
-    let if3 = c .before .before .before .if3 in
-    let if4 = c .before .before .if4 in
-    let if5 = c .before .if5 in
-    let if6 = c .if6 in
-    simp (
-      le-ltb _ _ (if1 .left),
-      ne-eqb _ _ (if2 .left),
-      ne-eqb _ _ (if3 .left),
-      ne-eqb _ _ (if4 .left),
-      eq-eqb _ _
-          (if5 .taken),
-      eq-eqb _ _ (if6 .taken),
-    )
-
-returns-6 : tie.Need-returns-6
-unfolding levelOf
-returns-6 c =
-    let if1 = c .before .before .before .before .before .if1 in
-    let if2 = c .before .before .before .before .if2 in
-    let if3 = c .before .before .before .if3 in
-    let if4 = c .before .before .if4 in
-    let if5 = c .before .if5 in
-    let if6 = c .if6 in
-    simp (
-      le-ltb _ _ (if1 .left),
-      ne-eqb _ _ (if2 .left),
-      ne-eqb _ _ (if3 .left),
-      ne-eqb _ _ (if4 .left),
-      eq-eqb _ _
-          (if5 .taken),
-      ne-eqb _ _ (if6 .left),
-    )
-
-returns-7 : tie.Need-returns-7
-unfolding levelOf
-returns-7 c =
-    let if1 = c .before .before .before .before .if1 in
-    let if2 = c .before .before .before .if2 in
-    let if3 = c .before .before .if3 in
-    let if4 = c .before .if4 in
-    let if5 = c .if5 in
-    simp (
-      le-ltb _ _ (if1 .left),
-      ne-eqb _ _ (if2 .left),
-      ne-eqb _ _ (if3 .left),
-      ne-eqb _ _ (if4 .left),
-      ne-eqb _ _
-          (if5 .left),
-    )
+    let loop = c .before .loop in
+    let loop-test = c .loop-test in
+    rw (le-ltb (start .args .last) 97 (if1 .left))
+    (sym (loop .inv .0 ∙ level-none (start .args .before) (start .args .last) (loop .k) (loop-test .left)))
 
 pub level-behind-spec : {M : Type 1} → statement M
 level-behind-spec =
     tie.close (tie.spec
+    Inv-loop
+    μ-loop
     returns
+    (λ c. (refl, search needs))  -- loop-holds: while k < KINDS {
+    (λ c. search needs)  -- add-name-end: let end = name_end(names, FIRST_FORM + k);
+    (λ c κs. search needs)  -- name-end-requires
+    ends-so-requires
+    (λ c κs. search needs)  -- level-in-requires: return level_in(names, end);
     returns-2
-    returns-3
-    returns-4
-    returns-5
-    returns-6
-    returns-7)
+    (λ c. search needs)  -- add-k: k += 1;
+    (λ c. search needs)  -- loop-less: while k < KINDS {
+    loop-again
+    returns-3)

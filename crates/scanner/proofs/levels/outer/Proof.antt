@@ -5,14 +5,14 @@ use mathlib.Core.Path.{_∙_}
 use borrow.Author.Needs.{needs}
 use native.Mathlib.Omega.{arith}
 use Rattle.scanner.specs.Levels.{outerAt, restAt}
-use Rattle.scanner.proofs.Going.{back-within}
+use Rattle.scanner.proofs.BackToBracket.{back-within}
 
 level-at-requires : tie.Need-level-at-requires
 level-at-requires c κs =
     let start = c .before .before in
     let around = c .around in
     let l = back-within (start .args .text .now) (start .args .bracket) 0 0 in
-    rw (around .ensures) (omega (arith, l))
+    (start .pre .0, rw (around .ensures) (omega (arith, l)))
 
 returns : tie.Need-returns
 unfolding outerAt restAt

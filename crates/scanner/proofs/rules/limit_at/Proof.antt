@@ -5,7 +5,7 @@ use Prim.Native.Nat.{_-_}
 use mathlib.Core.Path.{sym, _∙_}
 use borrow.Author.Needs.{needs}
 use borrow.Author.Tests.{eq-eqb, ne-eqb}
-use Rattle.scanner.specs.Rules.{codeAt}
+use Rattle.form.specs.Inside.Rows.{codeAt}
 
 returns : tie.Need-returns
 returns c =

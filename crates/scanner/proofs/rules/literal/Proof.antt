@@ -5,9 +5,9 @@ use mathlib.Core.Path.{sym, _∙_}
 use borrow.Author.Needs.{needs}
 use native.Mathlib.Numerals.{add-one}
 use borrow.Author.Tests.{eq-eqb, ne-eqb}
-use Rattle.scanner.specs.Rules.{codeAt}
+use Rattle.form.specs.Inside.Rows.{codeAt}
 use Rattle.scanner.specs.Turns.{literalTurn}
-use Rattle.scanner.proofs.Codes.{in-rules}
+use Rattle.form.proofs.NamesRead.{in-names}
 
 returns : tie.Need-returns
 unfolding literalTurn
@@ -22,7 +22,7 @@ add-t7 c =
     let start = c .before .before .before .before in
     let code = c .before .before .before .code in
     let if1 = c .before .before .if1 in
-    let l = in-rules (start .args .pc) (λ e. if1 .left (code .ensures ∙ e)) in
+    let l = in-names (start .args .pc) (λ e. if1 .left (code .ensures ∙ e)) in
     search needs
 
 returns-2 : tie.Need-returns-2
@@ -64,7 +64,7 @@ add-t8 c =
     let start = c .before .before .before .before .before in
     let code = c .before .before .before .before .code in
     let if1 = c .before .before .before .if1 in
-    let l = in-rules (start .args .pc) (λ e. if1 .left (code .ensures ∙ e)) in
+    let l = in-names (start .args .pc) (λ e. if1 .left (code .ensures ∙ e)) in
     search needs
 
 returns-4 : tie.Need-returns-4
@@ -86,18 +86,26 @@ returns-4 c =
       add-one,
     )
 
-returns-5 : tie.Need-returns-5
-unfolding literalTurn
-returns-5 c =
+-- other(names, pc, b)
+other-requires : tie.Need-other-requires
+other-requires c κs =
     let start = c .before .before .before in
     let code = c .before .before .code in
     let if1 = c .before .if1 in
-    let if2 = c .if2 in
+    (start .pre, in-names (start .args .pc) (λ e. if1 .left (code .ensures ∙ e)))
+
+returns-5 : tie.Need-returns-5
+unfolding literalTurn
+returns-5 c =
+    let start = c .before .before .before .before in
+    let code = c .before .before .before .code in
+    let if1 = c .before .before .if1 in
+    let if2 = c .before .if2 in
+    let other = c .other in
     simp (
       ne-eqb (codeAt (start .args .pc)) 0 (λ e. if1 .left (code .ensures ∙ e)),
-      ne-eqb (start .args .b) (codeAt
-          (start .args .pc)) (λ e. if2 .left (e ∙ sym (code .ensures))),
-    )
+      ne-eqb (start .args .b) (codeAt (start .args .pc)) (λ e. if2 .left (e ∙ sym (code .ensures))),
+    ) (other .ensures)
 
 pub literal-spec : {M : Type 1} → statement M
 literal-spec =
@@ -109,4 +117,5 @@ literal-spec =
     returns-3
     add-t8
     returns-4
+    other-requires
     returns-5)

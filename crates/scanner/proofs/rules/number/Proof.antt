@@ -8,8 +8,8 @@ use native.Mathlib.Numerals.{add-one}
 use native.Mathlib.Omega.{arith}
 use borrow.Author.Tests.{le-leb, lt-leb}
 use Rattle.form.specs.Inside.Machine.{limit}
-use Rattle.form.proofs.Digits.{digit-is}
-use Rattle.scanner.specs.Rules.{codeAt, sortOf}
+use Rattle.form.specs.Inside.Rows.{codeAt}
+use Rattle.form.specs.Inside.Machine.{sortOf}
 use Rattle.scanner.specs.Turns.{numberTurn}
 
 -- return Turn::Dead;
@@ -21,13 +21,12 @@ returns c =
     let if2 = c .if2 in
     simp (sym (is-digit .ensures) ∙ if1 .taken, if2 .taken)
 
--- let grown = 10 * value + wide(b - b'0');
-sub-wide : tie.Need-sub-wide
-sub-wide c =
-    let start = c .before .before .before in
+-- let grown = 10 * value + digit_value(b);
+digit-value-requires : tie.Need-digit-value-requires
+digit-value-requires c κs =
     let is-digit = c .before .before .is-digit in
     let if1 = c .before .if1 in
-    digit-is (start .args .b) (sym (is-digit .ensures) ∙ if1 .taken) .0
+    sym (is-digit .ensures) ∙ if1 .taken
 
 -- return Turn::Dead;
 returns-2 : tie.Need-returns-2
@@ -37,14 +36,14 @@ returns-2 c =
     let is-digit = c .before .before .before .before .before .is-digit in
     let if1 = c .before .before .before .before .if1 in
     let if2 = c .before .before .before .if2 in
-    let wide = c .before .before .wide in
+    let digit-value = c .before .before .digit-value in
     let limit-at = c .before .limit-at in
     let if3 = c .if3 in
     simp (
       sym (is-digit .ensures) ∙ if1 .taken,
       le-leb 1 (start .args .value) (omega (arith, if2 .left)),
       lt-leb (10 * start .args .value + (start .args .b - 48)) (limit (sortOf (codeAt (start .args .pc - 1)))) (omega
-          (arith, if3 .taken, wide .ensures .0, limit-at .ensures)),
+          (arith, if3 .taken, digit-value .ensures .0, limit-at .ensures)),
     )
 
 -- return Turn::On(pc, grown + 1);
@@ -55,15 +54,15 @@ returns-3 c =
     let is-digit = c .before .before .before .before .before .is-digit in
     let if1 = c .before .before .before .before .if1 in
     let if2 = c .before .before .before .if2 in
-    let wide = c .before .before .wide in
+    let digit-value = c .before .before .digit-value in
     let limit-at = c .before .limit-at in
     let if3 = c .if3 in
     simp (
       sym (is-digit .ensures) ∙ if1 .taken,
       le-leb 1 (start .args .value) (omega (arith, if2 .left)),
       le-leb (10 * start .args .value + (start .args .b - 48)) (limit (sortOf (codeAt (start .args .pc - 1)))) (omega
-          (arith, if3 .left, wide .ensures .0, limit-at .ensures)),
-      wide .ensures .0,
+          (arith, if3 .left, digit-value .ensures .0, limit-at .ensures)),
+      digit-value .ensures .0,
       add-one,
     )
 
@@ -81,9 +80,8 @@ number-spec =
     tie.close (tie.spec
     (λ c κs. search needs)  -- is-digit-requires: if is_digit(b) {
     returns
-    (λ c. search needs)  -- mul-grown: let grown = 10 * value + wide(b - b'0');
-    sub-wide
-    (λ c κs. search needs)  -- wide-requires
+    (λ c. search needs)  -- mul-grown: let grown = 10 * value + digit_value(b);
+    digit-value-requires
     (λ c. search needs)  -- add-grown
     (λ c κs. search needs)  -- limit-at-requires: if limit_at(pc) < grown {
     returns-2

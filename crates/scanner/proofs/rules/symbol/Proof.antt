@@ -55,15 +55,14 @@ returns-6 c =
     let if4 = c .before .before .before .if4 in
     let if5 = c .before .before .if5 in
     let if6 = c .before .if6 in
-    let name = c .name in
+    let literal = c .literal in
     simp (
       ne-eqb _ _ (if1 .left),
       ne-eqb _ _ (if3 .left),
       ne-eqb _ _ (if4 .left),
       ne-eqb _ _ (if5 .left),
-      lt-ltb _ _
-          (if6 .taken),
-    ) (name .ensures)
+      eq-eqb _ _ (if6 .taken),
+    ) (literal .ensures)
 
 returns-7 : tie.Need-returns-7
 unfolding symbolTurn
@@ -74,16 +73,15 @@ returns-7 c =
     let if5 = c .before .before .before .if5 in
     let if6 = c .before .before .if6 in
     let if7 = c .before .if7 in
-    let name2 = c .name2 in
+    let joint = c .joint in
     simp (
       ne-eqb _ _ (if1 .left),
       ne-eqb _ _ (if3 .left),
       ne-eqb _ _ (if4 .left),
       ne-eqb _ _ (if5 .left),
-      le-ltb _ _
-          (if6 .left),
+      ne-eqb _ _ (if6 .left),
       lt-ltb _ _ (if7 .taken),
-    ) (name2 .ensures)
+    ) (joint .ensures)
 
 returns-8 : tie.Need-returns-8
 unfolding symbolTurn
@@ -100,8 +98,7 @@ returns-8 c =
       ne-eqb _ _ (if3 .left),
       ne-eqb _ _ (if4 .left),
       ne-eqb _ _ (if5 .left),
-      le-ltb _ _
-          (if6 .left),
+      ne-eqb _ _ (if6 .left),
       le-ltb _ _ (if7 .left),
     ) (digit .ensures)
 

@@ -5,9 +5,9 @@ use mathlib.Core.Path.{sym, _∙_}
 use borrow.Author.Needs.{needs}
 use native.Mathlib.Omega.{arith}
 use borrow.Author.Tests.{lt-ltb, le-ltb}
-use Rattle.scanner.specs.Rules.{codeAt}
-use Rattle.scanner.proofs.Codes.{in-rules}
-use Rattle.scanner.proofs.Jumping.{turn-number, turn-plain}
+use Rattle.form.specs.Inside.Rows.{codeAt}
+use Rattle.form.proofs.NamesRead.{in-names}
+use Rattle.scanner.proofs.RowSearch.{turn-number, turn-plain}
 
 returns : tie.Need-returns
 returns c =
@@ -31,7 +31,7 @@ symbol-requires c κs =
     let start = c .before .before .before in
     let code = c .before .code in
     let if2 = c .if2 in
-    (start .pre .0, in-rules (start .args .pc) (λ e. omega (arith, code .ensures, if2 .left, e)))
+    (start .pre .0, in-names (start .args .pc) (λ e. omega (arith, code .ensures, if2 .left, e)))
 
 returns-3 : tie.Need-returns-3
 returns-3 c =

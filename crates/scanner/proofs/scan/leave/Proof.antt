@@ -19,15 +19,15 @@ sub-k c =
     let start = c .before .before .before .before .before .before in
     let if1 = c .before .if1 in
     let l : 0 < start .args .at .live = omega (arith, if1 .left) in
-    let d = start .pre .1 .0 l in
+    let d = start .pre .1 .1 .0 l in
     search needs
 
-sub-t14 : tie.Need-sub-t14
-sub-t14 c =
+sub-t15 : tie.Need-sub-t15
+sub-t15 c =
     let start = c .before .before .before .before .before .before .before .before .before in
     let if1 = c .before .before .before .before .if1 in
     let l : 0 < start .args .at .live = omega (arith, if1 .left) in
-    let d = start .pre .1 .0 l in
+    let d = start .pre .1 .1 .0 l in
     search needs
 
 returns-2 : tie.Need-returns-2
@@ -47,6 +47,6 @@ leave-spec =
     (λ c. search needs)
     (λ c. search needs)
     (λ c. search needs)
-    sub-t14
+    sub-t15
     (λ c. search needs)
     returns-2)

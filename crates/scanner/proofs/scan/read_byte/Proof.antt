@@ -3,9 +3,9 @@ use Rattle.scanner.proofs.scan.read_byte.Statement.{statement}
 use Rattle.scanner.proofs.scan.read_byte.Tie as tie
 use mathlib.Core.Path.{sym, _∙_}
 use borrow.Author.Needs.{needs}
-use Rattle.scanner.proofs.Taking.{taken-dead, taken-on, taken-opens, taken-entered, taken-left, into-in-rules}
-use Rattle.scanner.proofs.Taking.{number-low}
-use Rattle.scanner.proofs.Taking.{ringed}
+use Rattle.scanner.proofs.ByteRead.{taken-dead, taken-on, taken-opens, taken-entered, taken-left, into-in-names}
+use Rattle.scanner.proofs.ByteRead.{number-low}
+use Rattle.scanner.proofs.ByteRead.{ringed}
 
 turn-at-requires : tie.Need-turn-at-requires
 turn-at-requires c κs =
@@ -20,7 +20,7 @@ enter-requires c κs =
     let turn3 = c .before .before .before .before .turn3 in
     let lies = start .pre .1 .1 .0 .1 in
     let deep = lies .deep in (
-      into-in-rules (start .args .text .now) (start .args .i) (start .args .at) (start .args .opens .now)
+      into-in-names (start .args .text .now) (start .args .i) (start .args .at) (start .args .opens .now)
           (start .args .rests .now) (start .pre .1 .1 .0 .0) _ lies (sym (turn3 .given .1) ∙ turn-at .ensures),
       (
         search needs,
@@ -33,13 +33,13 @@ leave-requires c κs =
     let start = c .before .before .before .before .before .before .before .before .before in
     let lies = start .pre .1 .1 .0 .1 in
     let low = lies .before in (
-      search needs,
+      start .pre .0,
       (
-        ringed (start .args .text .now) (start .args .at .bracket) (start .args .at .depth)
-            (start .args .at .live) (start .args .opens .now) (start .args .rests .now) (lies .kept),
+        search needs,
         (
-          search needs,
-          search needs,
+          ringed (start .args .text .now) (start .args .at .bracket) (start .args .at .depth)
+              (start .args .at .live) (start .args .opens .now) (start .args .rests .now) (lies .kept),
+          (search needs, search needs),
         ),
       ),
     )

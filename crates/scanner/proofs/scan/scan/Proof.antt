@@ -5,16 +5,16 @@ use Prim.Native.Nat.{ℕ, _-_}
 use mathlib.Core.Path.{_≡_, refl, sym, _∙_}
 use borrow.Author.Needs.{needs}
 use lib.ListN.{length, length-replicate}
-use Rattle.scanner.specs.Rules.{rules}
+use Rattle.form.specs.Inside.Rows.{names}
 use Rattle.scanner.proofs.Finishing.{Reading, reading-first, reading-stops, reading-goes, reading-short}
 use Rattle.scanner.proofs.Finishing.{reading-whole}
 
 abbrev Inv-loop : tie.InvT-loop
-Inv-loop text rules₀ opens₀ rests₀ at₀ k₀ i₀ opens rests at k i =
+Inv-loop text names₀ opens₀ rests₀ at₀ k₀ i₀ opens rests at k i =
     (length opens ≡ 4096) × (length rests ≡ 4096) × Reading text i at k opens rests
 
 abbrev μ-loop : tie.MeasureT-loop
-μ-loop text rules₀ opens₀ rests₀ at₀ k₀ i₀ opens rests at k i = length text - i
+μ-loop text names₀ opens₀ rests₀ at₀ k₀ i₀ opens rests at k i = length text - i
 
 loop-holds : tie.Need-loop-holds Inv-loop μ-loop
 loop-holds c =
@@ -32,7 +32,7 @@ slice-aggregate-read-byte-2 c =
     sym (loop .inv .1)
 
 read-byte-requires : tie.Need-read-byte-requires Inv-loop μ-loop
-unfolding rules
+unfolding names
 read-byte-requires c κs =
     let loop = c .before .before .before .before .before .loop in
     let loop-test = c .before .before .before .before .loop-test in
@@ -49,7 +49,7 @@ returns c =
     (loop .inv .2) _ _ _ (loop-test .taken) (enum-told .given .1) (read-byte .ensures)
 
 counted-requires : tie.Need-counted-requires Inv-loop μ-loop
-unfolding rules
+unfolding names
 counted-requires c κs =
     let loop = c .before .before .before .before .before .before .before .before .before .before .before .before .loop in
     let n = loop .inv .2 .few-nodes in
@@ -72,7 +72,7 @@ loop-again c =
     )
 
 code-requires : tie.Need-code-requires Inv-loop μ-loop
-unfolding rules
+unfolding names
 code-requires c κs = refl
 
 returns-2 : tie.Need-returns-2 Inv-loop μ-loop
