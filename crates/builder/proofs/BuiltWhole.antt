@@ -15,9 +15,9 @@ use Rattle.form.proofs.MadeLength.{nodes-length, tests-length}
 use Rattle.builder.specs.Building.{Placed, place, relevel, levels, placed, Region, Holds, Room, Ready}
 use Rattle.builder.specs.Building.{Places, Stacked}
 use Rattle.builder.specs.Building.{LevelReady, Levels, Measured}
-use Rattle.builder.proofs.PlacedTests.{made, small-mod}
-use Rattle.builder.proofs.PlacedPieces.{piece-placed}
-use Rattle.builder.proofs.Growing.{room-at}
+use Rattle.builder.proofs.PlacedByConfigurations.{made, small-mod}
+use Rattle.builder.proofs.PlacedByPrograms.{piece-placed}
+use Rattle.builder.proofs.PlacedGrows.{room-at}
 use Rattle.builder.proofs.Depth.{depth-at}
 use Rattle.builder.proofs.Regions.{sets-right, sets-all}
 use Rattle.builder.proofs.NamedEvents.{named-small}

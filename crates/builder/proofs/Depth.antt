@@ -51,7 +51,8 @@ one-more b w l = go (eqb b 41)
   where
     go :
         (x : Bool)
-        → length (cond (eqb b 32) (cond (eqb (pairOf w) 0) l (set l 0 (pairOf w))) (cond (eqb b 40) (drop 1 l) (cond x (0 ∷ l) (cond (eqb b 44) (set l 0 1) l))))
+        → length (cond (eqb b 32) (cond (eqb (pairOf w) 0) l (set l 0 (pairOf w)))
+        (cond (eqb b 40) (drop 1 l) (cond x (0 ∷ l) (cond (eqb b 44) (set l 0 1) l))))
         ≤ cond x 1 0 + length l
     go x =
         let n : ℕ = cond x 1 0 + length l in

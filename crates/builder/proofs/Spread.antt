@@ -12,7 +12,7 @@ use Rattle.table.specs.Records.{byte, word}
 use Rattle.form.specs.Made.{big, nodesFrom}
 use Rattle.form.proofs.MadeLength.{nodes-length}
 use Rattle.builder.specs.Building.{spread, labelled}
-use Rattle.builder.proofs.Headed.{size-there, word-behind}
+use Rattle.builder.proofs.WrittenSizes.{size-there, word-behind}
 
 -- the second list is the first with kind k for each node that has none
 pub data Spine (k : ℕ) : List ℕ → List ℕ → Type 0 where

@@ -28,6 +28,11 @@ nodeBytes k argument n = k ∷ 0 ∷ (big (argument % 65536) ++ big (n % 65536))
 abbrev pub testBytes : ℕ → ℕ → ℕ → List ℕ
 testBytes k s n = k ∷ (s % 256) ∷ big (n % 65536)
 
+-- the trailer's: N, M, V and the distances
+abbrev pub trailerBytes : ℕ → ℕ → ℕ → List ℕ
+trailerBytes n m v =
+    big (n % 65536) ++ (big (m % 65536) ++ (big (v % 65536) ++ (big ((6 * n + 4 * m) % 65536) ++ big (4 * m % 65536))))
+
 -- a record in front of those that are placed
 abbrev pub withNode : ℕ → ℕ → ℕ → Placed → Placed
 withNode k argument n s = record { nodes = nodeBytes k argument n ++ s .nodes; tests = s .tests; left = s .left }
@@ -149,13 +154,17 @@ place b level w s =
     cond (eqb b 32) e (cond (eqb b 40) o (cond (eqb b 44) c (cond (eqb b 74) n s)))
 
 -- The levels of the brackets that are closed and not yet opened, the innermost first: 0; 1 once a comma is read; 2 for `and`, 3 for `or`.
+-- A blank before the text w names level d if an `and` or an `or` follows.
+abbrev pub withPair : List ℕ → List ℕ → ℕ → List ℕ
+withPair w l d = cond (eqb (pairOf w) 0) l (set l d (pairOf w))
+
 -- Byte b, before the text w:
 unfoldable pub relevel : ℕ → List ℕ → List ℕ → List ℕ
 unfolding pairOf
 relevel b w l =
     cond
     (eqb b 32)
-    (cond (eqb (pairOf w) 0) l (set l 0 (pairOf w)))
+    (withPair w l 0)
     (cond (eqb b 40) (drop 1 l) (cond (eqb b 41) (0 ∷ l) (cond (eqb b 44) (set l 0 1) l)))
 
 unfoldable pub levels : List ℕ → List ℕ

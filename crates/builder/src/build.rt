@@ -9,7 +9,7 @@ ghost use mathlib.Core.Bool.{cond, _||_};
 ghost use mathlib.Core.List.{_++_};
 ghost use Rattle.table.specs.Records.{byte, word};
 ghost use Rattle.form.specs.Made.{big};
-ghost use Rattle.builder.specs.Building.{nodeBytes, testBytes, withNode, withTest, number, joinedSize};
+ghost use Rattle.builder.specs.Building.{nodeBytes, testBytes, trailerBytes, withPair, withNode, withTest, number, joinedSize};
 ghost use Rattle.form.specs.Inside.Rows.{TheNames, formRow, kinds, long, codeAt, nameEnd, kindOf, pairOf};
 ghost use Rattle.builder.specs.Building.{joint, pair, negation, event, opening, labelled, row, choice, await, single};
 ghost use Rattle.builder.specs.Building.{form, name, comma, place as placing, relevel as leveling};
@@ -18,7 +18,6 @@ use form::is_digit;
 use form::names::FIRST_FORM;
 use form::names::FIRST_WORD;
 use form::names::LONG;
-use form::names::NAMES;
 use form::names::PARTS;
 use form::names::PROGRAM;
 use form::names::ROW;
@@ -28,6 +27,7 @@ use form::names::is_named;
 use form::names::kind_named;
 use form::names::name_end;
 use form::names::pair_named;
+use form::names::table_of_names;
 use table::records::wide;
 
 // The first bytes of the nodes and of the configurations that are placed, the bytes where they end, and how many configurations are
@@ -45,7 +45,7 @@ pub fn build(text: &[u8], n: usize, m: usize, v: usize, table: &mut [u8])
     requires { ⌜ Buildable (now text) n m v (length (now table)) ⌝ }
     ensures { λ r. ⌜ Builds (now (text .entry)) n m v (length (now (table .entry))) (now (table .exit)) ⌝ }
 {
-    let names = NAMES;
+    let names = table_of_names();
     let mut levels = [0u8; 8192];
     let mut depth = 8192;
     let mut front = Front {
@@ -184,7 +184,7 @@ fn put_test(table: &mut [u8], at: usize, kind: u8, s: usize, size: usize)
 fn put_trailer(table: &mut [u8], at: usize, n: usize, m: usize, v: usize)
     requires { ⌜ at + 9 < length (now table) ⌝ }
     requires { ⌜ 6 * n + 4 * m < 65536 ⌝ }
-    ensures { λ r. ⌜ now (table .exit) ≡ sets (now (table .entry)) at (big (n % 65536) ++ (big (m % 65536) ++ (big (v % 65536) ++ (big ((6 * n + 4 * m) % 65536) ++ big (4 * m % 65536))))) ⌝ }
+    ensures { λ r. ⌜ now (table .exit) ≡ sets (now (table .entry)) at (trailerBytes n m v) ⌝ }
 {
     put_word(table, at, n);
     put_word(table, at + 2, m);
@@ -437,7 +437,7 @@ fn place(names: &[u8; LONG], b: u8, level: u8, text: &[u8], table: &mut [u8], fr
 // A blank before this text.
 fn name_level(names: &[u8; LONG], text: &[u8], levels: &mut [u8], depth: usize)
     requires { ⌜ TheNames (now names) ⌝ }
-    ensures { λ r. ⌜ now (levels .exit) ≡ cond (eqb (pairOf (now (text .entry))) 0) (now (levels .entry)) (set (now (levels .entry)) depth (pairOf (now (text .entry)))) ⌝ }
+    ensures { λ r. ⌜ now (levels .exit) ≡ withPair (now (text .entry)) (now (levels .entry)) depth ⌝ }
 {
     let kind = pair_named(names, text, 0);
     if kind == 0 {

@@ -1,6 +1,6 @@
 -- Every stack of the reading machine can be completed.
 use Prim.Native.Nat.{ℕ, suc}
-use mathlib.Core.Bool.{Bool, true, false, false≢true}
+use mathlib.Core.Bool.{Bool, true, false}
 use mathlib.Core.Path.{_≡_, refl, ap, sym, _∙_, fun-ext}
 use mathlib.Core.List.{List, [], _∷_, _++_}
 use native.Mathlib.Omega.{arith}
@@ -8,10 +8,10 @@ use lib.Dec.{eqb}
 use borrow.Author.Tests.{eqb-true, eqb-false, eq-eqb, ne-eqb}
 use Rattle.letters.specs.Text.{bytes}
 use Rattle.form.specs.Names.{Part, number, event, test, program, programs, formOf}
-use Rattle.form.specs.Inside.Rows.{codeAt, formRow, nameEnd, codesOf, codes, opens, inName}
+use Rattle.form.specs.Inside.Rows.{codeAt, codesOf, codes, inName}
 use Rattle.form.specs.Inside.Machine.{endByte, Sym, Stack, then, byte, prog, name, parts, conf, inner, joint}
 use Rattle.form.specs.Inside.Machine.{num, tail, syms, Next, dead, on, step, run}
-use Rattle.form.proofs.NamesRead.{codes-more, name-code, name-on, not-first, Opened, opened, codes-inside}
+use Rattle.form.proofs.NamesRead.{codes-more, name-code, name-on, not-first, opened, codes-inside}
 use Rattle.form.proofs.Accepts.{run-byte, run-end}
 
 -- a text for what stands in a form's brackets

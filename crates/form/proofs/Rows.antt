@@ -123,7 +123,8 @@ unfolding starts endsName
 starts-only [] u y = refl
 starts-only (x ∷ l) [] y = go (eqb 40 x) refl
   where
-    go : (b : Bool) → eqb 40 x ≡ b → cond b (cond (eqb x 40 || eqb x 32) true (starts l y)) false ≡ cond b (cond (eqb x 40 || eqb x 32) true (starts l [])) false
+    go : (b : Bool) → eqb 40 x ≡ b → cond b (cond (eqb x 40 || eqb x 32) true (starts l y)) false ≡ cond b
+        (cond (eqb x 40 || eqb x 32) true (starts l [])) false
     go true e = rw (← eqb-true 40 x e)
     go false e = refl
 starts-only (x ∷ l) (b ∷ u) y = rw (starts-only l u y)

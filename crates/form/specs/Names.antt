@@ -47,7 +47,3 @@ opening k = bytes "Jr." ++ (formOf k .name ++ bytes "(")
 -- the words before the last part of a configuration; an event has none
 unfoldable pub words : List (List ℕ)
 words = [] ∷ bytes "not " ∷ bytes "and " ∷ bytes "or " ∷ []
-
-unfoldable pub wordOf : ℕ → List ℕ
-unfolding words
-wordOf k = getD words k []

@@ -15,10 +15,9 @@ pub const FIRST_WORD: usize = 2;
 
 pub const LONG: usize = ROW * (FIRST_FORM + KINDS);
 
-// A text; a program; a configuration behind its bracket; the words of the configurations by kind; the forms by kind. specs/Inside/Rows.antt
-// has the codes from 128 on; zeros fill a row up. Each mention of a constant array copies it, so a call mentions this one once and lends its
-// copy.
-pub const NAMES: [u8; LONG] = *b"\
+// A text; a program; a configuration behind its bracket; the words of the configurations by kind; the forms by kind. The codes from 128 on
+// are below; zeros fill a row up.
+const NAMES: [u8; LONG] = *b"\
     \x80\0\0\0\0\0\0\0\0\0\0\0\0\0\0\0\0\0\0\0\
     Jr.\x81\0\0\0\0\0\0\0\0\0\0\0\0\0\0\0\0\
     \x88 \x89\0\0\0\0\0\0\0\0\0\0\0\0\0\0\0\0\0\
@@ -56,6 +55,13 @@ pub const JOINT: u8 = 137;
 pub const EVENT: u8 = 138;
 
 pub const NUMBER: u8 = 139;
+
+// A copy of the table. Each mention of a constant array copies it, so a call asks for one copy and lends it down.
+pub fn table_of_names() -> [u8; LONG]
+    ensures { λ r. ⌜ TheNames r ⌝ }
+{
+    NAMES
+}
 
 // A name ends with its bracket, a word with a space.
 fn ends_name(x: u8) -> bool

@@ -12,10 +12,10 @@ use crate::room::put_number;
 use form::names::EVENT;
 use form::names::FIRST_FORM;
 use form::names::LONG;
-use form::names::NAMES;
 use form::names::ROW;
 use form::names::TEST;
 use form::names::name_end;
+use form::names::table_of_names;
 use table::nodes::children_of;
 use table::records::argument_at;
 use table::records::kind_at;
@@ -30,7 +30,7 @@ pub fn put_program(table: &[u8], i: usize, room: &mut [u8], at: usize) -> usize
     requires { ⌜ Standing spell (now table) i at ⌝ }
     ensures { λ r. ⌜ Shows spell (now (table .entry)) i (now (room .entry)) (now (room .exit)) at r ⌝ }
 {
-    let names = NAMES;
+    let names = table_of_names();
     put_node(&names, table, i, room, at)
 }
 

@@ -47,7 +47,8 @@ back-none t (suc i) n m h = absurd (omega arith)
 pub back-within : (t : List ℕ) (i n m : ℕ) → back t i n m .at ≤ i
 unfolding back
 back-within t zero n m = omega arith
-back-within t (suc i) n m = go (isOpen (getD t i 0) n) (back t i (nested (getD t i 0) n) (spaced (getD t i 0) n m)) (back-within t i (nested (getD t i 0) n) (spaced (getD t i 0) n m))
+back-within t (suc i) n m = go (isOpen (getD t i 0) n) (back t i (nested (getD t i 0) n) (spaced (getD t i 0) n m))
+    (back-within t i (nested (getD t i 0) n) (spaced (getD t i 0) n m))
   where
     go : (s : Bool) (r : Bracket) → r .at ≤ i → cond s (found i m) r .at ≤ suc i
     go true r h = omega arith

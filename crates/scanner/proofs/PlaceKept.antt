@@ -10,7 +10,7 @@ use lib.ListN.{getD}
 use borrow.Author.Tests.{eqb-true, eqb-false, eq-eqb, ne-eqb, lt-ltb, le-ltb, lt-leb, leb-false}
 use Rattle.form.specs.Inside.Rows.{codeAt, rowAt, formRow, kinds, codes, same, inName, firstName, placeFrom}
 use Rattle.form.proofs.Tested.{both}
-use Rattle.form.proofs.NamesRead.{codes-more, name-code, name-letter, name-from, edge, agree-at, Found, found, Read, read-other}
+use Rattle.form.proofs.NamesRead.{codes-more, name-code, name-letter, name-from, edge, agree-at, Found, found, read-other}
 use Rattle.scanner.specs.declared.rules.Turn.{Turn}
 use Rattle.scanner.specs.declared.rules.Turn.the-variants.{Dead, On, Opens, Into, Out}
 use Rattle.scanner.specs.declared.levels.Level.{Level}

@@ -12,12 +12,12 @@ use crate::rules::code_before;
 use crate::rules::turn_at;
 use form::names::INNER;
 use form::names::LONG;
-use form::names::NAMES;
 use form::names::NUMBER;
 use form::names::PARTS;
 use form::names::PROGRAM;
 use form::names::TEST;
 use form::names::code;
+use form::names::table_of_names;
 
 // What reading a text tells: where it fails, or its nodes, configuration records, and one above its highest event.
 pub enum Scanned {
@@ -247,7 +247,7 @@ fn counted(names: &[u8; LONG], k: Tally, pc: usize, number: usize, b: u8) -> Tal
 pub fn scan(text: &[u8]) -> Scanned
     ensures { λ r. ⌜ Tells (now (text .entry)) r ⌝ }
 {
-    let names = NAMES;
+    let names = table_of_names();
     let mut opens = [0usize; 4096];
     let mut rests = [0usize; 4096];
     let mut at = Place {

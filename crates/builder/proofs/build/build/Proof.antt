@@ -5,7 +5,6 @@ use Prim.Native.Nat.{ℕ}
 use mathlib.Core.Path.{_≡_, refl, sym}
 use native.Mathlib.Omega.{arith}
 use lib.ListN.{length-replicate}
-use Rattle.form.specs.Inside.Rows.{names}
 use Rattle.builder.proofs.BuiltWhole.{Under, under-starts, place-ready, level-ready, under-on, table-built}
 
 abbrev Inv-loop : tie.InvT-loop
@@ -18,18 +17,18 @@ abbrev μ-loop : tie.MeasureT-loop
 -- while i > 0 {
 loop-holds : tie.Need-loop-holds Inv-loop μ-loop
 loop-holds c =
-    let start = c .before .before in
+    let start = c .before .before .before in
     under-starts (start .pre .1) _ _ _ refl (length-replicate {A = ℕ} 8192 0) refl
 
 -- front = place(&names, b, level, &text[rest..], table, front);
 place-requires : tie.Need-place-requires Inv-loop μ-loop
-unfolding names
 place-requires c κs =
-    let start = c .before .before .before .before .before .before .before .before .before .before in
+    let start = c .before .before .before .before .before .before .before .before .before .before .before in
+    let table-of-names = c .before .before .before .before .before .before .before .before .table-of-names in
     let loop = c .before .before .before .before .before .before .before .loop in
     let loop-test = c .before .before .before .before .before .before .loop-test in
     let byte-at = c .before .before .before .byte-at in
-    (refl, rw (byte-at .ensures) (place-ready (start .pre .1) (loop .inv) (loop-test .taken)))
+    (table-of-names .ensures, rw (byte-at .ensures) (place-ready (start .pre .1) (loop .inv) (loop-test .taken)))
 
 -- depth = relevel(&names, b, &text[rest..], &mut levels, depth);
 slice-aggregate-relevel : tie.Need-slice-aggregate-relevel Inv-loop μ-loop
@@ -38,17 +37,17 @@ slice-aggregate-relevel c =
     sym (loop .inv .long)
 
 relevel-requires : tie.Need-relevel-requires Inv-loop μ-loop
-unfolding names
 relevel-requires c κs =
-    let start = c .before .before .before .before .before .before .before .before .before .before .before .before .before .before .before .before in
+    let start = c .before .before .before .before .before .before .before .before .before .before .before .before .before .before .before .before .before in
+    let table-of-names = c .before .before .before .before .before .before .before .before .before .before .before .before .before .before .table-of-names in
     let loop = c .before .before .before .before .before .before .before .before .before .before .before .before .before .loop in
     let loop-test = c .before .before .before .before .before .before .before .before .before .before .before .before .loop-test in
-    (refl, level-ready (start .pre .1) (loop .inv) (loop-test .taken))
+    (table-of-names .ensures, level-ready (start .pre .1) (loop .inv) (loop-test .taken))
 
 -- while i > 0 {
 loop-again : tie.Need-loop-again Inv-loop μ-loop
 loop-again c =
-    let start = c .before .before .before .before .before .before .before .before .before .before .before .before .before .before .before .before .before .before in
+    let start = c .before .before .before .before .before .before .before .before .before .before .before .before .before .before .before .before .before .before .before in
     let loop = c .before .before .before .before .before .before .before .before .before .before .before .before .before .before .before .loop in
     let loop-test = c .before .before .before .before .before .before .before .before .before .before .before .before .before .before .loop-test in
     let byte-at = c .before .before .before .before .before .before .before .before .before .before .before .byte-at in
@@ -82,6 +81,7 @@ build-spec =
     tie.close (tie.spec
     Inv-loop
     μ-loop
+    (λ c κs. search needs)  -- table-of-names-requires: let names = table_of_names();
     (λ c. search needs)  -- mul-put-trailer: node: 6 * n,
     (λ c. search needs)  -- mul-put-trailer-2: middle: 6 * n,
     (λ c. search needs)  -- mul-t17: part: 6 * n + 4 * m,

@@ -2,7 +2,7 @@ use Rattle.builder.proofs.build.joined_size.Statement.{statement}
 use Rattle.builder.proofs.build.joined_size.Tie as tie
 use borrow.Author.Needs.{needs}
 use Rattle.builder.specs.Building.{joinedSize}
-use Rattle.builder.proofs.Headed.{product-small}
+use Rattle.builder.proofs.WrittenSizes.{product-small}
 
 -- 1 + first + word_in(records, long * first + at)
 mul-word-in : tie.Need-mul-word-in

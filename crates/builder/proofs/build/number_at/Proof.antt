@@ -51,8 +51,11 @@ loop-again c =
     let loop-test = c .before .before .before .before .loop-test in
     let is-digit = c .before .before .is-digit in
     let if1 = c .before .if1 in
-    let wide = c .wide in
-    (rw (wide .ensures .0) (number-step (start .args .text .now) (loop .at) (loop .v) (loop-test .taken) (sym (is-digit .ensures) ∙ if1 .taken) ∙ loop .inv .0), search needs)
+    let wide = c .wide in (
+      rw (wide .ensures .0) (number-step (start .args .text .now) (loop .at) (loop .v) (loop-test .taken) (sym (is-digit .ensures) ∙ if1 .taken)
+          ∙ loop .inv .0),
+      search needs,
+    )
 
 -- return v;
 returns : tie.Need-returns Inv-loop μ-loop

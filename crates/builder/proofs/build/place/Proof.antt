@@ -1,8 +1,8 @@
 use Rattle.builder.proofs.build.place.Statement.{statement}
 use Rattle.builder.proofs.build.place.Tie as tie
 use borrow.Author.Needs.{needs}
-use Rattle.builder.proofs.Holding.{ready-in, places-in, places-none}
-use Rattle.builder.proofs.Placing.{place-blank, place-opens, place-separates, place-names, place-none}
+use Rattle.builder.proofs.TableHolds.{ready-in, places-in, places-none}
+use Rattle.builder.proofs.PlacedByFunctions.{place-blank, place-opens, place-separates, place-names, place-none}
 
 -- 32 => place_event(text, 0, table, front),
 place-event-requires : tie.Need-place-event-requires
@@ -65,7 +65,8 @@ returns-5 : tie.Need-returns-5
 returns-5 c =
     let start = c .before .before .before in
     let match = c .match in
-    places-none (λ s. place-none (start .args .b) (start .args .level) (start .args .text .now) s (match .rest .0 .0 .0 .1) (match .rest .0 .0 .1) (match .rest .0 .1) (match .rest .1))
+    places-none (λ s. place-none (start .args .b) (start .args .level) (start .args .text .now) s (match .rest .0 .0 .0 .1) (match .rest .0 .0 .1)
+    (match .rest .0 .1) (match .rest .1))
 
 pub place-spec : {M : Type 1} → statement M
 place-spec =

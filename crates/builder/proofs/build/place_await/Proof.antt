@@ -2,7 +2,7 @@ use Rattle.builder.proofs.build.place_await.Statement.{statement}
 use Rattle.builder.proofs.build.place_await.Tie as tie
 use borrow.Author.Needs.{needs}
 use lib.ListN.{drop}
-use Rattle.builder.proofs.Placing.{await-first, await-second, await-done}
+use Rattle.builder.proofs.PlacedByFunctions.{await-first, await-second, await-done}
 
 -- let next = place_event(text, i, table, front);
 place-event-requires : tie.Need-place-event-requires

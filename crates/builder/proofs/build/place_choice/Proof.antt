@@ -2,8 +2,8 @@ use Rattle.builder.proofs.build.place_choice.Statement.{statement}
 use Rattle.builder.proofs.build.place_choice.Tie as tie
 use borrow.Author.Needs.{needs}
 use lib.ListN.{drop}
-use Rattle.builder.proofs.Holding.{nodes-start, nodes-end, nodes-small}
-use Rattle.builder.proofs.Placing.{choice-first, choice-held, choice-done}
+use Rattle.builder.proofs.TableHolds.{nodes-start, nodes-end, nodes-small}
+use Rattle.builder.proofs.PlacedByFunctions.{choice-first, choice-held, choice-done}
 
 -- let next = place_event(text, i, table, front);
 place-event-requires : tie.Need-place-event-requires

@@ -1,8 +1,8 @@
 use Rattle.builder.proofs.build.place_comma.Statement.{statement}
 use Rattle.builder.proofs.build.place_comma.Tie as tie
 use borrow.Author.Needs.{needs}
-use Rattle.builder.proofs.Holding.{ready-in, places-in, places-none}
-use Rattle.builder.proofs.Placing.{comma-joint, comma-none}
+use Rattle.builder.proofs.TableHolds.{ready-in, places-in, places-none}
+use Rattle.builder.proofs.PlacedByFunctions.{comma-joint, comma-none}
 
 -- return place_joint(table, front);
 place-joint-requires : tie.Need-place-joint-requires

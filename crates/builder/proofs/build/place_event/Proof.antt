@@ -2,8 +2,8 @@ use Rattle.builder.proofs.build.place_event.Statement.{statement}
 use Rattle.builder.proofs.build.place_event.Tie as tie
 use borrow.Author.Needs.{needs}
 use mathlib.Core.Path.{sym, _∙_}
-use Rattle.builder.proofs.Holding.{ready-in, places-in, places-none}
-use Rattle.builder.proofs.Placing.{event-here, event-none}
+use Rattle.builder.proofs.TableHolds.{ready-in, places-in, places-none}
+use Rattle.builder.proofs.PlacedByFunctions.{event-here, event-none}
 
 -- return place_test(table, 0, e, 1, front);
 place-test-requires : tie.Need-place-test-requires
@@ -13,7 +13,8 @@ place-test-requires c κs =
     let is-digit = c .before .before .before .is-digit in
     let if1 = c .before .before .if1 in
     let number-at = c .before .number-at in
-    ready-in (λ n m s h. event-here (start .args .text .now) (start .args .i) (byte-at .result) (byte-at .ensures) s (number-at .result) (sym (is-digit .ensures) ∙ if1 .taken) (number-at .ensures)) (start .pre)
+    ready-in (λ n m s h. event-here (start .args .text .now) (start .args .i) (byte-at .result) (byte-at .ensures) s (number-at .result)
+    (sym (is-digit .ensures) ∙ if1 .taken) (number-at .ensures)) (start .pre)
 
 returns : tie.Need-returns
 returns c =
@@ -23,7 +24,8 @@ returns c =
     let if1 = c .before .before .before .before .before .if1 in
     let number-at = c .before .before .before .before .number-at in
     let place-test = c .before .before .place-test in
-    places-in (λ n m s h. event-here (start .args .text .now) (start .args .i) (byte-at .result) (byte-at .ensures) s (number-at .result) (sym (is-digit .ensures) ∙ if1 .taken) (number-at .ensures)) (place-test .ensures)
+    places-in (λ n m s h. event-here (start .args .text .now) (start .args .i) (byte-at .result) (byte-at .ensures) s (number-at .result)
+    (sym (is-digit .ensures) ∙ if1 .taken) (number-at .ensures)) (place-test .ensures)
 
 -- fn place_event
 returns-2 : tie.Need-returns-2

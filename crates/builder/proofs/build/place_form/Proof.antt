@@ -4,8 +4,8 @@ use Rattle.builder.proofs.build.place_form.Tie as tie
 use borrow.Author.Needs.{needs}
 use mathlib.Core.Path.{sym, _∙_}
 use lib.ListN.{drop}
-use Rattle.builder.proofs.Holding.{ready-in, places-in}
-use Rattle.builder.proofs.Placing.{form-row, form-choice, form-await, form-single}
+use Rattle.builder.proofs.TableHolds.{ready-in, places-in}
+use Rattle.builder.proofs.PlacedByFunctions.{form-row, form-choice, form-await, form-single}
 
 -- return place_row(kind, table, front);
 place-row-requires : tie.Need-place-row-requires
@@ -13,7 +13,8 @@ place-row-requires c κs =
     let start = c .before .before .before .before .before in
     let code = c .before .before .code in
     let if1 = c .before .if1 in
-    ready-in (λ m n s h. form-row (start .args .kind) (start .args .end) (start .pre .1 .0 .0) (drop (start .args .i) (start .args .text .now)) s (sym (code .ensures) ∙ if1 .taken)) (start .pre .1 .1)
+    ready-in (λ m n s h. form-row (start .args .kind) (start .args .end) (start .pre .1 .0 .0) (drop (start .args .i) (start .args .text .now)) s
+    (sym (code .ensures) ∙ if1 .taken)) (start .pre .1 .1)
 
 returns : tie.Need-returns
 returns c =
@@ -21,7 +22,8 @@ returns c =
     let code = c .before .before .before .before .before .code in
     let if1 = c .before .before .before .before .if1 in
     let place-row = c .before .before .place-row in
-    places-in (λ m n s h. form-row (start .args .kind) (start .args .end) (start .pre .1 .0 .0) (drop (start .args .i) (start .args .text .now)) s (sym (code .ensures) ∙ if1 .taken)) (place-row .ensures)
+    places-in (λ m n s h. form-row (start .args .kind) (start .args .end) (start .pre .1 .0 .0) (drop (start .args .i) (start .args .text .now)) s
+    (sym (code .ensures) ∙ if1 .taken)) (place-row .ensures)
 
 -- return place_choice(kind, text, i, table, front);
 place-choice-requires : tie.Need-place-choice-requires
@@ -33,7 +35,8 @@ place-choice-requires c κs =
     let if2 = c .before .before .before .if2 in
     let code3 = c .before .before .code3 in
     let if3 = c .before .if3 in
-    ready-in (λ m n s h. form-choice (start .args .kind) (start .args .end) (start .pre .1 .0 .0) (drop (start .args .i) (start .args .text .now)) s (λ e. if1 .left (code .ensures ∙ e)) (sym (code2 .ensures) ∙ if2 .taken) (sym (code3 .ensures) ∙ if3 .taken)) (start .pre .1 .1)
+    ready-in (λ m n s h. form-choice (start .args .kind) (start .args .end) (start .pre .1 .0 .0) (drop (start .args .i) (start .args .text .now)) s
+    (λ e. if1 .left (code .ensures ∙ e)) (sym (code2 .ensures) ∙ if2 .taken) (sym (code3 .ensures) ∙ if3 .taken)) (start .pre .1 .1)
 
 returns-2 : tie.Need-returns-2
 returns-2 c =
@@ -45,7 +48,8 @@ returns-2 c =
     let code3 = c .before .before .before .before .before .code3 in
     let if3 = c .before .before .before .before .if3 in
     let place-choice = c .before .before .place-choice in
-    places-in (λ m n s h. form-choice (start .args .kind) (start .args .end) (start .pre .1 .0 .0) (drop (start .args .i) (start .args .text .now)) s (λ e. if1 .left (code .ensures ∙ e)) (sym (code2 .ensures) ∙ if2 .taken) (sym (code3 .ensures) ∙ if3 .taken)) (place-choice .ensures)
+    places-in (λ m n s h. form-choice (start .args .kind) (start .args .end) (start .pre .1 .0 .0) (drop (start .args .i) (start .args .text .now)) s
+    (λ e. if1 .left (code .ensures ∙ e)) (sym (code2 .ensures) ∙ if2 .taken) (sym (code3 .ensures) ∙ if3 .taken)) (place-choice .ensures)
 
 -- return place_await(kind, text, i, table, front);
 place-await-requires : tie.Need-place-await-requires
@@ -57,7 +61,8 @@ place-await-requires c κs =
     let if2 = c .before .before .before .if2 in
     let code3 = c .before .before .code3 in
     let if3 = c .before .if3 in
-    ready-in (λ m n s h. form-await (start .args .kind) (start .args .end) (start .pre .1 .0 .0) (drop (start .args .i) (start .args .text .now)) s (λ e. if1 .left (code .ensures ∙ e)) (sym (code2 .ensures) ∙ if2 .taken) (λ e. if3 .left (code3 .ensures ∙ e))) (start .pre .1 .1)
+    ready-in (λ m n s h. form-await (start .args .kind) (start .args .end) (start .pre .1 .0 .0) (drop (start .args .i) (start .args .text .now)) s
+    (λ e. if1 .left (code .ensures ∙ e)) (sym (code2 .ensures) ∙ if2 .taken) (λ e. if3 .left (code3 .ensures ∙ e))) (start .pre .1 .1)
 
 returns-3 : tie.Need-returns-3
 returns-3 c =
@@ -69,7 +74,8 @@ returns-3 c =
     let code3 = c .before .before .before .before .before .code3 in
     let if3 = c .before .before .before .before .if3 in
     let place-await = c .before .before .place-await in
-    places-in (λ m n s h. form-await (start .args .kind) (start .args .end) (start .pre .1 .0 .0) (drop (start .args .i) (start .args .text .now)) s (λ e. if1 .left (code .ensures ∙ e)) (sym (code2 .ensures) ∙ if2 .taken) (λ e. if3 .left (code3 .ensures ∙ e))) (place-await .ensures)
+    places-in (λ m n s h. form-await (start .args .kind) (start .args .end) (start .pre .1 .0 .0) (drop (start .args .i) (start .args .text .now)) s
+    (λ e. if1 .left (code .ensures ∙ e)) (sym (code2 .ensures) ∙ if2 .taken) (λ e. if3 .left (code3 .ensures ∙ e))) (place-await .ensures)
 
 -- place_single(names, kind, end, text, i, table, front)
 place-single-requires : tie.Need-place-single-requires
@@ -78,8 +84,14 @@ place-single-requires c κs =
     let code = c .before .before .before .before .code in
     let if1 = c .before .before .before .if1 in
     let code2 = c .before .before .code2 in
-    let if2 = c .before .if2 in
-    (start .pre .0, (start .pre .1 .0, ready-in (λ m n s h. form-single (start .args .kind) (start .args .end) (start .pre .1 .0 .0) (drop (start .args .i) (start .args .text .now)) s (λ e. if1 .left (code .ensures ∙ e)) (λ e. if2 .left (code2 .ensures ∙ e))) (start .pre .1 .1)))
+    let if2 = c .before .if2 in (
+      start .pre .0,
+      (
+        start .pre .1 .0,
+        ready-in (λ m n s h. form-single (start .args .kind) (start .args .end) (start .pre .1 .0 .0)
+            (drop (start .args .i) (start .args .text .now)) s (λ e. if1 .left (code .ensures ∙ e)) (λ e. if2 .left (code2 .ensures ∙ e))) (start .pre .1 .1),
+      ),
+    )
 
 returns-4 : tie.Need-returns-4
 returns-4 c =
@@ -89,7 +101,8 @@ returns-4 c =
     let code2 = c .before .before .before .before .before .code2 in
     let if2 = c .before .before .before .before .if2 in
     let place-single = c .before .before .place-single in
-    places-in (λ m n s h. form-single (start .args .kind) (start .args .end) (start .pre .1 .0 .0) (drop (start .args .i) (start .args .text .now)) s (λ e. if1 .left (code .ensures ∙ e)) (λ e. if2 .left (code2 .ensures ∙ e))) (place-single .ensures)
+    places-in (λ m n s h. form-single (start .args .kind) (start .args .end) (start .pre .1 .0 .0) (drop (start .args .i) (start .args .text .now)) s
+    (λ e. if1 .left (code .ensures ∙ e)) (λ e. if2 .left (code2 .ensures ∙ e))) (place-single .ensures)
 
 pub place-form-spec : {M : Type 1} → statement M
 place-form-spec =

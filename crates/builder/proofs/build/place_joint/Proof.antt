@@ -1,8 +1,8 @@
 use Rattle.builder.proofs.build.place_joint.Statement.{statement}
 use Rattle.builder.proofs.build.place_joint.Tie as tie
 use borrow.Author.Needs.{needs}
-use Rattle.builder.proofs.Holding.{nodes-end, ready-in, places-in}
-use Rattle.builder.proofs.Placing.{joint-here}
+use Rattle.builder.proofs.TableHolds.{nodes-end, ready-in, places-in}
+use Rattle.builder.proofs.PlacedByFunctions.{joint-here}
 
 -- let size = joined_size(&table[node..middle], 6, 4);
 part-joined-size-end : tie.Need-part-joined-size-end

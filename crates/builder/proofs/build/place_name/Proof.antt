@@ -5,8 +5,8 @@ use borrow.Author.Needs.{needs}
 use Prim.Native.Nat.{_+_, _-_, _*_}
 use native.Mathlib.Omega.{arith}
 use Rattle.form.proofs.Rows.{name-after}
-use Rattle.builder.proofs.Holding.{ready-in, places-in}
-use Rattle.builder.proofs.Placing.{name-here, behind-is}
+use Rattle.builder.proofs.TableHolds.{ready-in, places-in}
+use Rattle.builder.proofs.PlacedByFunctions.{name-here, behind-is}
 
 -- let end = name_end(names, row);
 name-end-requires : tie.Need-name-end-requires
@@ -31,8 +31,15 @@ place-form-requires c κs =
     let kind-of = c .before .before .before .kind-of in
     let wide = c .before .before .wide in
     let name-end = c .before .name-end in
-    let e = name-end .ensures in
-    (start .pre .0, ((rw (wide .ensures .0) at (e .0), e .1), ready-in (λ n m s h. name-here (start .args .text .now) (kind-of .result) (2 + (name-end .result - 20 * (6 + wide .result))) s (kind-of .ensures .0) (behind-is (kind-of .result) (name-end .result) (wide .result) (name-end .ensures .0) (wide .ensures .0))) (start .pre .1)))
+    let e = name-end .ensures in (
+      start .pre .0,
+      (
+        (rw (wide .ensures .0) at (e .0), e .1),
+        ready-in
+            (λ n m s h. name-here (start .args .text .now) (kind-of .result) (2 + (name-end .result - 20 * (6 + wide .result))) s (kind-of .ensures .0)
+            (behind-is (kind-of .result) (name-end .result) (wide .result) (name-end .ensures .0) (wide .ensures .0))) (start .pre .1),
+      ),
+    )
 
 -- fn place_name
 returns : tie.Need-returns
@@ -42,7 +49,8 @@ returns c =
     let wide = c .before .before .before .before .before .wide in
     let name-end = c .before .before .before .before .name-end in
     let place-form = c .before .before .place-form in
-    places-in (λ n m s h. name-here (start .args .text .now) (kind-of .result) (2 + (name-end .result - 20 * (6 + wide .result))) s (kind-of .ensures .0) (behind-is (kind-of .result) (name-end .result) (wide .result) (name-end .ensures .0) (wide .ensures .0))) (place-form .ensures)
+    places-in (λ n m s h. name-here (start .args .text .now) (kind-of .result) (2 + (name-end .result - 20 * (6 + wide .result))) s
+    (kind-of .ensures .0) (behind-is (kind-of .result) (name-end .result) (wide .result) (name-end .ensures .0) (wide .ensures .0))) (place-form .ensures)
 
 pub place-name-spec : {M : Type 1} → statement M
 place-name-spec =

@@ -1,7 +1,7 @@
 use Rattle.builder.proofs.build.place_node.Statement.{statement}
 use Rattle.builder.proofs.build.place_node.Tie as tie
 use borrow.Author.Needs.{needs}
-use Rattle.builder.proofs.Holding.{node-fits, node-placed}
+use Rattle.builder.proofs.TableHolds.{node-fits, node-placed}
 use mathlib.Core.Path.{refl}
 
 -- put_node(table, at, kind, argument, size);

@@ -1,8 +1,8 @@
 use Rattle.builder.proofs.build.place_not.Statement.{statement}
 use Rattle.builder.proofs.build.place_not.Tie as tie
 use borrow.Author.Needs.{needs}
-use Rattle.builder.proofs.Holding.{tests-end, ready-in, places-in}
-use Rattle.builder.proofs.Placing.{negation-here}
+use Rattle.builder.proofs.TableHolds.{tests-end, ready-in, places-in}
+use Rattle.builder.proofs.PlacedByFunctions.{negation-here}
 
 -- let size = 1 + word_in(&table[part..end], 2);
 part-word-in-end : tie.Need-part-word-in-end

@@ -2,16 +2,17 @@ use Rattle.builder.proofs.build.place_opening.Statement.{statement}
 use Rattle.builder.proofs.build.place_opening.Tie as tie
 use borrow.Author.Needs.{needs}
 use mathlib.Core.Path.{sym, _∙_}
-use Rattle.builder.proofs.Holding.{ready-in, places-in, places-none, ready-first, ready-second, places-then}
-use Rattle.builder.proofs.Placing.{opening-pair, opening-not, opening-none}
-use Rattle.builder.proofs.Growing.{grows-pair}
+use Rattle.builder.proofs.TableHolds.{ready-in, places-in, places-none, ready-first, ready-second, places-then}
+use Rattle.builder.proofs.PlacedByFunctions.{opening-pair, opening-not, opening-none}
+use Rattle.builder.proofs.PlacedGrows.{grows-pair}
 
 -- let next = place_event(text, 0, table, front);
 place-event-requires : tie.Need-place-event-requires
 place-event-requires c κs =
     let start = c .before .before .before .before in
     let if1 = c .before .if1 in
-    ready-first (grows-pair (start .args .level)) (ready-in (λ n m s h. opening-pair (start .args .level) (start .args .text .now) s (if1 .taken)) (start .pre .1))
+    ready-first (grows-pair (start .args .level)) (ready-in (λ n m s h. opening-pair (start .args .level) (start .args .text .now) s (if1 .taken))
+    (start .pre .1))
 
 -- return place_pair(level, table, next);
 place-pair-requires : tie.Need-place-pair-requires
@@ -19,7 +20,8 @@ place-pair-requires c κs =
     let start = c .before .before .before .before .before .before .before .before in
     let if1 = c .before .before .before .before .before .if1 in
     let place-event = c .before .before .before .place-event in
-    ready-second (grows-pair (start .args .level)) (ready-in (λ n m s h. opening-pair (start .args .level) (start .args .text .now) s (if1 .taken)) (start .pre .1)) (place-event .ensures)
+    ready-second (grows-pair (start .args .level)) (ready-in (λ n m s h. opening-pair (start .args .level) (start .args .text .now) s (if1 .taken))
+    (start .pre .1)) (place-event .ensures)
 
 returns : tie.Need-returns
 returns c =
@@ -27,7 +29,8 @@ returns c =
     let if1 = c .before .before .before .before .before .before .before .before .if1 in
     let place-event = c .before .before .before .before .before .before .place-event in
     let place-pair = c .before .before .place-pair in
-    places-in (λ n m s h. opening-pair (start .args .level) (start .args .text .now) s (if1 .taken)) (places-then (grows-pair (start .args .level)) (place-event .ensures) (place-pair .ensures))
+    places-in (λ n m s h. opening-pair (start .args .level) (start .args .text .now) s (if1 .taken))
+    (places-then (grows-pair (start .args .level)) (place-event .ensures) (place-pair .ensures))
 
 -- return place_not(table, front);
 place-not-requires : tie.Need-place-not-requires

@@ -1,8 +1,8 @@
 use Rattle.builder.proofs.build.place_pair.Statement.{statement}
 use Rattle.builder.proofs.build.place_pair.Tie as tie
 use borrow.Author.Needs.{needs}
-use Rattle.builder.proofs.Holding.{tests-end, ready-in, places-in}
-use Rattle.builder.proofs.Placing.{pair-here}
+use Rattle.builder.proofs.TableHolds.{tests-end, ready-in, places-in}
+use Rattle.builder.proofs.PlacedByFunctions.{pair-here}
 
 -- let size = joined_size(&table[part..end], 4, 2);
 part-joined-size-end : tie.Need-part-joined-size-end

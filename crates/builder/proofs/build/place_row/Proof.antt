@@ -1,8 +1,8 @@
 use Rattle.builder.proofs.build.place_row.Statement.{statement}
 use Rattle.builder.proofs.build.place_row.Tie as tie
 use borrow.Author.Needs.{needs}
-use Rattle.builder.proofs.Holding.{nodes-start, nodes-end, nodes-small}
-use Rattle.builder.proofs.Placing.{row-first, row-held, row-done}
+use Rattle.builder.proofs.TableHolds.{nodes-start, nodes-end, nodes-small}
+use Rattle.builder.proofs.PlacedByFunctions.{row-first, row-held, row-done}
 
 -- let next = place_joint(table, front);
 place-joint-requires : tie.Need-place-joint-requires

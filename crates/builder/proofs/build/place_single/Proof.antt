@@ -3,8 +3,8 @@ use Rattle.builder.proofs.build.place_single.Tie as tie
 use borrow.Author.Needs.{needs}
 use mathlib.Core.List.{[]}
 use lib.ListN.{drop}
-use Rattle.builder.proofs.Holding.{nodes-end, ready-in, places-in}
-use Rattle.builder.proofs.Placing.{single-here, part-is}
+use Rattle.builder.proofs.TableHolds.{nodes-end, ready-in, places-in}
+use Rattle.builder.proofs.PlacedByFunctions.{single-here, part-is}
 
 -- let size = own_size(&table[node..middle], kind);
 part-own-size-end : tie.Need-part-own-size-end
@@ -31,7 +31,8 @@ returns c =
     let number-at = c .before .before .before .before .number-at in
     let place-node = c .before .before .place-node in
     places-in (λ n m s h. single-here h (own-size .result) (start .args .kind) (number-at .result) (drop (start .args .i) (start .args .text .now))
-    (part-is (start .args .kind) (start .args .end) (start .pre .1 .0 .0) [] s (has-part .ensures)) (own-size .ensures) (number-at .ensures)) (place-node .ensures)
+    (part-is (start .args .kind) (start .args .end) (start .pre .1 .0 .0) [] s (has-part .ensures)) (own-size .ensures) (number-at .ensures))
+    (place-node .ensures)
 
 pub place-single-spec : {M : Type 1} → statement M
 place-single-spec =

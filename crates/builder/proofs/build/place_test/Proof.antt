@@ -1,7 +1,7 @@
 use Rattle.builder.proofs.build.place_test.Statement.{statement}
 use Rattle.builder.proofs.build.place_test.Tie as tie
 use borrow.Author.Needs.{needs}
-use Rattle.builder.proofs.Holding.{test-fits, test-placed}
+use Rattle.builder.proofs.TableHolds.{test-fits, test-placed}
 use mathlib.Core.Path.{refl}
 
 -- put_test(table, at, kind, e, size);

@@ -9,14 +9,16 @@ sub-inner : tie.Need-sub-inner
 sub-inner c =
     let start = c .before .before .before in
     let match = c .match in
-    room-to-close (start .args .b) (start .args .text .now) (start .args .levels .now) (start .args .depth) (start .pre .1 .0) (match .keys3) (start .pre .1 .1) (start .pre .1 .2)
+    room-to-close (start .args .b) (start .args .text .now) (start .args .levels .now) (start .args .depth) (start .pre .1 .0) (match .keys3)
+    (start .pre .1 .1) (start .pre .1 .2)
 
 -- levels[inner] = 0;
 slice-write-levels : tie.Need-slice-write-levels
 slice-write-levels c =
     let start = c .before .before .before in
     let match = c .match in
-    let o = room-to-close (start .args .b) (start .args .text .now) (start .args .levels .now) (start .args .depth) (start .pre .1 .0) (match .keys3) (start .pre .1 .1) (start .pre .1 .2) in
+    let o = room-to-close (start .args .b) (start .args .text .now) (start .args .levels .now) (start .args .depth) (start .pre .1 .0) (match .keys3)
+    (start .pre .1 .1) (start .pre .1 .2) in
     let h = start .pre .1 .1 .within in
     omega arith
 
@@ -33,7 +35,8 @@ returns-2 c =
     let start = c .before .before .before .before .before in
     let match = c .before .before .match in
     let outer = c .outer in
-    level-opens (start .args .b) (start .args .text .now) (start .args .levels .now) (start .args .depth) (outer .result) (match .keys2) (outer .ensures .0) (outer .ensures .1)
+    level-opens (start .args .b) (start .args .text .now) (start .args .levels .now) (start .args .depth) (outer .result) (match .keys2)
+    (outer .ensures .0) (outer .ensures .1)
 
 returns-3 : tie.Need-returns-3
 returns-3 c =
@@ -52,7 +55,8 @@ returns-5 : tie.Need-returns-5
 returns-5 c =
     let start = c .before .before .before in
     let match = c .match in
-    level-other (start .args .b) (start .args .text .now) (start .args .levels .now) (start .args .depth) (match .rest .0 .0 .0 .1) (match .rest .0 .0 .1) (match .rest .0 .1) (match .rest .1)
+    level-other (start .args .b) (start .args .text .now) (start .args .levels .now) (start .args .depth) (match .rest .0 .0 .0 .1)
+    (match .rest .0 .0 .1) (match .rest .0 .1) (match .rest .1)
 
 pub relevel-spec : {M : Type 1} → statement M
 relevel-spec =

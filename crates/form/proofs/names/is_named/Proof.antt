@@ -35,7 +35,8 @@ returns-2 c =
     let loop = c .before .before .before .before .before .loop in
     let loop-test = c .before .before .before .before .loop-test in
     let if2 = c .if2 in
-    sym (loop .inv ∙ starts-not table (start .args .text .now) (loop .p) (loop .i) (rw length-names (search needs)) (loop-test .taken) (λ e. if2 .taken (rw (start .pre .0) e)))
+    sym (loop .inv ∙ starts-not table (start .args .text .now) (loop .p) (loop .i) (rw length-names (search needs)) (loop-test .taken)
+    (λ e. if2 .taken (rw (start .pre .0) e)))
 
 -- return true;
 returns-3 : tie.Need-returns-3 Inv-loop μ-loop
@@ -46,7 +47,8 @@ returns-3 c =
     let if2 = c .before .before .if2 in
     let ends-name = c .before .ends-name in
     let if3 = c .if3 in
-    sym (loop .inv ∙ starts-ends table (start .args .text .now) (loop .p) (loop .i) (rw length-names (search needs)) (loop-test .taken) (rw (start .pre .0) at (if2 .left)) (ap endsName (sym (ap (λ (l : List ℕ). getD l (loop .p) 0) (start .pre .0))) ∙ (sym (ends-name .ensures) ∙ if3 .taken)))
+    sym (loop .inv ∙ starts-ends table (start .args .text .now) (loop .p) (loop .i) (rw length-names (search needs)) (loop-test .taken)
+    (rw (start .pre .0) at (if2 .left)) (ap endsName (sym (ap (λ (l : List ℕ). getD l (loop .p) 0) (start .pre .0))) ∙ (sym (ends-name .ensures) ∙ if3 .taken)))
 
 -- while i < text.len() {
 loop-again : tie.Need-loop-again Inv-loop μ-loop
@@ -57,7 +59,8 @@ loop-again c =
     let if2 = c .before .before .if2 in
     let ends-name = c .before .ends-name in
     let if3 = c .if3 in
-    simp add-one (loop .inv ∙ starts-on table (start .args .text .now) (loop .p) (loop .i) (rw length-names (search needs)) (loop-test .taken) (rw (start .pre .0) at (if2 .left)) (ap endsName (sym (ap (λ (l : List ℕ). getD l (loop .p) 0) (start .pre .0))) ∙ (sym (ends-name .ensures) ∙ if3 .left)))
+    simp add-one (loop .inv ∙ starts-on table (start .args .text .now) (loop .p) (loop .i) (rw length-names (search needs)) (loop-test .taken)
+    (rw (start .pre .0) at (if2 .left)) (ap endsName (sym (ap (λ (l : List ℕ). getD l (loop .p) 0) (start .pre .0))) ∙ (sym (ends-name .ensures) ∙ if3 .left)))
 
 -- pub fn is_named
 returns-4 : tie.Need-returns-4 Inv-loop μ-loop

@@ -27,8 +27,11 @@ returns c =
     let loop = c .before .before .before .before .loop in
     let loop-test = c .before .before .before .loop-test in
     let ends-name = c .before .ends-name in
-    let if1 = c .if1 in
-    (simp add-one (sym (loop .inv .0 ∙ end-here table (loop .p) (rw length-names (loop-test .taken)) (ap endsName (sym (ap (λ (l : List ℕ). getD l (loop .p) 0) (start .pre .0))) ∙ (sym (ends-name .ensures) ∙ if1 .taken)))), search needs)
+    let if1 = c .if1 in (
+      simp add-one (sym (loop .inv .0 ∙ end-here table (loop .p) (rw length-names (loop-test .taken))
+          (ap endsName (sym (ap (λ (l : List ℕ). getD l (loop .p) 0) (start .pre .0))) ∙ (sym (ends-name .ensures) ∙ if1 .taken)))),
+      search needs,
+    )
 
 -- while p < LONG {
 loop-again : tie.Need-loop-again Inv-loop μ-loop
@@ -37,8 +40,11 @@ loop-again c =
     let loop = c .before .before .before .before .loop in
     let loop-test = c .before .before .before .loop-test in
     let ends-name = c .before .ends-name in
-    let if1 = c .if1 in
-    (simp add-one (loop .inv .0 ∙ end-on table (loop .p) (rw length-names (loop-test .taken)) (ap endsName (sym (ap (λ (l : List ℕ). getD l (loop .p) 0) (start .pre .0))) ∙ (sym (ends-name .ensures) ∙ if1 .left))), search needs)
+    let if1 = c .if1 in (
+      simp add-one (loop .inv .0 ∙ end-on table (loop .p) (rw length-names (loop-test .taken))
+          (ap endsName (sym (ap (λ (l : List ℕ). getD l (loop .p) 0) (start .pre .0))) ∙ (sym (ends-name .ensures) ∙ if1 .left))),
+      search needs,
+    )
 
 -- pub fn name_end
 returns-2 : tie.Need-returns-2 Inv-loop μ-loop

@@ -3,7 +3,7 @@ use Rattle.printer.proofs.room.put_name.Statement.{statement}
 use Rattle.printer.proofs.room.put_name.Tie as tie
 use borrow.Author.Needs.{needs}
 use Prim.Native.Nat.{_-_, _≤_}
-use mathlib.Core.Path.{_≡_, sym, ap, _∙_}
+use mathlib.Core.Path.{_≡_}
 use native.Mathlib.Omega.{arith}
 use lib.ListN.{take, drop}
 use Rattle.form.specs.Inside.Rows.{names as table}
@@ -52,15 +52,17 @@ loop-again c =
     let loop = c .before .before .before .before .before .before .loop in
     let loop-test = c .before .before .before .before .before .loop-test in
     let put-byte = c .before .before .put-byte in
-    let e = length-names in
-    (omega arith, omega arith, puts-on table (start .args .begin) (loop .p) (loop .inv .0) (omega arith) (loop .inv .2) (rw (start .pre .0) at (put-byte .ensures)))
+    let e = length-names in (
+      omega arith,
+      omega arith,
+      puts-on table (start .args .begin) (loop .p) (loop .inv .0) (omega arith) (loop .inv .2)
+          (rw (start .pre .0) at (put-byte .ensures)),
+    )
 
 -- pub fn put_name
 same-length : tie.Need-same-length Inv-loop μ-loop
 same-length c =
-    let start = c .before .before .before in
     let loop = c .before .loop in
-    let loop-test = c .loop-test in
     puts-long (loop .inv .2)
 
 returns : tie.Need-returns Inv-loop μ-loop

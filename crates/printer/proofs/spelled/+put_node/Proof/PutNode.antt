@@ -83,8 +83,10 @@ module _ (t : ℕ) where
       let kind-at = c .before .before .before .kind-at in
       let children-of = c .before .before .children-of in
       let if1 = c .before .if1 in
-      let count = ap children (sym (kind-at .ensures .0)) ∙ children-of .ensures in
-      (omega (arith, first-less (start .pre .1 .1) (λ z. if1 .left (sym count ∙ z))), (start .pre .1 .0, first-part (start .pre .1 .1) (put-head .ensures) (λ z. if1 .left (sym count ∙ z))))
+      let count = ap children (sym (kind-at .ensures .0)) ∙ children-of .ensures in (
+        omega (arith, first-less (start .pre .1 .1) (λ z. if1 .left (sym count ∙ z))),
+        (start .pre .1 .0, first-part (start .pre .1 .1) (put-head .ensures) (λ z. if1 .left (sym count ∙ z))),
+      )
 
   -- return put(room, first, b")");
   put-requires-2 : Of lts.Need-put-requires-2
@@ -145,8 +147,12 @@ module _ (t : ℕ) where
       let put3 = c .before .before .before .before .put3 in
       let second-at = c .before .second-at in
       let count = ap children (sym (kind-at .ensures .0)) ∙ children-of .ensures in
-      let there = second-part (start .pre .1 .1) (λ z. if1 .left (sym count ∙ z)) (λ z. if2 .left (sym count ∙ z)) (put-head .ensures) (put-node .ensures) (put3 .ensures) in
-      rw (second-at .ensures) (omega (arith, second-less (start .pre .1 .1) (λ z. if1 .left (sym count ∙ z)) (λ z. if2 .left (sym count ∙ z))), (start .pre .1 .0, there))
+      let there = second-part (start .pre .1 .1) (λ z. if1 .left (sym count ∙ z)) (λ z. if2 .left (sym count ∙ z)) (put-head .ensures)
+      (put-node .ensures) (put3 .ensures) in
+      rw (second-at .ensures) (
+        omega (arith, second-less (start .pre .1 .1) (λ z. if1 .left (sym count ∙ z)) (λ z. if2 .left (sym count ∙ z))),
+        (start .pre .1 .0, there),
+      )
 
   -- put(room, second, b")")
   put-requires-4 : Of lts.Need-put-requires-4
@@ -163,7 +169,8 @@ module _ (t : ℕ) where
       let put-node2 = c .before .before .before .before .put-node2 in
       let count = ap children (sym (kind-at .ensures .0)) ∙ children-of .ensures in
       let second = rw (second-at .ensures) at (put-node2 .ensures) in
-      two-closes (start .pre .1 .1) (λ z. if1 .left (sym count ∙ z)) (λ z. if2 .left (sym count ∙ z)) (put-head .ensures) (put-node .ensures) (put3 .ensures) second
+      two-closes (start .pre .1 .1) (λ z. if1 .left (sym count ∙ z)) (λ z. if2 .left (sym count ∙ z)) (put-head .ensures) (put-node .ensures)
+      (put3 .ensures) second
 
   -- pub fn put_node
   returns-3 : Of lts.Need-returns-3

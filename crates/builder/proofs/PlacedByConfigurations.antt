@@ -20,7 +20,7 @@ use Rattle.builder.specs.Building.{levels, placed}
 use Rattle.builder.proofs.ReadDigits.{past-decimal, begins-decimal, number-decimal, number-ends}
 use Rattle.builder.proofs.Begins.{begins-test}
 use Rattle.builder.proofs.LevelsKept.{levels-close, levels-blank, levels-and, levels-or, levels-test}
-use Rattle.builder.proofs.Headed.{weight-there, joined-tests}
+use Rattle.builder.proofs.WrittenSizes.{weight-there, joined-tests}
 
 abbrev pub made : List ℕ → List ℕ → ℕ → Placed
 made a b l = record { nodes = a; tests = b; left = l }
@@ -139,7 +139,8 @@ test-placed m (says-event {s = s} h) x j w b l = rw (placed-number m s x) (event
 test-placed m (says-not {c = c} {u = u} d) x j w b l =
     let y : List ℕ = u ++ (41 ∷ x) in
     let h : placed m (41 ∷ x) .left ≡ j + 1 + weight c = ap (λ s. s .left) (reads-close m x) ∙ (l ∙ omega arith) in
-    let t : event y (placed m y) ≡ overTest c (j + 1) (placed m x) = test-placed m d (41 ∷ x) (j + 1) (omega arith) refl h ∙ ap (overTest c (j + 1)) (reads-close m x) in
+    let t : event y (placed m y) ≡ overTest c (j + 1) (placed m x) = test-placed m d (41 ∷ x) (j + 1) (omega arith) refl h ∙ ap (overTest c (j + 1))
+    (reads-close m x) in
     simp append-assoc
     (no-event (bytes "(not " ++ y) _ refl
     ∙ (reads-not m y (levels x) (levels-test d (41 ∷ x) ∙ levels-close x) (begins-test d (41 ∷ x))
@@ -150,7 +151,8 @@ test-placed m (says-and {c = c} {d = c′} {u = u} {v = v} d e) x j w b l =
     let n = begins-test e (41 ∷ x) in
     let i : ℕ = j + 1 + weight c in
     let h : placed m (41 ∷ x) .left ≡ i + weight c′ = ap (λ s. s .left) (reads-close m x) ∙ (l ∙ omega arith) in
-    let g : placed m z ≡ overTest c′ i (placed m x) = reads-and m v′ ∙ (test-placed m e (41 ∷ x) i (omega arith) refl h ∙ ap (overTest c′ i) (reads-close m x)) in
+    let g : placed m z ≡ overTest c′ i (placed m x) = reads-and m v′ ∙
+    (test-placed m e (41 ∷ x) i (omega arith) refl h ∙ ap (overTest c′ i) (reads-close m x)) in
     let f = test-placed m d z (j + 1) (omega arith) refl (ap (λ s. s .left) g) in
     let k : levels (u ++ z) ≡ 2 ∷ levels x = levels-test d z ∙ (levels-and v′ (omega arith) ∙ ap (λ l. set l 0 2) (levels-test e (41 ∷ x) ∙ levels-close x)) in
     simp append-assoc (around m 2 c c′ j i (u ++ z) z (levels x) (placed m x) (omega arith) k f g ∙ and-placed c c′ j i (placed m x) w)
@@ -160,7 +162,8 @@ test-placed m (says-or {c = c} {d = c′} {u = u} {v = v} d e) x j w b l =
     let n = begins-test e (41 ∷ x) in
     let i : ℕ = j + 1 + weight c in
     let h : placed m (41 ∷ x) .left ≡ i + weight c′ = ap (λ s. s .left) (reads-close m x) ∙ (l ∙ omega arith) in
-    let g : placed m z ≡ overTest c′ i (placed m x) = reads-or m v′ ∙ (test-placed m e (41 ∷ x) i (omega arith) refl h ∙ ap (overTest c′ i) (reads-close m x)) in
+    let g : placed m z ≡ overTest c′ i (placed m x) = reads-or m v′ ∙
+    (test-placed m e (41 ∷ x) i (omega arith) refl h ∙ ap (overTest c′ i) (reads-close m x)) in
     let f = test-placed m d z (j + 1) (omega arith) refl (ap (λ s. s .left) g) in
     let k : levels (u ++ z) ≡ 3 ∷ levels x = levels-test d z ∙ (levels-or v′ (omega arith) ∙ ap (λ l. set l 0 3) (levels-test e (41 ∷ x) ∙ levels-close x)) in
     simp append-assoc (around m 3 c c′ j i (u ++ z) z (levels x) (placed m x) (omega arith) k f g ∙ or-placed c c′ j i (placed m x) w)

@@ -27,11 +27,11 @@ use Rattle.builder.specs.Building.{placed}
 use Rattle.builder.proofs.ReadDigits.{begins-decimal, number-decimal, number-ends}
 use Rattle.builder.proofs.Begins.{begins-test, begins}
 use Rattle.builder.proofs.LevelsKept.{levels-number, levels-close, levels-test, levels-kept}
-use Rattle.builder.proofs.Headed.{size-there}
-use Rattle.builder.proofs.PlacedTests.{made, overTest, placed-number, reads-close, test-placed}
-use Rattle.builder.proofs.PlacedForms.{over, Enclosed, reads, comma-last, comma-more, singled, Joined, joined-last}
-use Rattle.builder.proofs.PlacedForms.{joint-is, Row, seq-row}
-use Rattle.builder.proofs.PlacedForms.{par-row, joined-more, row-placed, await-placed, choice-placed}
+use Rattle.builder.proofs.WrittenSizes.{size-there}
+use Rattle.builder.proofs.PlacedByConfigurations.{made, overTest, placed-number, reads-close, test-placed}
+use Rattle.builder.proofs.PlacedByNames.{over, Enclosed, reads, comma-last, comma-more, singled, Joined, joined-last}
+use Rattle.builder.proofs.PlacedByNames.{joint-is, Row, seq-row}
+use Rattle.builder.proofs.PlacedByNames.{par-row, joined-more, row-placed, await-placed, choice-placed}
 
 -- equal by parts
 alike : {a b t u : List ℕ} {j l : ℕ} → a ≡ b → t ≡ u → j ≡ l → made a t j ≡ made b u l
@@ -208,11 +208,13 @@ module _ (m : ℕ) where
       comma-last m (w ++ (41 ∷ x)) (levels x) (begins e _) (end-levels e x) ∙ at-close q w x jq g (omega arith) (omega arith) (h ∙ omega arith) in
       let first : placed m (v ++ zq) ≡ over p jp (over q jq s) =
       f zq jp (omega arith) (omega arith) (ap (λ r. r .left) second) ∙ ap (over p jp) second in
-      let both : placed m zp ≡ made (255 ∷ 0 ∷ 0 ∷ 0 ∷ (big (1 + size p + size q) ++ (nodesFrom jp p ++ (nodesFrom jq q ++ s .nodes)))) (testsOf p ++ (testsOf q ++ s .tests)) jp =
+      let both : placed m zp ≡ made (255 ∷ 0 ∷ 0 ∷ 0 ∷ (big (1 + size p + size q) ++ (nodesFrom jp p ++ (nodesFrom jq q ++ s .nodes))))
+      (testsOf p ++ (testsOf q ++ s .tests)) jp =
       comma-more m (v ++ zq) (levels x) (begins d _) (levels-kept d zq ∙ last-levels e x)
       ∙ (ap joint first ∙ joint-is jp (size q) p (nodesFrom jq q ++ s .nodes) (testsOf p ++ (testsOf q ++ s .tests)) jp (size-there jq q (s .nodes)) n) in
       let tested = test-placed m t zp j (omega arith) refl (ap (λ r. r .left) both) ∙ ap (overTest c j) both in
-      rw is (choice-placed k c j (1 + size p + size q) jp jq p q (s .nodes) (testsOf p ++ (testsOf q ++ s .tests)) (u ++ zp) jp (placed m (u ++ zp)) tested (omega arith))
+      rw is (choice-placed k c j (1 + size p + size q) jp jq p q (s .nodes) (testsOf p ++ (testsOf q ++ s .tests)) (u ++ zp) jp
+      (placed m (u ++ zp)) tested (omega arith))
 
   enclosed-chosen :
       {c : Config} {p q : Program} {u v w : List ℕ}

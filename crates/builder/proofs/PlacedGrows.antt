@@ -94,7 +94,8 @@ grows-row k s =
 -- a choice has the records of its event
 pub choice-length : (k : ℕ) (w : List ℕ) (s : Placed) → length (choice k w s .nodes) ≡ length (event w s .nodes)
 unfolding choice
-choice-length k w s = length-sets (labelled k (event w s .nodes)) 2 (big (event w s .left % 65536)) ∙ length-spread (length (event w s .nodes)) k 0 (event w s .nodes)
+choice-length k w s = length-sets (labelled k (event w s .nodes)) 2 (big (event w s .left % 65536)) ∙ length-spread (length (event w s .nodes)) k 0
+    (event w s .nodes)
 
 pub grows-choice : (k : ℕ) (w : List ℕ) (s : Placed) → Grows (event w s) (choice k w s)
 unfolding choice

@@ -21,9 +21,9 @@ use Rattle.builder.specs.Building.{Placed, number, joint, event, opening
 use Rattle.builder.specs.Building.{await, ownSize, single}
 use Rattle.builder.specs.Building.{behindJ, form, name, comma, place, levels, placed}
 use Rattle.builder.proofs.LevelsKept.{levels-blank}
-use Rattle.builder.proofs.Headed.{size-there, kind-small, joined-nodes}
+use Rattle.builder.proofs.WrittenSizes.{size-there, kind-small, joined-nodes}
 use Rattle.builder.proofs.Spread.{Spine, ends, goes, labels}
-use Rattle.builder.proofs.PlacedTests.{made, small-mod, overTest, no-event}
+use Rattle.builder.proofs.PlacedByConfigurations.{made, small-mod, overTest, no-event}
 
 -- the records of p in front of others, its first configuration being number j
 abbrev pub over : Program → ℕ → Placed → Placed

@@ -8,11 +8,11 @@ use lib.Seq.{sets, length-sets}
 use Rattle.builder.specs.declared.build.Front.{Front}
 use Rattle.builder.specs.Building.{Placed, nodeBytes, testBytes, withNode, withTest, Region, Holds, Room}
 use Rattle.builder.specs.Building.{Ready, Places}
-use Rattle.builder.proofs.PlacedTests.{made}
+use Rattle.builder.proofs.PlacedByConfigurations.{made}
 use Rattle.builder.proofs.Regions.{put-front, put-before, put-behind, put-inside, region-start, region-end}
 use Rattle.builder.proofs.Regions.{region-is, part-back}
 use Rattle.builder.proofs.Regions.{sets-all}
-use Rattle.builder.proofs.Growing.{Grows, room-before}
+use Rattle.builder.proofs.PlacedGrows.{Grows, room-before}
 
 -- what is placed, seen as a part of the slice
 module _ {n m : ℕ} {t : List ℕ} {f : Front} {s : Placed} (h : Holds n m t f s) where

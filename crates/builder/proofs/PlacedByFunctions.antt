@@ -18,9 +18,9 @@ use Rattle.builder.specs.Building.{negation, event}
 use Rattle.builder.specs.Building.{opening, labelled, row, choice, await, hasPart, ownSize, single, behindJ}
 use Rattle.builder.specs.Building.{form, name}
 use Rattle.builder.specs.Building.{comma, place, Holds, Room, Ready, Places}
-use Rattle.builder.proofs.Growing.{room-before, length-spread, grows-row-joint, choice-length, grows-choice}
-use Rattle.builder.proofs.Growing.{grows-await}
-use Rattle.builder.proofs.Holding.{nodes-part, tests-part, nodes-anew}
+use Rattle.builder.proofs.PlacedGrows.{room-before, length-spread, grows-row-joint, choice-length, grows-choice}
+use Rattle.builder.proofs.PlacedGrows.{grows-await}
+use Rattle.builder.proofs.TableHolds.{nodes-part, tests-part, nodes-anew}
 
 byte-of-drop : (text : List ℕ) (i : ℕ) → byte (drop i text) 0 ≡ byte text i
 byte-of-drop text i = getD-drop i text 0 0 ∙ ap (byte text) (add-zero i)
