@@ -16,7 +16,7 @@ use Rattle.junior.specs.Term.{Term, done, nothing, stop, atom, generate,
 use Rattle.junior.specs.Term.{repeat0, repeat1, when0, when1, when2, until0, until*, until2, control, local}
 use Rattle.junior.specs.Term.{prog, fresh, leave}
 use Rattle.junior.specs.Trace.{Place, Act, did-atom, did-generate, decided, waits, scope-answered}
-use Rattle.junior.specs.Rules.{Result, sign, Rewrites, r1, r1-on, r2, r3, r4, r4-on, r5, r8, r9, r10}
+use Rattle.junior.specs.Rules.{Allowed, left-first, Result, sign, Rewrites, r1, r1-on, r2, r3, r4, r4-on, r5, r8, r9, r10}
 use Rattle.junior.specs.Rules.{r11, r12, r13, r4-loop, r5-loop, r14, r15, r4-repeat, r5-repeat, r16, r17}
 use Rattle.junior.specs.Rules.{r17-on, r18, r19, r19-on, r20, r21, r22, r23, r24, r25, r26, r27, r28, r29, r30}
 use Rattle.junior.specs.Rules.{r31, r31-on, r32, r33, r34, r35-39}
@@ -205,7 +205,7 @@ module _ (around : ℕ → ℕ → Type 0) where
   known-fresh p c = rw (prog-fresh p) c
 
   -- a pass with k behind it
-  pass : {free : Type 0} {P : Place} {t : Term} {E : Env} {r : Result} (k : List Act) → Rewrites free P t E r
+  pass : {free : Allowed} {P : Place} {t : Term} {E : Env} {r : Result} (k : List Act) → Rewrites free P t E r
       → Known (prog t) (P .node)
       → Activations around k
       → Left (r .flag) (r .to) (P .node) (r .env .now) k
@@ -245,7 +245,7 @@ module _ (around : ℕ → ℕ → Type 0) where
       (y .0, (left-earlier k α t _ (apart (between d) (omega arith)) (grows d) o, y .1))
   pass k (r12 {p = p} {r = r} d n) c a h =
       (pass k d (known-fresh p (known-in c (λ m n x. x))) a (part r _ _ _ k (λ o. o) (omega arith) h) .0, tt)
-  pass k (r13 {p = p} {l = l} {r = r} d e) c a h =
+  pass k (r13 {p = p} {l = l} {r = r} f d e) c a h =
       let b = pass k e c a h in
       rw (append-assoc l (r .acts) k) (pass (r .acts ++ k) d (known-fresh p (known-in c (λ m n x. x))) (b .0) tt .0, tt)
   pass k (r4-loop {l = l} {r = r} d e) c a h =
@@ -299,7 +299,7 @@ module _ (around : ℕ → ℕ → Type 0) where
       let y = pass (m ++ k) d (known-in c (λ m n x. x)) (x, a) o in
       rw (append-assoc (r .acts) m k) (y .0, (answers-after (r .acts) (m ++ k) (P .node) (inl refl), y .1))
 
-  instant : {free : Type 0} {t : Term} {E : Env} {n : ℕ} {r : Result} → Instant free t E n r → Known (prog t) 0
+  instant : {free : Allowed} {t : Term} {E : Env} {n : ℕ} {r : Result} → Instant free t E n r → Known (prog t) 0
       → Activations around (r .acts) × Owes t 0 (E .now) (r .acts)
   unfolding Activations Silent
   instant (r47 {r = r} d h) c =
@@ -316,14 +316,14 @@ module _ (around : ℕ → ℕ → Type 0) where
       let (a, o) = instant i (rw (kept d) c) in
       pass (s .acts) d c a (subst⁻¹ (λ α. Left α (r .to) 0 (r .env .now) (s .acts)) h o)
 
-pub activations : {free : Type 0} {t : Term} {E : Env} {n : ℕ} {r : Result} → Instant free t E n r
+pub activations : {free : Allowed} {t : Term} {E : Env} {n : ℕ} {r : Result} → Instant free t E n r
     → Activations (UntilAround (prog t) 0) (r .acts)
 activations {t = t} i = instant (UntilAround (prog t) 0) i (record { known = λ m n x. x }) .0
 
 -- An Until around it does make a difference: with event 0 handed in, Repeat(2, Until(0, Local(1, Stop), Nothing)) runs the Local's body
 -- twice in one instant, and both times it stops.
 pub stops-twice : (r : Result) × (l : List Act)
-    × Instant ⊥ (fresh (Repeat 2 (Until (Event 0) (Local 1 Stop) Nothing))) (handed-in (put 0 true none)) 1 r
+    × Instant left-first (fresh (Repeat 2 (Until (Event 0) (Local 1 Stop) Nothing))) (handed-in (put 0 true none)) 1 r
     × (r .acts ≡ scope-answered 2 STOP false ∷ l)
     × Answers 2 l
 unfolding fresh put test fixed eval leave prog Answers

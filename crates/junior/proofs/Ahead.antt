@@ -14,7 +14,7 @@ use Rattle.junior.specs.declared.Flag.the-variants.{SUSP}
 use Rattle.junior.specs.Configuration.{Config, Env, with-event, verdict, test, eval}
 use Rattle.junior.specs.Term.{Term}
 use Rattle.junior.specs.Trace.{Place, root, inside, Act}
-use Rattle.junior.specs.Rules.{Result, Rewrites}
+use Rattle.junior.specs.Rules.{Allowed, Result, Rewrites}
 use Rattle.junior.specs.Course.{_⊆_}
 use Rattle.junior.specs.Decided.{last-status, last-answers, by-scope, finished}
 use Rattle.junior.proofs.Verdicts.{CanCome, lasts, larger, as-it-is}
@@ -65,7 +65,7 @@ pub told : (c : Config) {E : Env} {X : Events} {b : Bool} → test c E ≡ verdi
 told c {E} {X} v a = lasts c E X v (ahead-comes E X a)
 
 -- what is ahead after a pass is ahead before it
-pub back : {free : Type 0} {P : Place} {t : Term} {E : Env} {r : Result} {X : Events} → Rewrites free P t E r
+pub back : {free : Allowed} {P : Place} {t : Term} {E : Env} {r : Result} {X : Events} → Rewrites free P t E r
     → Ahead (r .env) X
     → Ahead E X
 back d a =
@@ -77,7 +77,7 @@ back d a =
     }
 
 -- the pass's own acts included, for they answer for no scope around it
-pub earlier : {free : Type 0} {P : Place} {t : Term} {E : Env} {r : Result} (F : Events) (k : List Act)
+pub earlier : {free : Allowed} {P : Place} {t : Term} {E : Env} {r : Result} (F : Events) (k : List Act)
     → Rewrites free P t E r
     → Around P
     → Ahead (r .env) (finished F (last-answers k) P)

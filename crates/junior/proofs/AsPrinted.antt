@@ -14,7 +14,7 @@ use Rattle.junior.specs.Configuration.{Env, with-event, verdict}
 use Rattle.junior.specs.Program.{Program}
 use Rattle.junior.specs.Term.{Term, local, prog, fresh, leave}
 use Rattle.junior.specs.Trace.{Place, Act, did-atom, did-generate, decided, waits, scope-answered}
-use Rattle.junior.specs.Rules.{Result, again, sign, Rewrites, r1, r1-on, r2, r3, r4, r4-on, r5, r8, r10, r11}
+use Rattle.junior.specs.Rules.{left-first, Result, again, sign, Rewrites, r1, r1-on, r2, r3, r4, r4-on, r5, r8, r10, r11}
 use Rattle.junior.specs.Rules.{r12, r13, r4-loop, r5-loop, r14, r15, r4-repeat, r5-repeat, r16, r17, r17-on}
 use Rattle.junior.specs.Rules.{r18, r19, r19-on, r20, r21, r22, r23, r24, r25, r26, r27, r28, r29, r30, r31}
 use Rattle.junior.specs.Rules.{r31-on, r32, r33, r34, r35-39}
@@ -143,7 +143,7 @@ scope-as-printed false TERM present s t t′ h d = rule38 d (inl refl)
 scope-as-printed true TERM present s t t′ h d = rule39 d (inl refl)
 
 pub as-printed : {P : Place} {t : Term} {E : Env} {r : Result}
-    → Rewrites ⊥ P t E r
+    → Rewrites left-first P t E r
     → reads t ∣ E —[ r .flag doing deeds (r .acts) ]→ reads (r .to) ∣ r .env
 unfolding reads deeds
 as-printed r1 = rule1
@@ -159,7 +159,7 @@ as-printed (r10 h d) = rw reads-leave (rule10 h (as-printed d))
 as-printed (r11 h d) = rw reads-leave (rule11 h (as-printed d))
 as-printed (r12 d h) =
     rw (reads-leave, leaves-on, kept d, prog-fresh) (rule12 (rw reads-fresh at (as-printed d)) h)
-as-printed (r13 d e) = rw deeds-++ (rule13 (rw reads-fresh at (as-printed d)) (as-printed e))
+as-printed (r13 f d e) = rw deeds-++ (rule13 (rw reads-fresh at (as-printed d)) (as-printed e))
 as-printed (r4-loop d e) = rw deeds-++ (rule4 (as-printed d) (as-printed e))
 as-printed (r5-loop d h) = rw (reads-leave, leaves-on, kept d) (rule5 (as-printed d) h)
 as-printed r14 = rule14 {n = 0} (omega arith)
@@ -196,7 +196,7 @@ as-printed (r35-39 {b = b} {s = s} {t = t} {r = r} d) =
     rw deeds-scope (scope-as-printed b (r .flag) (r .env .now s) s t (r .to) refl (as-printed d))
 
 pub instant-as-printed : {t : Term} {E : Env} {n : ℕ} {r : Result}
-    → Instant ⊥ t E n r
+    → Instant left-first t E n r
     → reads t ∣ E —[ r .flag doing deeds (r .acts) ]— n passes→ reads (r .to) ∣ r .env
 instant-as-printed (r47 d h) = rule47 (as-printed d) h
 instant-as-printed (r48 d f m i) = rw deeds-++ (rule48 (rw f at (as-printed d)) m (instant-as-printed i))

@@ -10,7 +10,7 @@ use Rattle.junior.specs.Configuration.{Event, Env}
 use Rattle.junior.specs.Program.{size}
 use Rattle.junior.specs.Term.{Term, prog, leave}
 use Rattle.junior.specs.Trace.{Place, root, Act, scope-answered, generations}
-use Rattle.junior.specs.Rules.{Result, Rewrites, r1, r1-on, r2, r3, r4, r4-on, r5, r8, r9, r10, r11, r12, r13}
+use Rattle.junior.specs.Rules.{Allowed, Result, Rewrites, r1, r1-on, r2, r3, r4, r4-on, r5, r8, r9, r10, r11, r12, r13}
 use Rattle.junior.specs.Rules.{r4-loop, r5-loop, r14, r15, r4-repeat, r5-repeat, r16, r17, r17-on, r18, r19}
 use Rattle.junior.specs.Rules.{r19-on, r20, r21, r22, r23, r24, r25, r26, r27, r28, r29, r30, r31, r31-on, r32}
 use Rattle.junior.specs.Rules.{r33, r34, r35-39}
@@ -41,7 +41,7 @@ module _ (F : Events) where
   part r u i j k g f h = (h .0, part-open r u i j (last-answers k) g f (h .1))
 
   -- a pass with k behind it
-  pass-right : {free : Type 0} {P : Place} {t : Term} {E : Env} {r : Result} (k : List Act) → Rewrites free P t E r
+  pass-right : {free : Allowed} {P : Place} {t : Term} {E : Env} {r : Result} (k : List Act) → Rewrites free P t E r
       → Around P
       → Going (E .now) t
       → Ahead (r .env) (finished F (last-answers k) P)
@@ -95,7 +95,7 @@ module _ (F : Events) where
   pass-right k (r12 {p = p} {r = r} d n) c g a h =
       let f = fresh-going _ p in
       (pass-right k d (further (omega arith) c) f a (part r _ _ _ k (stands d f) (λ o. o) h) .0, tt)
-  pass-right k (r13 {p = p} {t = t} {l = l} {r = r} d e) c g a h =
+  pass-right k (r13 {p = p} {t = t} {l = l} {r = r} f d e) c g a h =
       let f = fresh-going _ p in
       let b = pass-right k e c tt a h in
       let o = rest-open t _ _ (over-rest t (stands d f)) in
@@ -167,14 +167,14 @@ module _ (F : Events) where
       let own = elsewhere (between d) (m ++ k) (P .node) (omega arith) in
       rw (append-assoc (r .acts) m k) (y .0, (λ e. own ∙ p (grows d s (put-at s b (E .now) ∙ e)), y .1))
 
-  pass-back : {free : Type 0} {t : Term} {E : Env} {r : Result} (k : List Act) → Rewrites free root t E r
+  pass-back : {free : Allowed} {t : Term} {E : Env} {r : Result} (k : List Act) → Rewrites free root t E r
       → Going (E .now) t
       → Ahead (r .env) F × Holds k (r .to) 0
       → Ahead E F × Holds (r .acts ++ k) t 0
   pass-back k d g (a, h) = (back d a, pass-right k d around-root g a h)
 
 -- an instant that generates nothing once the end is declared
-instant-right : {free : Type 0} {t : Term} {E : Env} {n : ℕ} {r : Result} → Instant free t E n r
+instant-right : {free : Allowed} {t : Term} {E : Env} {n : ℕ} {r : Result} → Instant free t E n r
     → Going (E .now) t
     → (E .eoi ≡ true → (E .move ≡ false) × (generations (r .acts) ≡ []))
     → Ahead E (r .env .now) × Holds (r .env .now) (r .acts) t 0
@@ -196,7 +196,7 @@ instant-right (r49 {r = r} {s = s} d h m i) g q =
     let (a, k) = instant-right i g′ (λ e. absurd (never e)) in
     pass-back (s .env .now) (s .acts) d g (record { more = a .more; same = λ e. absurd (never e) }, k)
 
-pub decided-right : {free : Type 0} {t : Term} {E : Env} {n : ℕ} {r : Result} → Instant free t E n r
+pub decided-right : {free : Allowed} {t : Term} {E : Env} {n : ℕ} {r : Result} → Instant free t E n r
     → AtRest t
     → E .eoi ≡ false
     → DecidedRight (r .env .now) (r .acts)

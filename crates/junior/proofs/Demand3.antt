@@ -2,6 +2,7 @@
 use mathlib.Core.Path.{refl}
 use Rattle.events.specs.Events.{Events}
 use Rattle.junior.specs.Term.{Term, prog}
+use Rattle.junior.specs.Rules.{left-first}
 use Rattle.junior.specs.Figures.{LoopsStop}
 use Rattle.junior.specs.AtRest.{AtRest}
 use Rattle.junior.specs.Demand3.{Demand3}
@@ -13,7 +14,7 @@ use Rattle.junior.proofs.Instants.{within-passes, ends}
 
 pub demand-3 : (t : Term) (X : Events) → LoopsStop (prog t) → AtRest t → Demand3 t X
 demand-3 t X o a = record {
-  ends = ends ⊥ t o a X;
+  ends = ends left-first t o a X;
   settled = λ i. record {
     soon = within-passes i o a;
     rest = leaves-rest i a;

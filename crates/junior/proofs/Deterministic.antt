@@ -7,7 +7,7 @@ use Rattle.junior.specs.Configuration.{Event, Env, declared-end, unmoved
 use Rattle.junior.specs.Term.{Term, prog, seq0, seq2, loop1, repeat1, when1, when2, until0, until*, until2}
 use Rattle.junior.specs.Term.{control}
 use Rattle.junior.specs.Trace.{Place, decided}
-use Rattle.junior.specs.Rules.{Result, under, after, joined, left-scope, Rewrites, r1, r1-on, r2, r3, r4, r4-on}
+use Rattle.junior.specs.Rules.{left-first, Result, under, after, joined, left-scope, Rewrites, r1, r1-on, r2, r3, r4, r4-on}
 use Rattle.junior.specs.Rules.{r5, r8, r10, r11, r12, r13, r4-loop, r5-loop, r14, r15, r4-repeat, r5-repeat}
 use Rattle.junior.specs.Rules.{r16, r17, r17-on, r18, r19, r19-on, r20, r21, r22, r23, r24, r25, r26, r27, r28}
 use Rattle.junior.specs.Rules.{r29, r30, r31, r31-on, r32, r33, r34, r35-39}
@@ -17,11 +17,11 @@ same-flag : {r s : Result} → r ≡ s → r .flag ≡ s .flag
 same-flag x = ap (λ r. r .flag) x
 
 -- what runs in the environment that s left runs in the one that r left, r being s
-from : {P : Place} {t : Term} {r s u : Result} → r ≡ s → Rewrites ⊥ P t (s .env) u → Rewrites ⊥ P t (r .env) u
-from {P} {t} {u = u} x d = subst⁻¹ (λ r. Rewrites ⊥ P t (r .env) u) x d
+from : {P : Place} {t : Term} {r s u : Result} → r ≡ s → Rewrites left-first P t (s .env) u → Rewrites left-first P t (r .env) u
+from {P} {t} {u = u} x d = subst⁻¹ (λ r. Rewrites left-first P t (r .env) u) x d
 
 -- by one rule twice, the answers are one as the parts' are; by two rules, a flag or a test would have to be two
-pub one-result : {P : Place} {t : Term} {E : Env} {r s : Result} → Rewrites ⊥ P t E r → Rewrites ⊥ P t E s → r ≡ s
+pub one-result : {P : Place} {t : Term} {E : Env} {r s : Result} → Rewrites left-first P t E r → Rewrites left-first P t E s → r ≡ s
 one-result r1 r1 = refl
 one-result r1-on r1-on = refl
 one-result r2 r2 = refl
@@ -48,9 +48,9 @@ one-result (r11 h d) (r10 h′ d′) = absurd (h refl)
 one-result (r11 {α = α} {t = t} h d) (r11 h′ d′) =
     ap (λ r. joined α (r .flag) t (r .to) (r .env) (r .acts)) (one-result d d′)
 one-result (r12 d h) (r12 d′ h′) = ap (under loop1) (one-result d d′)
-one-result (r12 d h) (r13 d′ e) = absurd (h (same-flag (one-result d d′)))
-one-result (r13 d e) (r12 d′ h) = absurd (h (sym (same-flag (one-result d d′))))
-one-result (r13 d e) (r13 d′ e′) =
+one-result (r12 d h) (r13 f d′ e) = absurd (h (same-flag (one-result d d′)))
+one-result (r13 f d e) (r12 d′ h) = absurd (h (sym (same-flag (one-result d d′))))
+one-result (r13 f d e) (r13 f′ d′ e′) =
     let x = one-result d d′ in
     ap₂ (λ r. after (r .acts)) x (one-result e (from x e′))
 one-result (r4-loop d e) (r4-loop d′ e′) =
@@ -128,7 +128,7 @@ one-result (r29 d h) (r30 d′ e) = absurd (h (same-flag (one-result d d′)))
 one-result (r30 d e) (r29 d′ h) = absurd (h (sym (same-flag (one-result d d′))))
 one-result (r30 {P = P} {c = c} {q = q} d e) (r30 {E′ = F} {r = s} d′ e′) =
     let x = one-result d d′ in
-    let y = one-result e (from x (subst⁻¹ (λ t. Rewrites ⊥ P (until* c t q) F s) (ap (λ r. r .to) x) e′)) in
+    let y = one-result e (from x (subst⁻¹ (λ t. Rewrites left-first P (until* c t q) F s) (ap (λ r. r .to) x) e′)) in
     ap₂ (λ r. after (r .acts)) x y
 one-result (r31 {P = P} {E = E} {c = c} {t = t} s h d) (r31 s′ h′ d′) =
     ap (λ r. after (decided P c true E ∷ []) (under (until2 c (prog t)) r)) (one-result d d′)
@@ -151,8 +151,8 @@ one-result (r34 s) (r34 s′) = refl
 one-result (r35-39 {P = P} {E = E} {b = b} {s = s} d) (r35-39 d′) = ap (left-scope P b s E) (one-result d d′)
 
 pub one-outcome : {t : Term} {E : Env} {m n : ℕ} {r s : Result}
-    → Instant ⊥ t E m r
-    → Instant ⊥ t E n s
+    → Instant left-first t E m r
+    → Instant left-first t E n s
     → (m ≡ n) × (r ≡ s)
 one-outcome (r47 d h) (r47 d′ h′) = (refl, one-result d d′)
 one-outcome (r47 d h) (r48 d′ f m i) = absurd (h (same-flag (one-result d d′) ∙ f))
@@ -160,12 +160,12 @@ one-outcome (r47 d h) (r49 d′ f m i) = absurd (h (same-flag (one-result d d′
 one-outcome (r48 d f m i) (r47 d′ h) = absurd (h (sym (same-flag (one-result d d′)) ∙ f))
 one-outcome (r48 d f m i) (r48 {n = n} {s = s} d′ f′ m′ i′) =
     let x = one-result d d′ in
-    let o = one-outcome i (subst⁻¹ (λ r. Instant ⊥ (r .to) (declared-end (r .env)) n s) x i′) in
+    let o = one-outcome i (subst⁻¹ (λ r. Instant left-first (r .to) (declared-end (r .env)) n s) x i′) in
     (ap suc (o .0), ap₂ (λ r. after (r .acts)) x (o .1))
 one-outcome (r48 d f m i) (r49 d′ f′ m′ i′) = let x = one-result d d′ in (cc, cc)
 one-outcome (r49 d f m i) (r47 d′ h) = absurd (h (sym (same-flag (one-result d d′)) ∙ f))
 one-outcome (r49 d f m i) (r48 d′ f′ m′ i′) = let x = one-result d d′ in (cc, cc)
 one-outcome (r49 d f m i) (r49 {n = n} {s = s} d′ f′ m′ i′) =
     let x = one-result d d′ in
-    let o = one-outcome i (subst⁻¹ (λ r. Instant ⊥ (r .to) (unmoved (r .env)) n s) x i′) in
+    let o = one-outcome i (subst⁻¹ (λ r. Instant left-first (r .to) (unmoved (r .env)) n s) x i′) in
     (ap suc (o .0), ap₂ (λ r. after (r .acts)) x (o .1))

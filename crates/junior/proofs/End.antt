@@ -14,7 +14,7 @@ use Rattle.junior.specs.Term.{Term, done, nothing, stop, atom, generate,
 use Rattle.junior.specs.Term.{repeat0, repeat1, when0, when1, when2, until0, until*, until2, control, local}
 use Rattle.junior.specs.Term.{leave}
 use Rattle.junior.specs.Trace.{Place, Act, decided, scope-answered, atom-of, event-of, collect, generations}
-use Rattle.junior.specs.Rules.{Result, sign, Rewrites, r1, r1-on, r2, r3, r4, r4-on, r5, r8, r9, r10, r11, r12}
+use Rattle.junior.specs.Rules.{Allowed, Result, sign, Rewrites, r1, r1-on, r2, r3, r4, r4-on, r5, r8, r9, r10, r11, r12}
 use Rattle.junior.specs.Rules.{r13, r4-loop, r5-loop, r14, r15, r4-repeat, r5-repeat, r16, r17, r17-on, r18}
 use Rattle.junior.specs.Rules.{r19, r19-on, r20, r21, r22, r23, r24, r25, r26, r27, r28, r29, r30, r31, r31-on}
 use Rattle.junior.specs.Rules.{r32, r33, r34, r35-39}
@@ -34,7 +34,7 @@ use Rattle.junior.proofs.Grows.{end-kept, unchanged, quiet, quiet-uncha
 γ-answered TERM TERM h k = TERM≢SUSP
 
 -- with the end declared every test is decided
-pub ended : {free : Type 0} {P : Place} {t : Term} {E : Env} {r : Result}
+pub ended : {free : Allowed} {P : Place} {t : Term} {E : Env} {r : Result}
     → Rewrites free P t E r
     → E .eoi ≡ true
     → r .flag ≢ SUSP
@@ -50,7 +50,7 @@ ended (r9 {r = r} {s = s} f d′ d) e = γ-answered (r .flag) (s .flag) (ended d
 ended (r10 {β = β} {r = r} h d) e = γ-answered (r .flag) β (ended d e) h
 ended (r11 {α = α} {r = r} h d) e = γ-answered α (r .flag) h (ended d e)
 ended (r12 d h) e = ended d e
-ended (r13 d d′) e = ended d′ (end-kept d ∙ e)
+ended (r13 f d d′) e = ended d′ (end-kept d ∙ e)
 ended (r4-loop d d′) e = ended d′ (end-kept d ∙ e)
 ended (r5-loop d h) e = ended d e
 ended r14 e = TERM≢SUSP
@@ -137,7 +137,7 @@ sign-kept b now α h f = rw f (go b now h)
     go true now h = refl
 
 -- a pass that generates nothing, with another behind it
-behind : {free : Type 0} {P : Place} {t : Term} {E : Env} {r : Result}
+behind : {free : Allowed} {P : Place} {t : Term} {E : Env} {r : Result}
     → Rewrites free P t E r
     → (s : Result)
     → generations (r .acts ++ s .acts) ≡ []
@@ -148,7 +148,7 @@ behind {r = r} d s q b =
     subst (λ F. Blocked (F .now) (s .to)) (unchanged d a) (b k)
 
 -- what a pass that generates nothing leaves suspended, waits
-pub blocks : {free : Type 0} {P : Place} {t : Term} {E : Env} {r : Result}
+pub blocks : {free : Allowed} {P : Place} {t : Term} {E : Env} {r : Result}
     → Rewrites free P t E r
     → generations (r .acts) ≡ []
     → r .flag ≡ SUSP
@@ -176,7 +176,7 @@ blocks (r10 {β = β} {r = r} h d) q f =
 blocks (r11 {α = α} {r = r} h d) q f =
     rw leave-susp (λ g. absurd (h (δ₁-susp α (r .flag) f g)), λ g. blocks d q (δ₂-susp α (r .flag) f g))
 blocks (r12 d h) q f = rw leave-susp (blocks d q f)
-blocks (r13 {r = r} d e) q f = behind d r q (λ k. blocks e k f)
+blocks (r13 {r = r} x d e) q f = behind d r q (λ k. blocks e k f)
 blocks (r4-loop {r = r} d e) q f = behind d r q (λ k. blocks e k f)
 blocks (r5-loop d h) q f = rw leave-susp (blocks d q f)
 blocks r14 q f = TERM≢SUSP f
@@ -211,7 +211,7 @@ blocks (r35-39 {E = E} {b = b} {s = s} {r = r} d) q f =
     rw (leave-susp, sign-kept b (r .env .now s) (r .flag) same f) (blocks d k f)
 
 -- so where a pass answers SUSP and moved nothing, all that is left waits
-pub blocked : {free : Type 0} {P : Place} {t : Term} {E : Env} {r : Result}
+pub blocked : {free : Allowed} {P : Place} {t : Term} {E : Env} {r : Result}
     → Rewrites free P t E r
     → r .flag ≡ SUSP
     → r .env .move ≡ false
@@ -245,7 +245,7 @@ idle-++ {l = l} {k = k} h i j =
     }
 
 -- what waits is idle once the end is declared: its tests are read, and what follows them is left for the next instant
-pub idles : {free : Type 0} {P : Place} {t : Term} {E : Env} {r : Result}
+pub idles : {free : Allowed} {P : Place} {t : Term} {E : Env} {r : Result}
     → Rewrites free P t E r
     → E .eoi ≡ true
     → Blocked (E .now) t
@@ -273,7 +273,7 @@ idles (r11 {α = α} h d) e b =
     let i = idles d e (b .1 refl) in
     record { stops = rw (i .stops) (γ-stop α h); no-atom = i .no-atom; no-event = i .no-event }
 idles (r12 d h) e b = absurd b
-idles (r13 d d′) e b = absurd b
+idles (r13 f d d′) e b = absurd b
 idles (r4-loop d d′) e b = absurd (TERM≢STOP (idles d e b .stops))
 idles (r5-loop d h) e b = idles d e b
 idles r14 e b = absurd b
@@ -311,7 +311,7 @@ idles (r35-39 d) e b =
     idle-++ (i .stops) i idle-scope
 
 -- the pass after the end is declared, wherever it starts from
-pub after-end : {free : Type 0} {P Q : Place} {t : Term} {E : Env} {r s : Result}
+pub after-end : {free : Allowed} {P Q : Place} {t : Term} {E : Env} {r s : Result}
     → Rewrites free P t E r
     → r .flag ≡ SUSP
     → r .env .move ≡ false
@@ -319,7 +319,7 @@ pub after-end : {free : Type 0} {P Q : Place} {t : Term} {E : Env} {r s : Result
     → Idle (s .flag) (s .acts)
 after-end {r = r} d f m e = idles e refl (blocked d f m)
 
-last-pass : {free : Type 0} {t : Term} {E : Env} {n : ℕ} {r : Result}
+last-pass : {free : Allowed} {t : Term} {E : Env} {n : ℕ} {r : Result}
     → Instant free t E n r
     → E .eoi ≡ true
     → Blocked (E .now) t
@@ -328,7 +328,7 @@ last-pass (r47 d h) e b = (refl, idles d e b)
 last-pass (r48 d h m i) e b = absurd (STOP≢SUSP (sym (idles d e b .stops) ∙ h))
 last-pass (r49 d h m i) e b = absurd (STOP≢SUSP (sym (idles d e b .stops) ∙ h))
 
-pub idle-once-ended : {free : Type 0} {t : Term} {E : Env} {n : ℕ} {r : Result} (i : Instant free t E n r) → IdleOnceEnded i
+pub idle-once-ended : {free : Allowed} {t : Term} {E : Env} {n : ℕ} {r : Result} (i : Instant free t E n r) → IdleOnceEnded i
 unfolding IdleOnceEnded
 idle-once-ended (r47 d h) = tt
 idle-once-ended (r48 d h m i) = last-pass i refl (blocked d h m)

@@ -16,7 +16,7 @@ use Rattle.junior.specs.Term.{Term, done, nothing, stop, atom, generate,
 use Rattle.junior.specs.Term.{repeat0, repeat1, when0, when1, when2, until0, until*, until2, control, local}
 use Rattle.junior.specs.Term.{prog, fresh}
 use Rattle.junior.specs.Trace.{Place, first, second, inside, Act}
-use Rattle.junior.specs.Rules.{Result, answers, again, Rewrites, r1, r1-on, r2, r3, r4, r4-on, r5, r8}
+use Rattle.junior.specs.Rules.{Allowed, Result, answers, again, Rewrites, r1, r1-on, r2, r3, r4, r4-on, r5, r8}
 use Rattle.junior.specs.Rules.{r10}
 use Rattle.junior.specs.Rules.{r11, r12, r4-loop, r5-loop, r14, r15, r4-repeat, r5-repeat, r16, r17, r17-on}
 use Rattle.junior.specs.Rules.{r18, r19, r19-on, r20, r21, r22, r23, r24, r25, r26, r27, r28, r29, r30, r31}
@@ -29,7 +29,7 @@ use Rattle.junior.proofs.Verdicts.{lasts, as-it-is}
 use Rattle.junior.proofs.Going.{Going, Controlled, going-more}
 use Rattle.junior.proofs.Held.{begun}
 
-module _ (free : Type 0) where
+module _ (free : Allowed) where
   -- a pass of t in E, and one of a program that is begun
   abbrev pub Pass : Place → Term → Env → Type 0
   Pass P t E = (r : Result) × Rewrites free P t E r

@@ -20,7 +20,7 @@ use Rattle.junior.specs.Term.{repeat0, repeat1, when0, when1, when2, unt
 use Rattle.junior.specs.Term.{prog, fresh, leave}
 use Rattle.junior.specs.Trace.{Place, Act, did-atom, did-generate, decided, waits, scope-answered, collect}
 use Rattle.junior.specs.Trace.{atom-of, event-of, atoms, generations}
-use Rattle.junior.specs.Rules.{Result, again, Rewrites, r1, r1-on, r2, r3, r4, r4-on, r5, r8, r9, r10}
+use Rattle.junior.specs.Rules.{Allowed, Result, again, Rewrites, r1, r1-on, r2, r3, r4, r4-on, r5, r8, r9, r10}
 use Rattle.junior.specs.Rules.{r11, r12, r13, r4-loop, r5-loop, r14, r15, r4-repeat, r5-repeat, r16, r17}
 use Rattle.junior.specs.Rules.{r17-on}
 use Rattle.junior.specs.Rules.{r18, r19, r19-on, r20, r21, r22, r23, r24, r25, r26, r27, r28, r29, r30, r31}
@@ -222,7 +222,7 @@ module _ (k : Program → ℕ) where
   pot-again n (suc j) p = repeat-fresh n j _ p (due-again j (stops p))
 
   -- what is left and what was spent is at most what there was
-  pub spends : {free : Type 0} {P : Place} {t : Term} {E : Env} {r : Result}
+  pub spends : {free : Allowed} {P : Place} {t : Term} {E : Env} {r : Result}
       → Rewrites free P t E r
       → LoopsStop (prog t)
       → rest (r .flag) (pot (r .to)) + cost (r .acts) ≤ pot t
@@ -259,7 +259,7 @@ module _ (k : Program → ℕ) where
       (let h = due-kept (r .flag) 1 true (held (r .to)) true (figure k p) (λ x. stays-held d (held-fresh p ∙ o .0)) in
       let a = rest-beside (r .flag) _ _ _ _ _ (spends d (loops-fresh p (o .1))) h in
       omega (arith, zero-mul (figure k p), pot-fresh p)))
-  spends (r13 {p = p} d e) o = absurd (begun p d (o .0) refl)
+  spends (r13 {p = p} f d e) o = absurd (begun p d (o .0) refl)
   spends (r4-loop d e) o = simp (cost-++, ends-unheld d) (omega (arith, spends d (o .1), spends e o))
   spends (r5-loop {t = t} {r = r} d n) o =
       simp (rest-leave, kept d)
@@ -312,7 +312,7 @@ module _ (k : Program → ℕ) where
   spends (r35-39 {r = r} d) o = simp (rest-leave, cost-++, kept d) (rest-within (r .flag) _ _ _ _ (omega (arith, spends d o)))
 
   -- the same of a pass that suspends
-  pub suspends : {free : Type 0} {P : Place} {t : Term} {E : Env} {r : Result}
+  pub suspends : {free : Allowed} {P : Place} {t : Term} {E : Env} {r : Result}
       → Rewrites free P t E r
       → LoopsStop (prog t)
       → r .flag ≡ SUSP
@@ -321,7 +321,7 @@ module _ (k : Program → ℕ) where
       subst (λ (α : Flag). rest α (pot (r .to)) + cost (r .acts) ≤ pot t) e (spends d o)
 
   -- the acts of an instant weigh at most what there was when it began
-  pub instant-spends : {free : Type 0} {t : Term} {E : Env} {n : ℕ} {r : Result}
+  pub instant-spends : {free : Allowed} {t : Term} {E : Env} {n : ℕ} {r : Result}
       → Instant free t E n r
       → LoopsStop (prog t)
       → cost (r .acts) ≤ pot t
@@ -330,7 +330,7 @@ module _ (k : Program → ℕ) where
   instant-spends (r49 d e m i) o = simp cost-++ (omega (arith, suspends d o e, instant-spends i (rw (kept d) o)))
 
   -- so from a state at rest they weigh at most the figure
-  pub within-figure : {free : Type 0} {t : Term} {E : Env} {n : ℕ} {r : Result}
+  pub within-figure : {free : Allowed} {t : Term} {E : Env} {n : ℕ} {r : Result}
       → Instant free t E n r
       → LoopsStop (prog t)
       → AtRest t
@@ -359,14 +359,14 @@ cost-G l = counted (per 7) event-of count-events l
 pub cost-A : (l : List Act) → cost (per 2) l ≡ length (atoms l)
 cost-A l = counted (per 2) atom-of count-atoms l
 
-pub at-most-G : {free : Type 0} {t : Term} {E : Env} {n : ℕ} {r : Result}
+pub at-most-G : {free : Allowed} {t : Term} {E : Env} {n : ℕ} {r : Result}
     → Instant free t E n r
     → LoopsStop (prog t)
     → AtRest t
     → length (generations (r .acts)) ≤ G (prog t)
 at-most-G {r = r} i o a = rw (← cost-G (r .acts)) (within-figure (per 7) i o a)
 
-pub at-most-A : {free : Type 0} {t : Term} {E : Env} {n : ℕ} {r : Result}
+pub at-most-A : {free : Allowed} {t : Term} {E : Env} {n : ℕ} {r : Result}
     → Instant free t E n r
     → LoopsStop (prog t)
     → AtRest t

@@ -8,7 +8,7 @@ use Rattle.junior.specs.declared.Flag.{Flag}
 use Rattle.junior.specs.Configuration.{Env, Config, with-event, generated, verdict, test, unknown}
 use Rattle.junior.specs.Term.{Term}
 use Rattle.junior.specs.Trace.{Place, Act, did-atom, did-generate, decided, waits, scope-answered}
-use Rattle.junior.specs.Rules.{Result, Rewrites, r1, r1-on, r2, r3, r4, r4-on, r5, r8, r9, r10, r11, r12}
+use Rattle.junior.specs.Rules.{Allowed, Result, Rewrites, r1, r1-on, r2, r3, r4, r4-on, r5, r8, r9, r10, r11, r12}
 use Rattle.junior.specs.Rules.{r13, r4-loop, r5-loop, r14, r15, r4-repeat, r5-repeat, r16, r17, r17-on, r18}
 use Rattle.junior.specs.Rules.{r19, r19-on, r20, r21, r22, r23, r24, r25, r26, r27, r28, r29, r30, r31, r31-on}
 use Rattle.junior.specs.Rules.{r32, r33, r34, r35-39}
@@ -26,7 +26,7 @@ pub record Flows (R : Env → Env → List Act → Type 0) : Type 0 where
       → R E (with-event s (E .now s) F) (l ++ (scope-answered n α (F .now s) ∷ []))
 
 module _ (R : Env → Env → List Act → Type 0) (law : Flows R) where
-  pub flow : {free : Type 0} {P : Place} {t : Term} {E : Env} {r : Result}
+  pub flow : {free : Allowed} {P : Place} {t : Term} {E : Env} {r : Result}
       → Rewrites free P t E r
       → R E (r .env) (r .acts)
   flow r1 = law .none
@@ -41,7 +41,7 @@ module _ (R : Env → Env → List Act → Type 0) (law : Flows R) where
   flow (r10 h d) = flow d
   flow (r11 h d) = flow d
   flow (r12 d h) = flow d
-  flow (r13 d e) = law .chained (flow d) (flow e)
+  flow (r13 f d e) = law .chained (flow d) (flow e)
   flow (r4-loop d e) = law .chained (flow d) (flow e)
   flow (r5-loop d h) = flow d
   flow r14 = law .none

@@ -17,7 +17,7 @@ use Rattle.junior.specs.Term.{Term, done, nothing, stop, atom, generate,
 use Rattle.junior.specs.Term.{repeat0, repeat1, when0, when1, when2, until0, until*, until2, control, local}
 use Rattle.junior.specs.Term.{prog, fresh, leave}
 use Rattle.junior.specs.Trace.{Place}
-use Rattle.junior.specs.Rules.{Result, again, sign, Rewrites, r1, r1-on, r2, r3, r4, r4-on, r5, r8, r9, r10}
+use Rattle.junior.specs.Rules.{Allowed, Result, again, sign, Rewrites, r1, r1-on, r2, r3, r4, r4-on, r5, r8, r9, r10}
 use Rattle.junior.specs.Rules.{r11, r12, r13, r4-loop, r5-loop, r14, r15, r4-repeat, r5-repeat, r16, r17}
 use Rattle.junior.specs.Rules.{r17-on, r18, r19, r19-on, r20, r21, r22, r23, r24, r25, r26, r27, r28, r29, r30}
 use Rattle.junior.specs.Rules.{r31, r31-on, r32, r33, r34, r35-39}
@@ -240,7 +240,7 @@ unfolding Going
 again-going X n zero p h = tt
 again-going X n (suc k) p h = (omega arith, fresh-going X p)
 
-pub stands : {free : Type 0} {P : Place} {t : Term} {E : Env} {r : Result} → Rewrites free P t E r → Going (E .now) t
+pub stands : {free : Allowed} {P : Place} {t : Term} {E : Env} {r : Result} → Rewrites free P t E r → Going (E .now) t
     → Stand (r .flag) (r .env .now) (r .to)
 unfolding Going AtRest eval
 stands r1 g = (Nothing, refl)
@@ -261,7 +261,7 @@ stands (r10 {β = β} {u = u} {r = r} h d) g =
 stands (r11 {α = α} {t = t} {r = r} h d) g =
     joined-stands α (r .flag) (r .env .now) t (r .to) (stand-more α t (grows d) (g .1)) (stands d (g .2))
 stands (r12 {p = p} {r = r} d h) g = under-stands r _ (λ x. x) (λ x. x) (stands d (fresh-going _ p))
-stands (r13 d e) g = stands e tt
+stands (r13 f d e) g = stands e tt
 stands (r4-loop d e) g = stands e tt
 stands (r5-loop {r = r} d h) g = under-stands r _ (λ x. x) (λ x. x) (stands d g)
 stands (r14 {p = p}) g = (Repeat 0 p, refl)
@@ -304,17 +304,17 @@ stopped-rest SUSP X t h g = absurd (h refl)
 stopped-rest STOP X t h g = g
 stopped-rest TERM X t h g = over-rest t g
 
-pub going-rest : {free : Type 0} {t : Term} {E : Env} {n : ℕ} {r : Result} → Instant free t E n r → Going (E .now) t
+pub going-rest : {free : Allowed} {t : Term} {E : Env} {n : ℕ} {r : Result} → Instant free t E n r → Going (E .now) t
     → AtRest (r .to)
 going-rest (r47 {r = r} d h) g = stopped-rest (r .flag) (r .env .now) (r .to) h (stands d g)
 going-rest (r48 {r = r} d h m i) g = going-rest i (subst (λ α. Stand α (r .env .now) (r .to)) h (stands d g))
 going-rest (r49 {r = r} d h m i) g = going-rest i (subst (λ α. Stand α (r .env .now) (r .to)) h (stands d g))
 
-pub leaves-rest : {free : Type 0} {t : Term} {E : Env} {n : ℕ} {r : Result} → Instant free t E n r → AtRest t
+pub leaves-rest : {free : Allowed} {t : Term} {E : Env} {n : ℕ} {r : Result} → Instant free t E n r → AtRest t
     → AtRest (r .to)
 leaves-rest {t = t} {E = E} i a = going-rest i (rest-going (E .now) t a)
 
-pub program-kept : {free : Type 0} {t : Term} {E : Env} {n : ℕ} {r : Result} → Instant free t E n r
+pub program-kept : {free : Allowed} {t : Term} {E : Env} {n : ℕ} {r : Result} → Instant free t E n r
     → prog (r .to) ≡ prog t
 program-kept (r47 d h) = kept d
 program-kept (r48 d h m i) = program-kept i ∙ kept d

@@ -11,7 +11,7 @@ use Rattle.events.specs.Events.{Events, put}
 use Rattle.junior.specs.Configuration.{Env, with-event}
 use Rattle.junior.specs.Term.{Term}
 use Rattle.junior.specs.Trace.{Place, Act, scope-answered, event-of, collect, generations}
-use Rattle.junior.specs.Rules.{Result, Rewrites}
+use Rattle.junior.specs.Rules.{Allowed, Result, Rewrites}
 use Rattle.junior.specs.Instant.{Instant, r47, r48, r49}
 use Rattle.junior.specs.Course.{_⊆_, event-sets, Rising}
 use Rattle.junior.proofs.Little.{neither, collect-++, collect-last, collect-none, put-back}
@@ -47,7 +47,7 @@ any-none : (l : List ℕ) → any l ≡ false → l ≡ []
 any-none [] h = refl
 any-none (s ∷ l) h = cc
 
-module _ {free : Type 0} {P : Place} {t : Term} {E : Env} {r : Result} where
+module _ {free : Allowed} {P : Place} {t : Term} {E : Env} {r : Result} where
   pub grows : Rewrites free P t E r → E .now ⊆ r .env .now
   grows d =
       flow
@@ -122,14 +122,14 @@ module _ {free : Type 0} {P : Place} {t : Term} {E : Env} {r : Result} where
   quiet-unchanged d h = unchanged d (quiet d h)
 
 -- from pass to pass
-pub rising : {free : Type 0} {t : Term} {E : Env} {n : ℕ} {r : Result} (i : Instant free t E n r)
+pub rising : {free : Allowed} {t : Term} {E : Env} {n : ℕ} {r : Result} (i : Instant free t E n r)
     → Rising (E .now) (event-sets i)
 unfolding event-sets Rising
 rising (r47 d h) = (grows d, tt)
 rising (r48 d h m i) = (grows d, rising i)
 rising (r49 d h m i) = (grows d, rising i)
 
-pub one-a-pass : {free : Type 0} {t : Term} {E : Env} {n : ℕ} {r : Result} (i : Instant free t E n r)
+pub one-a-pass : {free : Allowed} {t : Term} {E : Env} {n : ℕ} {r : Result} (i : Instant free t E n r)
     → length (event-sets i) ≡ n
 unfolding event-sets
 one-a-pass (r47 d h) = refl
@@ -137,7 +137,7 @@ one-a-pass (r48 d h m i) = ap suc (one-a-pass i)
 one-a-pass (r49 d h m i) = ap suc (one-a-pass i)
 
 -- so what was handed in is reported
-pub reported : {free : Type 0} {t : Term} {E : Env} {n : ℕ} {r : Result} → Instant free t E n r → E .now ⊆ r .env .now
+pub reported : {free : Allowed} {t : Term} {E : Env} {n : ℕ} {r : Result} → Instant free t E n r → E .now ⊆ r .env .now
 reported (r47 d h) s e = grows d s e
 reported (r48 d h m i) s e = reported i s (grows d s e)
 reported (r49 d h m i) s e = reported i s (grows d s e)
@@ -164,7 +164,7 @@ generated-parts s l k e =
     (among s (generations k))
     (sym (among-++ s (generations l) (generations k)) ∙ (ap (among s) (sym (collect-++ event-of l k)) ∙ e))
 
-pub only-generated : {free : Type 0} {P : Place} {t : Term} {E : Env} {r : Result} → Rewrites free P t E r → (s : ℕ)
+pub only-generated : {free : Allowed} {P : Place} {t : Term} {E : Env} {r : Result} → Rewrites free P t E r → (s : ℕ)
     → among s (generations (r .acts)) ≡ false
     → E .now s ≡ false
     → r .env .now s ≡ false
@@ -193,7 +193,7 @@ only-generated d s =
         go true q f = rw (← eqb-true s e q) h
         go false q f = f h
 
-pub only-generated-in-all : {free : Type 0} {t : Term} {E : Env} {n : ℕ} {r : Result} → Instant free t E n r → (s : ℕ)
+pub only-generated-in-all : {free : Allowed} {t : Term} {E : Env} {n : ℕ} {r : Result} → Instant free t E n r → (s : ℕ)
     → among s (generations (r .acts)) ≡ false
     → E .now s ≡ false
     → r .env .now s ≡ false

@@ -15,7 +15,7 @@ use Rattle.junior.specs.Term.{Term, done, nothing, stop, atom, generate,
 use Rattle.junior.specs.Term.{repeat0, repeat1, when0, when1, when2, until0, until*, until2, control, local}
 use Rattle.junior.specs.Term.{prog, fresh, leave}
 use Rattle.junior.specs.Trace.{Place, Act}
-use Rattle.junior.specs.Rules.{Result, answers, again, Rewrites, r1, r1-on, r2, r3, r4, r4-on, r5, r8, r9, r10}
+use Rattle.junior.specs.Rules.{Allowed, Result, answers, again, Rewrites, r1, r1-on, r2, r3, r4, r4-on, r5, r8, r9, r10}
 use Rattle.junior.specs.Rules.{r11, r12}
 use Rattle.junior.specs.Rules.{r13, r4-loop, r5-loop, r14, r15, r4-repeat, r5-repeat, r16, r17, r17-on, r18}
 use Rattle.junior.specs.Rules.{r19, r19-on, r20, r21, r22, r23, r24, r25, r26, r27, r28, r29, r30, r31, r31-on}
@@ -130,7 +130,7 @@ unfolding held
 held-again n zero p h = h
 held-again n (suc k) p h = held-repeat n k p (and-eq-true-iff (leb 1 (suc k)) (stops p) .0 h .1)
 
-pub stays-held : {free : Type 0} {P : Place} {t : Term} {E : Env} {r : Result}
+pub stays-held : {free : Allowed} {P : Place} {t : Term} {E : Env} {r : Result}
     → Rewrites free P t E r
     → held t ≡ true
     → live (r .flag) (held (r .to)) ≡ true
@@ -153,7 +153,7 @@ stays-held (r10 {β = β} {t = t} {u = u} n d) h =
 stays-held (r11 {α = α} {t = t} {u = u} n d) h =
     simp (live-leave, live-joined) (either (live α (held t)) (held u) (λ x. x) (λ x. stays-held d x) h)
 stays-held (r12 {r = r} d n) h = simp live-leave (live-on (r .flag) n)
-stays-held (r13 d e) h = stays-held e refl
+stays-held (r13 f d e) h = stays-held e refl
 stays-held (r4-loop d e) h = stays-held e refl
 stays-held (r5-loop {r = r} d n) h = simp live-leave (live-on (r .flag) n)
 stays-held r14 h = h
@@ -190,13 +190,13 @@ stays-held (r34 s) h = h
 stays-held (r35-39 d) h = simp live-leave (stays-held d h)
 
 -- so what is held doesn't end, in a pass or in the instant; a fresh program that stops doesn't
-pub unended : {free : Type 0} {P : Place} {t : Term} {E : Env} {r : Result}
+pub unended : {free : Allowed} {P : Place} {t : Term} {E : Env} {r : Result}
     → Rewrites free P t E r
     → held t ≡ true
     → r .flag ≢ TERM
 unended {r = r} d h e = false≢true (ap (λ (α : Flag). live α (held (r .to))) (sym e) ∙ stays-held d h)
 
-pub outlasts : {free : Type 0} {t : Term} {E : Env} {n : ℕ} {r : Result}
+pub outlasts : {free : Allowed} {t : Term} {E : Env} {n : ℕ} {r : Result}
     → Instant free t E n r
     → held t ≡ true
     → r .flag ≢ TERM
@@ -204,20 +204,20 @@ outlasts (r47 d n) h = unended d h
 outlasts (r48 {r = r} d e m i) h = outlasts i (subst (λ (α : Flag). live α (held (r .to)) ≡ true) e (stays-held d h))
 outlasts (r49 {r = r} d e m i) h = outlasts i (subst (λ (α : Flag). live α (held (r .to)) ≡ true) e (stays-held d h))
 
-pub begun : {free : Type 0} {P : Place} (p : Program) {E : Env} {r : Result}
+pub begun : {free : Allowed} {P : Place} (p : Program) {E : Env} {r : Result}
     → Rewrites free P (fresh p) E r
     → stops p ≡ true
     → r .flag ≢ TERM
 begun p d h = unended d (held-fresh p ∙ h)
 
-pub stops-right : {free : Type 0} (p : Program) {E : Env} {n : ℕ} {r : Result}
+pub stops-right : {free : Allowed} (p : Program) {E : Env} {n : ℕ} {r : Result}
     → Instant free (fresh p) E n r
     → stops p ≡ true
     → r .flag ≢ TERM
 stops-right p i h = outlasts i (held-fresh p ∙ h)
 
 -- what ends was not held
-pub ends-unheld : {free : Type 0} {P : Place} {t t′ : Term} {E E′ : Env} {l : List Act}
+pub ends-unheld : {free : Allowed} {P : Place} {t t′ : Term} {E E′ : Env} {l : List Act}
     → Rewrites free P t E (answers TERM t′ E′ l)
     → held t ≡ false
 ends-unheld {t = t} d = go (held t) (λ x. stays-held d x)

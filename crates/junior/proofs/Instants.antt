@@ -12,7 +12,7 @@ use Rattle.junior.specs.declared.Flag.the-variants.{SUSP, STOP, TERM}
 use Rattle.junior.specs.Configuration.{Env, declared-end, unmoved, handed-in}
 use Rattle.junior.specs.Term.{Term, prog}
 use Rattle.junior.specs.Trace.{Place, root, generations}
-use Rattle.junior.specs.Rules.{Result, Rewrites}
+use Rattle.junior.specs.Rules.{Allowed, Result, Rewrites}
 use Rattle.junior.specs.Instant.{Instant, r47, r48, r49}
 use Rattle.junior.specs.Course.{IdleOnceEnded}
 use Rattle.junior.specs.Figures.{LoopsStop, per, G}
@@ -26,7 +26,7 @@ use Rattle.junior.proofs.Figures.{cost, pot, cost-G, suspends, pot-at-r
 use Rattle.junior.proofs.Exists.{pass-exists}
 
 -- only a generation moves
-moved : {free : Type 0} {P : Place} {t : Term} {E : Env} {r : Result}
+moved : {free : Allowed} {P : Place} {t : Term} {E : Env} {r : Result}
     → Rewrites free P t E r
     → E .move ≡ false
     → r .env .move ≡ true
@@ -39,7 +39,7 @@ moved {E = E} {r = r} d o m =
     go (s ∷ l) h = omega arith
 
 -- a pass after which another one runs before the end is declared uses up a generation
-pub uses-up : {free : Type 0} {P : Place} {t : Term} {E : Env} {r : Result}
+pub uses-up : {free : Allowed} {P : Place} {t : Term} {E : Env} {r : Result}
     → Rewrites free P t E r
     → LoopsStop (prog t)
     → E .move ≡ false
@@ -49,7 +49,7 @@ pub uses-up : {free : Type 0} {P : Place} {t : Term} {E : Env} {r : Result}
 uses-up d o e h m = omega (arith, suspends (per 7) d o h, moved d e m)
 
 -- the passes that are left
-pub passes-left : {free : Type 0} {t : Term} {E : Env} {n : ℕ} {r : Result}
+pub passes-left : {free : Allowed} {t : Term} {E : Env} {n : ℕ} {r : Result}
     → Instant free t E n r
     → LoopsStop (prog t)
     → E .move ≡ false
@@ -59,7 +59,7 @@ passes-left (r47 d h) o e = omega arith
 passes-left (r48 d h m i) o e = let one = idle-once-ended (r48 d h m i) .0 in omega arith
 passes-left (r49 d h m i) o e = omega (arith, uses-up d o e h m, passes-left i (rw (kept d) o) refl)
 
-pub within-passes : {free : Type 0} {t : Term} {X : Events} {n : ℕ} {r : Result}
+pub within-passes : {free : Allowed} {t : Term} {X : Events} {n : ℕ} {r : Result}
     → Instant free t (handed-in X) n r
     → LoopsStop (prog t)
     → AtRest t
@@ -67,14 +67,14 @@ pub within-passes : {free : Type 0} {t : Term} {X : Events} {n : ℕ} {r : Resul
 within-passes {t = t} i o a = omega (arith, passes-left i o refl, pot-at-rest (per 7) t a)
 
 -- a pass that suspends leaves a state in the middle of the instant
-pub goes-on : {free : Type 0} {P : Place} {t : Term} {E : Env} {r : Result}
+pub goes-on : {free : Allowed} {P : Place} {t : Term} {E : Env} {r : Result}
     → Rewrites free P t E r
     → Going (E .now) t
     → r .flag ≡ SUSP
     → Going (r .env .now) (r .to)
 goes-on {r = r} d g h = subst (λ (α : Flag). Stand α (r .env .now) (r .to)) h (stands d g)
 
-module _ (free : Type 0) where
+module _ (free : Allowed) where
   -- the instant's end from t in E
   abbrev pub Ends : Term → Env → Type 0
   Ends t E = (n : ℕ) × (r : Result) × Instant free t E n r

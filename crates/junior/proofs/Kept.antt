@@ -8,7 +8,7 @@ use Rattle.junior.specs.Program.{Program, Nothing, Stop, Atom, Seq, Par,
 use Rattle.junior.specs.Program.{Until, Control, Local}
 use Rattle.junior.specs.Term.{Term, prog, fresh, leave}
 use Rattle.junior.specs.Trace.{Place}
-use Rattle.junior.specs.Rules.{Result, again, Rewrites, r1, r1-on, r2, r3, r4, r4-on, r5, r8, r9, r10, r11, r12}
+use Rattle.junior.specs.Rules.{Allowed, Result, again, Rewrites, r1, r1-on, r2, r3, r4, r4-on, r5, r8, r9, r10, r11, r12}
 use Rattle.junior.specs.Rules.{r13, r4-loop, r5-loop, r14, r15, r4-repeat, r5-repeat, r16, r17, r17-on, r18}
 use Rattle.junior.specs.Rules.{r19, r19-on, r20, r21, r22, r23, r24, r25, r26, r27, r28, r29, r30, r31, r31-on}
 use Rattle.junior.specs.Rules.{r32, r33, r34, r35-39}
@@ -40,7 +40,7 @@ unfolding prog
 prog-again n zero p = refl
 prog-again n (suc k) p = ap (Repeat n) (prog-fresh p)
 
-pub kept : {free : Type 0} {P : Place} {t : Term} {E : Env} {r : Result} → Rewrites free P t E r → prog (r .to) ≡ prog t
+pub kept : {free : Allowed} {P : Place} {t : Term} {E : Env} {r : Result} → Rewrites free P t E r → prog (r .to) ≡ prog t
 unfolding prog
 kept r1 = refl
 kept r1-on = refl
@@ -54,7 +54,7 @@ kept (r9 f e d) = simp prog-leave (ap₂ Par (kept d) (kept e))
 kept (r10 {u = u} h d) = simp prog-leave (ap (λ x. Par x (prog u)) (kept d))
 kept (r11 {t = t} h d) = simp prog-leave (ap (Par (prog t)) (kept d))
 kept (r12 {p = p} d h) = simp prog-leave (ap Loop (kept d ∙ prog-fresh p))
-kept (r13 d e) = kept e
+kept (r13 f d e) = kept e
 kept (r4-loop d e) = kept e
 kept (r5-loop d h) = simp prog-leave (ap Loop (kept d))
 kept r14 = refl

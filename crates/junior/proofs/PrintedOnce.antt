@@ -17,7 +17,7 @@ use Rattle.junior.specs.Flags.{γ, δ₁, δ₂}
 use Rattle.junior.specs.Configuration.{Config, Event, Env, with-event, generated, declared-end, unmoved, test}
 use Rattle.junior.specs.Term.{Term}
 use Rattle.junior.specs.Trace.{Act, did-atom, did-generate, decided, waits, scope-answered, collect, atoms}
-use Rattle.junior.specs.Rules.{Result}
+use Rattle.junior.specs.Rules.{left-first, Result}
 use Rattle.junior.specs.Instant.{Instant}
 use Rattle.junior.specs.Printed.{reads, deeds, actions}
 use Rattle.junior.specs.Printed.{Abstract, Seq, Par, Loop, Until, Until*, Control, Local-, Local+, leaves, Deed, finds}
@@ -355,7 +355,7 @@ instant-printed-once (rule49 d o i) (rule49 d′ o′ i′) =
 
 -- so an instant by the printed rules, from what a term reads as, is the instant of that term
 pub printed-exactly : {t : Term} {E F : Env} {m n : ℕ} {r : Result} {β : Flag} {k : List Deed} {u : Abstract}
-    → Instant ⊥ t E m r
+    → Instant left-first t E m r
     → reads t ∣ E —[ β doing k ]— n passes→ u ∣ F
     → (m ≡ n) × (r .flag ≡ β) × (deeds (r .acts) ≡ k) × (reads (r .to) ≡ u) × (r .env ≡ F)
 printed-exactly i j = instant-printed-once (instant-as-printed i) j

@@ -15,7 +15,7 @@ use Rattle.junior.specs.Term.{Term, done, nothing, stop, atom, generate,
 use Rattle.junior.specs.Term.{repeat0, repeat1, when0, when1, when2, until0, until*, until2, control, local}
 use Rattle.junior.specs.Term.{prog, leave}
 use Rattle.junior.specs.Trace.{Place, Act, did-atom, did-generate, decided, waits, scope-answered}
-use Rattle.junior.specs.Rules.{Result, sign, Rewrites, r1, r1-on, r2, r3, r4, r4-on, r5, r8, r9, r10, r11, r12}
+use Rattle.junior.specs.Rules.{Allowed, Result, sign, Rewrites, r1, r1-on, r2, r3, r4, r4-on, r5, r8, r9, r10, r11, r12}
 use Rattle.junior.specs.Rules.{r13, r4-loop, r5-loop, r14, r15, r4-repeat, r5-repeat, r16, r17, r17-on, r18}
 use Rattle.junior.specs.Rules.{r19, r19-on, r20, r21, r22, r23, r24, r25, r26, r27, r28, r29, r30, r31, r31-on}
 use Rattle.junior.specs.Rules.{r32, r33, r34, r35-39}
@@ -96,7 +96,7 @@ tested : {i j : ℕ} {P : Place} {c : Config} {b : Bool} {E : Env} {l : List Act
 unfolding Inside
 tested b = record { inside = b .inside }
 
-pub between : {free : Type 0} {P : Place} {t : Term} {E : Env} {r : Result} → Rewrites free P t E r
+pub between : {free : Allowed} {P : Place} {t : Term} {E : Env} {r : Result} → Rewrites free P t E r
     → Between (P .node) (P .node + size (prog t)) (r .acts)
 unfolding size prog Inside
 between r1 = record { inside = tt }
@@ -112,7 +112,7 @@ between (r9 f e d) = chain (widen (omega arith) (between e)) (widen (omega arith
 between (r10 h d) = widen (omega arith) (between d)
 between (r11 h d) = widen (omega arith) (between d)
 between (r12 {p = p} d h) = widen (omega (arith, ap size (prog-fresh p))) (between d)
-between (r13 {p = p} d e) = chain (widen (omega (arith, ap size (prog-fresh p))) (between d)) (between e)
+between (r13 {p = p} f d e) = chain (widen (omega (arith, ap size (prog-fresh p))) (between d)) (between e)
 between (r4-loop d e) = chain (widen (omega arith) (between d)) (between e)
 between (r5-loop d h) = widen (omega arith) (between d)
 between r14 = record { inside = tt }

@@ -11,7 +11,7 @@ use Rattle.junior.specs.Configuration.{Env, handed-in}
 use Rattle.junior.specs.Program.{Program, Repeat, Until}
 use Rattle.junior.specs.Term.{Term, prog, fresh}
 use Rattle.junior.specs.Trace.{Place}
-use Rattle.junior.specs.Rules.{Result, Rewrites, r1, r1-on, r2, r3, r4, r4-on, r5, r8, r9, r10, r11, r12, r13}
+use Rattle.junior.specs.Rules.{Allowed, Result, Rewrites, r1, r1-on, r2, r3, r4, r4-on, r5, r8, r9, r10, r11, r12, r13}
 use Rattle.junior.specs.Rules.{r4-loop, r5-loop, r14, r15, r4-repeat, r5-repeat, r16, r17, r17-on, r18, r19}
 use Rattle.junior.specs.Rules.{r19-on, r20, r21, r22, r23, r24, r25, r26, r27, r28, r29, r30, r31, r31-on, r32}
 use Rattle.junior.specs.Rules.{r33, r34, r35-39}
@@ -30,7 +30,7 @@ module _ (k : Program → ℕ) where
   fresh-within p n h = omega (arith, h, pot-fresh k p, ap k (prog-fresh p))
 
   -- a pass, by what stands in the term
-  pub within-pot : {free : Type 0} {P : Place} {t : Term} {E : Env} {r : Result} (d : Rewrites free P t E r)
+  pub within-pot : {free : Allowed} {P : Place} {t : Term} {E : Env} {r : Result} (d : Rewrites free P t E r)
       → LoopsStop (prog t)
       → visits k d ≤ pot k t
   unfolding below pot prog LoopsStop
@@ -46,7 +46,7 @@ module _ (k : Program → ℕ) where
   within-pot (r10 n d) o = omega (arith, within-pot d (o .0))
   within-pot (r11 n d) o = omega (arith, within-pot d (o .1))
   within-pot (r12 {p = p} d n) o = omega (arith, fresh-within p _ (within-pot d (loops-fresh p (o .1))))
-  within-pot (r13 {p = p} d e) o = absurd (begun p d (o .0) refl)
+  within-pot (r13 {p = p} f d e) o = absurd (begun p d (o .0) refl)
   within-pot (r4-loop d e) o = simp (ends-unheld d) (omega (arith, within-pot d (o .1), within-pot e o))
   within-pot (r5-loop d n) o = omega (arith, within-pot d (o .1))
   within-pot r14 o = omega arith
@@ -93,13 +93,13 @@ module _ (k : Program → ℕ) where
   within-pot (r35-39 d) o = omega (arith, within-pot d o)
 
   -- so, in the middle of an instant, at most the figure
-  pub pass-within-figure : {free : Type 0} {P : Place} {t : Term} {E : Env} {r : Result} (d : Rewrites free P t E r)
+  pub pass-within-figure : {free : Allowed} {P : Place} {t : Term} {E : Env} {r : Result} (d : Rewrites free P t E r)
       → LoopsStop (prog t)
       → Going (E .now) t
       → visits k d ≤ figure k (prog t)
   pass-within-figure {t = t} {E = E} d o g = le-trans (within-pot d o) (pot-going k (E .now) t g)
 
-  each-going : {free : Type 0} {t : Term} {E : Env} {n : ℕ} {r : Result} (i : Instant free t E n r)
+  each-going : {free : Allowed} {t : Term} {E : Env} {n : ℕ} {r : Result} (i : Instant free t E n r)
       → LoopsStop (prog t)
       → Going (E .now) t
       → EachAtMost (figure k (prog t)) (visits-by-pass k i)
@@ -111,13 +111,13 @@ module _ (k : Program → ℕ) where
       (pass-within-figure d o g, rw (kept d) at (each-going i (rw (kept d) o) (goes-on d g h)))
 
   -- and so does every pass of an instant that began at rest
-  pub each-within-figure : {free : Type 0} {t : Term} {E : Env} {n : ℕ} {r : Result} (i : Instant free t E n r)
+  pub each-within-figure : {free : Allowed} {t : Term} {E : Env} {n : ℕ} {r : Result} (i : Instant free t E n r)
       → LoopsStop (prog t)
       → AtRest t
       → EachAtMost (figure k (prog t)) (visits-by-pass k i)
   each-within-figure {t = t} {E = E} i o a = each-going i o (rest-going (E .now) t a)
 
-  pub one-count-a-pass : {free : Type 0} {t : Term} {E : Env} {n : ℕ} {r : Result} (i : Instant free t E n r)
+  pub one-count-a-pass : {free : Allowed} {t : Term} {E : Env} {n : ℕ} {r : Result} (i : Instant free t E n r)
       → length (visits-by-pass k i) ≡ n
   unfolding visits-by-pass
   one-count-a-pass (r47 d h) = refl
@@ -130,13 +130,13 @@ sum-within w [] h = omega (arith, zero-mul w)
 sum-within w (n ∷ l) h = omega (arith, h .0, sum-within w l (h .1), suc-mul (length l) w)
 
 -- at most W nodes in a pass, and (G + 2) * W in an instant
-pub at-most-W : {free : Type 0} {t : Term} {E : Env} {n : ℕ} {r : Result} (i : Instant free t E n r)
+pub at-most-W : {free : Allowed} {t : Term} {E : Env} {n : ℕ} {r : Result} (i : Instant free t E n r)
     → LoopsStop (prog t)
     → AtRest t
     → EachAtMost (W (prog t)) (visits-by-pass every i)
 at-most-W i o a = each-within-figure every i o a
 
-pub at-most-in-all : {free : Type 0} {t : Term} {X : Events} {n : ℕ} {r : Result} (i : Instant free t (handed-in X) n r)
+pub at-most-in-all : {free : Allowed} {t : Term} {X : Events} {n : ℕ} {r : Result} (i : Instant free t (handed-in X) n r)
     → LoopsStop (prog t)
     → AtRest t
     → sum (visits-by-pass every i) ≤ (G (prog t) + 2) * W (prog t)

@@ -9,7 +9,7 @@ use Rattle.junior.specs.declared.Flag.the-variants.{STOP}
 use Rattle.junior.specs.Configuration.{Env}
 use Rattle.junior.specs.Term.{Term}
 use Rattle.junior.specs.Trace.{Act, atoms, generations}
-use Rattle.junior.specs.Rules.{Result}
+use Rattle.junior.specs.Rules.{Allowed, Result}
 use Rattle.junior.specs.Instant.{Instant, r47, r48, r49}
 
 infix 20 _⊆_
@@ -17,7 +17,7 @@ abbrev pub _⊆_ : Events → Events → Type 0
 X ⊆ Y = (s : ℕ) → X s ≡ true → Y s ≡ true
 
 -- the event set as each pass leaves it, which is as the next begins with it
-unfoldable pub event-sets : {free : Type 0} {t : Term} {E : Env} {n : ℕ} {r : Result} → Instant free t E n r → List Events
+unfoldable pub event-sets : {free : Allowed} {t : Term} {E : Env} {n : ℕ} {r : Result} → Instant free t E n r → List Events
 event-sets (r47 {r = r} d h) = r .env .now ∷ []
 event-sets (r48 {r = r} d h m i) = r .env .now ∷ event-sets i
 event-sets (r49 {r = r} d h m i) = r .env .now ∷ event-sets i
@@ -34,7 +34,7 @@ pub record Idle (α : Flag) (l : List Act) : Type 0 where
   pub no-event : generations l ≡ []
 
 -- once the end is declared there is one more pass, and it is idle
-unfoldable pub IdleOnceEnded : {free : Type 0} {t : Term} {E : Env} {n : ℕ} {r : Result} → Instant free t E n r → Type 0
+unfoldable pub IdleOnceEnded : {free : Allowed} {t : Term} {E : Env} {n : ℕ} {r : Result} → Instant free t E n r → Type 0
 IdleOnceEnded (r47 d h) = Unit {0}
 IdleOnceEnded (r48 {n = n} {s = s} d h m i) = (n ≡ 1) × Idle (s .flag) (s .acts)
 IdleOnceEnded (r49 d h m i) = IdleOnceEnded i

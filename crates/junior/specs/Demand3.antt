@@ -4,7 +4,7 @@ use mathlib.Core.Path.{_≡_}
 use Rattle.events.specs.Events.{Events}
 use Rattle.junior.specs.Configuration.{handed-in}
 use Rattle.junior.specs.Term.{Term, prog}
-use Rattle.junior.specs.Rules.{Result}
+use Rattle.junior.specs.Rules.{left-first, Result}
 use Rattle.junior.specs.Instant.{Instant}
 use Rattle.junior.specs.Course.{event-sets, Rising, IdleOnceEnded}
 use Rattle.junior.specs.Figures.{G}
@@ -12,7 +12,7 @@ use Rattle.junior.specs.AtRest.{AtRest}
 use Rattle.junior.specs.Decided.{DecidedRight}
 
 -- what is so of every instant from t with the events X handed in
-pub record Settled {t : Term} {X : Events} {n : ℕ} {r : Result} (i : Instant ⊥ t (handed-in X) n r) : Type 0 where
+pub record Settled {t : Term} {X : Events} {n : ℕ} {r : Result} (i : Instant left-first t (handed-in X) n r) : Type 0 where
   -- "within two passes more than the event generations worked out at loading"
   pub soon : n ≤ G (prog t) + 2
   -- "leaves a state at rest", of the same program
@@ -27,5 +27,5 @@ pub record Settled {t : Term} {X : Events} {n : ℕ} {r : Result} (i : Instant �
 
 pub record Demand3 (t : Term) (X : Events) : Type 0 where
   -- "an instant always ends"
-  pub ends : (n : ℕ) × (r : Result) × Instant ⊥ t (handed-in X) n r
-  pub settled : {n : ℕ} {r : Result} (i : Instant ⊥ t (handed-in X) n r) → Settled i
+  pub ends : (n : ℕ) × (r : Result) × Instant left-first t (handed-in X) n r
+  pub settled : {n : ℕ} {r : Result} (i : Instant left-first t (handed-in X) n r) → Settled i

@@ -8,10 +8,10 @@ use Rattle.junior.specs.declared.Flag.the-variants.{SUSP}
 use Rattle.junior.specs.Configuration.{Env, declared-end, unmoved}
 use Rattle.junior.specs.Term.{Term}
 use Rattle.junior.specs.Trace.{root}
-use Rattle.junior.specs.Rules.{Result, after, Rewrites}
+use Rattle.junior.specs.Rules.{Allowed, Result, after, Rewrites}
 
 -- from t in E, so many passes end the instant, with this result and the acts of all passes
-pub data Instant (free : Type 0) : Term → Env → ℕ → Result → Type 0 where
+pub data Instant (free : Allowed) : Term → Env → ℕ → Result → Type 0 where
   r47 : {t : Term} {E : Env} {r : Result} → Rewrites free root t E r → r .flag ≢ SUSP → Instant free t E 1 r
   r48 : {t : Term} {E : Env} {n : ℕ} {r s : Result}
       → Rewrites free root t E r

@@ -59,8 +59,25 @@ left-scope P b s E r =
     (with-event s (E .now s) (r .env))
     (r .acts ++ (scope-answered (P .node) (r .flag) (r .env .now s) ∷ []))
 
--- `free` says whether rule 9 may be used: by the kernel's rules it may not, a Par runs its left branch first (01)
-pub data Rewrites (free : Type 0) : Place → Term → Env → Result → Type 0 where
+-- which of two rules may be used: 9, a Par runs its right branch first; 13, a Loop's body that ends in the pass that begins it begins again
+pub record Allowed : Type 1 where
+  pub rule-9 : Type 0
+  pub rule-13 : Type 0
+
+-- the kernel's rules: a Par runs its left branch first (01)
+abbrev pub left-first : Allowed
+left-first = record { rule-9 = ⊥; rule-13 = Unit {0} }
+
+-- a Par runs either branch first
+abbrev pub either-first : Allowed
+either-first = record { rule-9 = Unit {0}; rule-13 = Unit {0} }
+
+-- the same, without rule 13
+abbrev pub without-13 : Allowed → Allowed
+without-13 free = record { rule-9 = free .rule-9; rule-13 = ⊥ }
+
+-- `free` says which of the two may be used
+pub data Rewrites (free : Allowed) : Place → Term → Env → Result → Type 0 where
   r1 : {P : Place} {E : Env} → Rewrites free P nothing E (answers TERM (done Nothing) E [])
   r1-on : {P : Place} {E : Env} {p : Program} → Rewrites free P (done p) E (answers TERM (done p) E [])
   r2 : {P : Place} {E : Env} → Rewrites free P stop E (answers STOP (done Stop) E [])
@@ -78,7 +95,7 @@ pub data Rewrites (free : Type 0) : Place → Term → Env → Result → Type 0
       → Rewrites free (first P) t E r → Rewrites free (second P (prog t)) u (r .env) s
       → Rewrites free P (par SUSP SUSP t u) E (joined (r .flag) (s .flag) (r .to) (s .to) (s .env) (r .acts ++ s .acts))
   r9 : {P : Place} {E : Env} {t u : Term} {r s : Result}
-      → free → Rewrites free (second P (prog t)) u E s → Rewrites free (first P) t (s .env) r
+      → free .rule-9 → Rewrites free (second P (prog t)) u E s → Rewrites free (first P) t (s .env) r
       → Rewrites free P (par SUSP SUSP t u) E (joined (r .flag) (s .flag) (r .to) (s .to) (r .env) (s .acts ++ r .acts))
   r10 : {P : Place} {E : Env} {β : Flag} {t u : Term} {r : Result}
       → β ≢ SUSP → Rewrites free (first P) t E r
@@ -90,7 +107,7 @@ pub data Rewrites (free : Type 0) : Place → Term → Env → Result → Type 0
       → Rewrites free (first P) (fresh p) E r → r .flag ≢ TERM
       → Rewrites free P (loop0 p) E (under loop1 r)
   r13 : {P : Place} {E E′ : Env} {p : Program} {t : Term} {l : List Act} {r : Result}
-      → Rewrites free (first P) (fresh p) E (answers TERM t E′ l) → Rewrites free P (loop0 p) E′ r
+      → free .rule-13 → Rewrites free (first P) (fresh p) E (answers TERM t E′ l) → Rewrites free P (loop0 p) E′ r
       → Rewrites free P (loop0 p) E (after l r)
   -- rules 4 and 5 at Seq(rest of body, Loop)
   r4-loop : {P : Place} {E E′ : Env} {t t′ : Term} {l : List Act} {r : Result}

@@ -8,7 +8,7 @@ use Rattle.junior.specs.Configuration.{Env, Event, Not, handed-in}
 use Rattle.junior.specs.Program.{Program, Stop, Atom, Seq, Par, Loop, Repeat, Generate, Await, Until}
 use Rattle.junior.specs.Term.{Term, prog, fresh}
 use Rattle.junior.specs.Trace.{Place}
-use Rattle.junior.specs.Rules.{Result, Rewrites, r1, r1-on, r2, r3, r4, r4-on, r5, r8, r9, r10, r11, r12, r13}
+use Rattle.junior.specs.Rules.{Allowed, left-first, Result, Rewrites, r1, r1-on, r2, r3, r4, r4-on, r5, r8, r9, r10, r11, r12, r13}
 use Rattle.junior.specs.Rules.{r4-loop, r5-loop, r14, r15, r4-repeat, r5-repeat, r16, r17, r17-on, r18, r19}
 use Rattle.junior.specs.Rules.{r19-on, r20, r21, r22, r23, r24, r25, r26, r27, r28, r29, r30, r31, r31-on, r32}
 use Rattle.junior.specs.Rules.{r33, r34, r35-39}
@@ -19,7 +19,7 @@ module _ (k : Program → ℕ) where
   -- What a node's run runs below it: of each part that is run, the part's own node and what that runs below it. Where a node goes on
   -- as itself (a Loop or Repeat whose body has ended, an Until whose body has stopped) that is no other run of it: the Repeat counts
   -- once, its body once a repetition.
-  unfoldable pub below : {free : Type 0} {P : Place} {t : Term} {E : Env} {r : Result} → Rewrites free P t E r → ℕ
+  unfoldable pub below : {free : Allowed} {P : Place} {t : Term} {E : Env} {r : Result} → Rewrites free P t E r → ℕ
   below r1 = 0
   below r1-on = 0
   below r2 = 0
@@ -32,7 +32,7 @@ module _ (k : Program → ℕ) where
   below (r10 {t = t} h d) = k (prog t) + below d
   below (r11 {u = u} h d) = k (prog u) + below d
   below (r12 {p = p} d h) = k p + below d
-  below (r13 {p = p} d e) = k p + below d + below e
+  below (r13 {p = p} f d e) = k p + below d + below e
   below (r4-loop {t = t} d e) = k (prog t) + below d + below e
   below (r5-loop {t = t} d h) = k (prog t) + below d
   below r14 = 0
@@ -64,11 +64,11 @@ module _ (k : Program → ℕ) where
   below (r35-39 {t = t} d) = k (prog t) + below d
 
   -- what a pass runs
-  abbrev pub visits : {free : Type 0} {P : Place} {t : Term} {E : Env} {r : Result} → Rewrites free P t E r → ℕ
+  abbrev pub visits : {free : Allowed} {P : Place} {t : Term} {E : Env} {r : Result} → Rewrites free P t E r → ℕ
   visits {t = t} d = k (prog t) + below d
 
   -- what the passes of an instant run, pass by pass
-  unfoldable pub visits-by-pass : {free : Type 0} {t : Term} {E : Env} {n : ℕ} {r : Result} → Instant free t E n r → List ℕ
+  unfoldable pub visits-by-pass : {free : Allowed} {t : Term} {E : Env} {n : ℕ} {r : Result} → Instant free t E n r → List ℕ
   visits-by-pass (r47 d h) = visits d ∷ []
   visits-by-pass (r48 d h m i) = visits d ∷ visits-by-pass i
   visits-by-pass (r49 d h m i) = visits d ∷ visits-by-pass i
@@ -86,7 +86,7 @@ sum (n ∷ l) = n + sum l
 pub data Visited : Term → List (Events × List ℕ) → Type 0 where
   no-more : {t : Term} → Visited t []
   next : {t : Term} {X : Events} {counts : List ℕ} {n : ℕ} {r : Result} {l : List (Events × List ℕ)}
-      (i : Instant ⊥ t (handed-in X) n r)
+      (i : Instant left-first t (handed-in X) n r)
       → visits-by-pass every i ≡ counts
       → Visited (r .to) l
       → Visited t ((X, counts) ∷ l)

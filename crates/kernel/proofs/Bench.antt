@@ -13,6 +13,7 @@ use Rattle.junior.specs.Configuration.{test, fixed, eval}
 use Rattle.junior.specs.Program.{size, kind}
 use Rattle.junior.specs.Term.{Term, prog, fresh, leave}
 use Rattle.junior.specs.Trace.{collect}
+use Rattle.junior.specs.Rules.{left-first}
 use Rattle.junior.specs.Figures.{stops, LoopsStop, figure}
 use Rattle.junior.specs.AtRest.{AtRest}
 use Rattle.junior.proofs.Going.{fresh-at-rest, leaves-rest, program-kept}
@@ -53,7 +54,7 @@ told-by : List ℕ → ℕ → List ℕ → (x : Term) → LoopsStop (prog x) �
     → ((u : Term) → LoopsStop (prog u) → AtRest u → List Seen)
     → List Seen
 told-by t a b x o r y (inl e) later =
-    let (n, u, i) = ends ⊥ x o r (members (y .handed)) in
+    let (n, u, i) = ends left-first x o r (members (y .handed)) in
     seen-run y b (past-rest t a y) n u ∷ later (u .to) (rw (program-kept i) o) (leaves-rest i r)
 told-by t a b x o r y (inr e) later = seen-refused y (stateBytes x ++ b) (past-rest t a y) ∷ later x o r
 
@@ -77,7 +78,7 @@ follows t {a = a} v b x e o r (y ∷ l) h =
         → told-by t a b x o r y c (λ u p q. told t a b u p q l) ≡ seen y ∷ map seen l
         → Answers t (stateBytes x ++ b) y × Follow t (y .state) l
     go (inl ran) f h =
-        let (n, u, i) = ends ⊥ x o r (members (y .handed)) in
+        let (n, u, i) = ends left-first x o r (members (y .handed)) in
         let now : seen-run y b (past-rest t a y) n u ≡ seen y = cc in
         let later : told t a b (u .to) (rw (program-kept i) o) (leaves-rest i r) l ≡ map seen l = cc in (
           run-answers t v b x e r y i ran now,

@@ -15,7 +15,7 @@ use Rattle.events.proofs.Events.{lowest-is}
 use Rattle.junior.specs.declared.Flag.{Flag}
 use Rattle.junior.specs.Configuration.{Env, handed-in}
 use Rattle.junior.specs.Trace.{atoms}
-use Rattle.junior.specs.Rules.{Result}
+use Rattle.junior.specs.Rules.{left-first, Result}
 use Rattle.junior.specs.Instant.{Instant}
 use Rattle.junior.specs.Printed.{Abstract, reads, Deed, actions, _∣_—[_doing_]—_passes→_∣_}
 use Rattle.junior.proofs.Deterministic.{one-outcome}
@@ -78,7 +78,7 @@ module _ {t s : List ℕ} {X : Events} {row s′ row′ : List ℕ} {a : Answer}
       }
 
   -- whatever the rules give is what was run
-  gives-all : (n : ℕ) (u : Result) → Instant ⊥ (r .term) (handed-in X) n u → Gives t s row s′ row′ a n u
+  gives-all : (n : ℕ) (u : Result) → Instant left-first (r .term) (handed-in X) n u → Gives t s row s′ row′ a n u
   gives-all n u i =
       let (same-passes, same-result) = one-outcome (r .instant) i in
       subst (λ m. Gives t s row s′ row′ a m u) same-passes (subst (λ x. Gives t s row s′ row′ a (a .passes) x) same-result gives)

@@ -16,7 +16,7 @@ use Rattle.events.proofs.Sets.{Whole, members-past}
 use Rattle.junior.specs.Configuration.{handed-in}
 use Rattle.junior.specs.Term.{Term, prog}
 use Rattle.junior.specs.Trace.{atoms, generations}
-use Rattle.junior.specs.Rules.{Result}
+use Rattle.junior.specs.Rules.{left-first, Result}
 use Rattle.junior.specs.Instant.{Instant}
 use Rattle.junior.specs.AtRest.{AtRest}
 use Rattle.junior.proofs.Grows.{among, only-generated-in-all}
@@ -209,7 +209,7 @@ pub run-answers : (t : List ℕ) {g a w : ℕ} → verdictOf t ≡ Accepted g a 
     → AtRest x
     → (y : Line)
     → {n : ℕ} {r : Result}
-    → Instant ⊥ x (handed-in (members (y .handed))) n r
+    → Instant left-first x (handed-in (members (y .handed))) n r
     → y .answer .outcome ≡ Ran
     → seen-run y b (past-rest t a y) n r ≡ seen y
     → Answers t (stateBytes x ++ b) y
@@ -231,7 +231,7 @@ run-answers t v b x e rest y {n} {r} i ran s =
         bytes = take-at (stateBytes x) b (4 * nodes t) long;
         at-rest = rest;
         result = r;
-        instant = subst (λ m. Instant ⊥ x (handed-in (members (y .handed))) m r) (ap (λ z. z .passes) s) i;
+        instant = subst (λ m. Instant left-first x (handed-in (members (y .handed))) m r) (ap (λ z. z .passes) s) i;
         events-are = same-set (y .answer .events) (r .env .now) reported (sym (ap (λ z. z .events) s)) past;
         count-is = sym (ap (λ z. z .count) s);
         lowest-is = sym (ap (λ z. z .lowest) s);

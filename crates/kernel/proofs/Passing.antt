@@ -20,7 +20,7 @@ use Rattle.junior.specs.Configuration.{Env, handed-in, unmoved, declared-end}
 use Rattle.junior.specs.Program.{Program, size}
 use Rattle.junior.specs.Term.{Term, prog, done}
 use Rattle.junior.specs.Trace.{Act, root, atom-of, atoms, collect}
-use Rattle.junior.specs.Rules.{Result, answers, after}
+use Rattle.junior.specs.Rules.{left-first, Result, answers, after}
 use Rattle.junior.specs.Instant.{Instant, r47, r48, r49}
 use Rattle.junior.specs.Figures.{per, G}
 use Rattle.junior.proofs.Little.{collect-++}
@@ -85,7 +85,7 @@ wrote-on {xs} {row = row} {at = at} ys row₀ w e f =
 -- what ends the instant from t in E ends, after so many passes that did these acts, the whole of it
 abbrev Onward : Term → Events → ℕ → List Act → Term → Env → Type 0
 Onward t₀ X passes acts t E =
-    (n : ℕ) (r : Result) → Instant ⊥ t E n r → Instant ⊥ t₀ (handed-in X) (passes + n) (after acts r)
+    (n : ℕ) (r : Result) → Instant left-first t E n r → Instant left-first t₀ (handed-in X) (passes + n) (after acts r)
 
 -- no more passes than generations; one more once the end is declared
 abbrev Soon : Term → ℕ → Term → Bool → Type 0
@@ -128,7 +128,7 @@ module _ {table : List ℕ} {t₀ : Term} {X : Events} {row₀ state words row t
         rw (all-atoms, length-append (atoms (u .acts)) (atoms (ran .acts))) (rw (u .done-is) at (ran .wrote .done-is))
 
     -- a pass that doesn't suspend ends the instant
-    pub ends : α ≢ SUSP → Instant ⊥ t₀ (handed-in X) (passes + 1) (answers α (ran .to) (envOf words′ tally′) all-acts)
+    pub ends : α ≢ SUSP → Instant left-first t₀ (handed-in X) (passes + 1) (answers α (ran .to) (envOf words′ tally′) all-acts)
     ends h = u .onward 1 _ (r47 (ran .rewrites) h)
 
   -- a pass that suspends leads to the next
@@ -185,8 +185,8 @@ module _ {table : List ℕ} {t₀ : Term} {X : Events} {row₀ state words row t
         let count : passes + suc n ≡ passes + 1 + n = omega arith in
         rw (append-assoc (u .acts) (ran .acts) (s .acts)) (rw count at (u .onward (suc n) _ (on m e (rw (next m e) at i))))
       where
-        on : (m : Bool) → envOf words′ tally′ .move ≡ m → Instant ⊥ (ran .to) (next-env m (envOf words′ tally′)) n s
-            → Instant ⊥ (u .term) (envOf words tally) (suc n) (after (ran .acts) s)
+        on : (m : Bool) → envOf words′ tally′ .move ≡ m → Instant left-first (ran .to) (next-env m (envOf words′ tally′)) n s
+            → Instant left-first (u .term) (envOf words tally) (suc n) (after (ran .acts) s)
         on true e i = r49 (ran .rewrites) refl e i
         on false e i = r48 (ran .rewrites) refl e i
 

@@ -13,7 +13,7 @@ use Rattle.junior.specs.declared.Flag.the-variants.{SUSP, STOP, TERM}
 use Rattle.junior.specs.Configuration.{handed-in}
 use Rattle.junior.specs.Term.{Term, prog}
 use Rattle.junior.specs.Trace.{atoms}
-use Rattle.junior.specs.Rules.{Result}
+use Rattle.junior.specs.Rules.{left-first, Result}
 use Rattle.junior.specs.Instant.{Instant}
 use Rattle.junior.specs.AtRest.{AtRest}
 use Rattle.table.specs.declared.Checked.{Checked}
@@ -108,7 +108,7 @@ pub record Run (t s : List ℕ) (X : Events) (row s′ row′ : List ℕ) (r : A
   pub bytes : take (4 * nodes t) s ≡ stateBytes term
   pub at-rest : AtRest term
   pub result : Result
-  pub instant : Instant ⊥ term (handed-in X) (r .passes) result
+  pub instant : Instant left-first term (handed-in X) (r .passes) result
   pub events-are : members (r .events) ≡ result .env .now
   pub count-is : r .count ≡ howMany places (result .env .now)
   pub lowest-is : r .lowest ≡ lowest places (result .env .now)

@@ -12,7 +12,7 @@ use Rattle.junior.specs.declared.Flag.{Flag}
 use Rattle.junior.specs.Configuration.{Env, handed-in}
 use Rattle.junior.specs.Term.{Term, prog}
 use Rattle.junior.specs.Trace.{atoms}
-use Rattle.junior.specs.Rules.{Result}
+use Rattle.junior.specs.Rules.{left-first, Result}
 use Rattle.junior.specs.Instant.{Instant}
 use Rattle.junior.specs.Printed.{Abstract, reads, Deed, actions, _∣_—[_doing_]—_passes→_∣_}
 use Rattle.junior.specs.AtRest.{AtRest}
@@ -84,8 +84,8 @@ pub record Demand2 (t s : List ℕ) (X : Events) (row s′ row′ : List ℕ) (a
   pub term : Term
   pub stands : Stands t s term
   -- "that Junior's rewriting rules give .. left branch first": by rules without rule 9
-  pub there : (n : ℕ) × (r : Result) × Instant ⊥ term (handed-in X) n r
-  pub gives : {n : ℕ} {r : Result} → Instant ⊥ term (handed-in X) n r → Gives t s row s′ row′ a n r
+  pub there : (n : ℕ) × (r : Result) × Instant left-first term (handed-in X) n r
+  pub gives : {n : ℕ} {r : Result} → Instant left-first term (handed-in X) n r → Gives t s row s′ row′ a n r
   -- "Junior's rewriting rules .. read as the requirements settle them": by the rules as 000 prints them, too, there is an instant, and every
   -- instant gives this
   pub printed-there : (n : ℕ) × (α : Flag) × (l : List Deed) × (u : Abstract) × (E : Env)

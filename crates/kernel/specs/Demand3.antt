@@ -8,7 +8,7 @@ use Rattle.events.specs.Events.{Events}
 use Rattle.events.specs.Members.{members}
 use Rattle.junior.specs.Configuration.{handed-in}
 use Rattle.junior.specs.Term.{Term}
-use Rattle.junior.specs.Rules.{Result}
+use Rattle.junior.specs.Rules.{left-first, Result}
 use Rattle.junior.specs.Instant.{Instant}
 use Rattle.junior.specs.Course.{event-sets, Rising, IdleOnceEnded}
 use Rattle.junior.specs.Decided.{DecidedRight}
@@ -24,7 +24,7 @@ pub record Demand3 {t s : List ℕ} {X : Events} {row : List ℕ} (p : Premises 
   pub term : Term
   pub stands : Stands t s term
   pub result : Result
-  pub instant : Instant ⊥ term (handed-in X) (a .passes) result
+  pub instant : Instant left-first term (handed-in X) (a .passes) result
   pub event-set : members (a .events) ≡ result .env .now
   -- "within two passes more than the event generations worked out at loading"
   pub soon : a .passes ≤ p .generations + 2

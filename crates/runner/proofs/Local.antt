@@ -15,7 +15,7 @@ use Rattle.junior.specs.declared.Flag.{Flag}
 use Rattle.junior.specs.declared.Flag.the-variants.{SUSP, STOP, TERM}
 use Rattle.junior.specs.Term.{Term, local, prog, leave}
 use Rattle.junior.specs.Trace.{Place, Act, inside, scope-answered, atom-of}
-use Rattle.junior.specs.Rules.{Rewrites, answers, sign, r35-39}
+use Rattle.junior.specs.Rules.{left-first, Rewrites, answers, sign, r35-39}
 use Rattle.junior.proofs.Little.{collect-last, put-at}
 use Rattle.junior.proofs.Grows.{grows}
 use Rattle.junior.proofs.Going.{Going}
@@ -57,8 +57,8 @@ sign-left b TERM present k = refl
 scoped : {P : Place} {b : Bool} {e : ℕ} {x y : Term} {l : List Act} {α : Flag} (words words₁ tally words₂ words₃ tally′ : List ℕ)
     → marks words₁ ≡ put e b (marks words)
     → marks words₃ ≡ put e (marks words e) (marks words₂)
-    → Rewrites ⊥ (inside e P) x (envOf words₁ tally) (answers α y (envOf words₂ tally′) l)
-    → Rewrites ⊥ P (local b e x) (envOf words tally)
+    → Rewrites left-first (inside e P) x (envOf words₁ tally) (answers α y (envOf words₂ tally′) l)
+    → Rewrites left-first P (local b e x) (envOf words tally)
     (answers α (leave α (local (sign b α (marks words₂ e)) e y)) (envOf words₃ tally′)
     (l ++ (scope-answered (P .node) α (marks words₂ e) ∷ [])))
 scoped words words₁ tally words₂ words₃ tally′ p q d = rw q (r35-39 (rw p at d))

@@ -12,7 +12,7 @@ use Rattle.junior.specs.Flags.{γ, δ₁, δ₂}
 use Rattle.junior.specs.Program.{Program, Par, size, kind}
 use Rattle.junior.specs.Term.{Term, par, prog, leave}
 use Rattle.junior.specs.Trace.{Place, Act, first, second, atom-of, atoms}
-use Rattle.junior.specs.Rules.{Rewrites, joined, r8, r10, r11}
+use Rattle.junior.specs.Rules.{left-first, Rewrites, joined, r8, r10, r11}
 use Rattle.junior.specs.Figures.{LoopsStop, per}
 use Rattle.junior.proofs.Little.{collect-++, STOP≢SUSP, TERM≢SUSP}
 use Rattle.junior.proofs.Grows.{grows}
@@ -161,7 +161,7 @@ module _ {table : List ℕ} {i : ℕ} {state words row tally : List ℕ} where
 
 -- a Par whose branches have answered α and β, when par_end has joined them
 par-ran : {P : Place} {t : Term} {words row tally words′ row′ tally′ : List ℕ} {l : List Act} (α β : Flag) (t′ u′ : Term)
-    → Rewrites ⊥ P t (envOf words tally) (joined α β t′ u′ (envOf words′ tally′) l)
+    → Rewrites left-first P t (envOf words tally) (joined α β t′ u′ (envOf words′ tally′) l)
     → Wrote (atoms l) row (atoms-done tally) row′ (atoms-done tally′)
     → SameLengths words tally words′ tally′
     → {state : List ℕ} {flags n : ℕ} {a b : List ℕ}

@@ -13,7 +13,7 @@ use Rattle.junior.specs.Configuration.{Env}
 use Rattle.junior.specs.Program.{Program, Seq, size, kind}
 use Rattle.junior.specs.Term.{Term, seq0, seq2, prog, fresh}
 use Rattle.junior.specs.Trace.{Place, Act, first, second}
-use Rattle.junior.specs.Rules.{Result, answers, under, after, Rewrites, r4, r4-on, r5, r19-on, r31-on}
+use Rattle.junior.specs.Rules.{left-first, Result, answers, under, after, Rewrites, r4, r4-on, r5, r19-on, r31-on}
 use Rattle.junior.specs.Figures.{LoopsStop, per}
 use Rattle.junior.proofs.Kept.{prog-fresh}
 use Rattle.junior.proofs.Going.{Going, rest-going, fresh-at-rest}
@@ -37,7 +37,7 @@ pub data Second : Term → Type 0 where
   in-second : {f : Term → Term} (p : Program) (o : Frame (in-phase 2) (size p) 0 f) (x : Term)
       → ((table : List ℕ) (i : ℕ) → Placed table i (prog (f x)) → sizeAt table (i + 1) ≡ size p)
       → ((X : Events) → Going X (f x) → Going X x)
-      → ((P : Place) (E : Env) (r : Result) → Rewrites ⊥ (second P p) x E r → Rewrites ⊥ P (f x) E (under f r))
+      → ((P : Place) (E : Env) (r : Result) → Rewrites left-first (second P p) x E r → Rewrites left-first P (f x) E (under f r))
       → Second (f x)
 
 second-of : {t : Term} {k : ℕ} → Shape t k 2 → Second t
@@ -119,9 +119,9 @@ first-reads (in-first x q) h = next-in-table (seq-first q) h
 
 -- rule 4, by the rule of the node that has gone over
 seq-over : {P : Place} {x x′ : Term} {q : Program} {E E′ : Env} {l : List Act} {r : Result}
-    → Rewrites ⊥ (first P) x E (answers TERM x′ E′ l)
-    → Rewrites ⊥ P (seq2 (prog x) (fresh q)) E′ r
-    → Rewrites ⊥ P (seq0 x q) E (after l r)
+    → Rewrites left-first (first P) x E (answers TERM x′ E′ l)
+    → Rewrites left-first P (seq2 (prog x) (fresh q)) E′ r
+    → Rewrites left-first P (seq0 x q) E (after l r)
 seq-over d (r4-on e) = r4 d e
 
 module _ {table : List ℕ} {i : ℕ} {state words row tally : List ℕ} {n : ℕ} (m : n ≡ sizeAt table (i + 1)) where

@@ -16,7 +16,7 @@ use Rattle.junior.specs.Configuration.{Config, Env, sat, test}
 use Rattle.junior.specs.Program.{Program, Until, size, kind}
 use Rattle.junior.specs.Term.{Term, until0, until*, until2, prog, fresh}
 use Rattle.junior.specs.Trace.{Place, decided, first, collect}
-use Rattle.junior.specs.Rules.{Result, after, Rewrites, r29, r30, r31, r31-on, r32, r33, r34}
+use Rattle.junior.specs.Rules.{left-first, Result, after, Rewrites, r29, r30, r31, r31-on, r32, r33, r34}
 use Rattle.junior.specs.Figures.{LoopsStop, per}
 use Rattle.junior.proofs.Kept.{prog-fresh, kept}
 use Rattle.junior.proofs.Going.{Going, rest-going, fresh-at-rest, stands}
@@ -136,8 +136,8 @@ star-by t w = star-of (shape-by t (w .0) (w .1))
 handler-begins : {P : Place} {c : Config} {x : Term} {q : Program} {E : Env} {r : Result}
     → sat c E
     → E .eoi ≡ false
-    → Rewrites ⊥ P (until2 c (prog x) (fresh q)) E r
-    → Rewrites ⊥ P (until* c x q) E (after (decided P c true E ∷ []) r)
+    → Rewrites left-first P (until2 c (prog x) (fresh q)) E r
+    → Rewrites left-first P (until* c x q) E (after (decided P c true E ∷ []) r)
 handler-begins s e (r31-on d) = r31 s e d
 
 module _ {table : List ℕ} {i : ℕ} {state words row tally : List ℕ} where

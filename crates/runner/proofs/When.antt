@@ -16,7 +16,7 @@ use Rattle.junior.specs.Configuration.{Config, Env, sat, unsat, test}
 use Rattle.junior.specs.Program.{Program, When, kind}
 use Rattle.junior.specs.Term.{Term, when0, when1, when2, prog, fresh}
 use Rattle.junior.specs.Trace.{Place, decided, first, collect}
-use Rattle.junior.specs.Rules.{Result, after, Rewrites, r17, r17-on, r18, r19, r19-on, r20, r21}
+use Rattle.junior.specs.Rules.{left-first, Result, after, Rewrites, r17, r17-on, r18, r19, r19-on, r20, r21}
 use Rattle.junior.specs.Figures.{per}
 use Rattle.junior.proofs.Kept.{prog-fresh}
 use Rattle.junior.proofs.Going.{Going, rest-going, fresh-at-rest}
@@ -107,15 +107,15 @@ when0-by {t = t} w h a b = when0-of (shape-by t (w .0) refl) (w .1) (λ e. a (ph
 then-begins : {P : Place} {c : Config} {p q : Program} {E : Env} {r : Result}
     → sat c E
     → E .eoi ≡ false
-    → Rewrites ⊥ P (when1 c (fresh p) q) E r
-    → Rewrites ⊥ P (when0 c p q) E (after (decided P c true E ∷ []) r)
+    → Rewrites left-first P (when1 c (fresh p) q) E r
+    → Rewrites left-first P (when0 c p q) E (after (decided P c true E ∷ []) r)
 then-begins s e (r17-on d) = r17 s e d
 
 else-begins : {P : Place} {c : Config} {p q : Program} {E : Env} {r : Result}
     → unsat c E
     → E .eoi ≡ false
-    → Rewrites ⊥ P (when2 c p (fresh q)) E r
-    → Rewrites ⊥ P (when0 c p q) E (after (decided P c false E ∷ []) r)
+    → Rewrites left-first P (when2 c p (fresh q)) E r
+    → Rewrites left-first P (when0 c p q) E (after (decided P c false E ∷ []) r)
 else-begins s e (r19-on d) = r19 s e d
 
 module _ {table : List ℕ} {i : ℕ} {state words row tally : List ℕ} where

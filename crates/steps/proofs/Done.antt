@@ -13,7 +13,7 @@ use Rattle.junior.specs.declared.Flag.the-variants.{SUSP, STOP, TERM}
 use Rattle.junior.specs.Program.{size}
 use Rattle.junior.specs.Term.{Term, prog, leave}
 use Rattle.junior.specs.Trace.{Place, Act, atom-of, atoms}
-use Rattle.junior.specs.Rules.{Rewrites, answers}
+use Rattle.junior.specs.Rules.{left-first, Rewrites, answers}
 use Rattle.junior.specs.Figures.{LoopsStop, per}
 use Rattle.junior.proofs.Little.{collect-++}
 use Rattle.junior.proofs.Kept.{kept}
@@ -141,7 +141,7 @@ left-around {ahead = ahead} {behind = behind} o TERM x =
 module _ {words row tally : List ℕ} {P : Place} {t : Term} where
   -- a node that runs no part
   pub ran-alone : {α : Flag} {to : Term} {l : List Act} {state′ : List ℕ}
-      → Rewrites ⊥ P t (envOf words tally) (answers α to (envOf words tally) l)
+      → Rewrites left-first P t (envOf words tally) (answers α to (envOf words tally) l)
       → atoms l ≡ []
       → state′ ≡ left α to
       → Ran P t words row tally state′ words row tally α
@@ -158,7 +158,7 @@ module _ {words row tally : List ℕ} {P : Place} {t : Term} where
   -- a node that leaves what another left, and did the same atoms
   pub ran-by : {Q : Place} {u : Term} {state′ words′ row′ tally′ : List ℕ} {α : Flag} {l : List Act}
       → (k : Ran Q u words row tally state′ words′ row′ tally′ α)
-      → Rewrites ⊥ P t (envOf words tally) (answers α (k .to) (envOf words′ tally′) l)
+      → Rewrites left-first P t (envOf words tally) (answers α (k .to) (envOf words′ tally′) l)
       → atoms l ≡ atoms (k .acts)
       → Ran P t words row tally state′ words′ row′ tally′ α
   ran-by {l = l} k d e =
@@ -176,7 +176,7 @@ module _ {words row tally : List ℕ} {P : Place} {t : Term} where
       → {Q R : Place} {x u : Term} {s words₁ row₁ tally₁ state′ words′ row′ tally′ : List ℕ} {β α : Flag}
       → (g : Ran Q x words row tally s words₁ row₁ tally₁ β)
       → (k : Ran R u words₁ row₁ tally₁ state′ words′ row′ tally′ α)
-      → Rewrites ⊥ P t (envOf words tally) (answers α (k .to) (envOf words′ tally′) (g .acts ++ k .acts))
+      → Rewrites left-first P t (envOf words tally) (answers α (k .to) (envOf words′ tally′) (g .acts ++ k .acts))
       → Ran P t words row tally state′ words′ row′ tally′ α
   ran-then h g k d =
       record {
@@ -194,7 +194,7 @@ module _ {words row tally : List ℕ} {P : Place} {t : Term} where
       {Q : Place} {x : Term} {words₁ s words₂ words′ row′ tally′ : List ℕ} {α : Flag} {l : List Act} {state′ : List ℕ}
       → (g : Ran Q x words₁ row tally s words₂ row′ tally′ α)
       → SameLengths words tally words′ tally′
-      → Rewrites ⊥ P t (envOf words tally) (answers α (leave α (f (g .to))) (envOf words′ tally′) l)
+      → Rewrites left-first P t (envOf words tally) (answers α (leave α (f (g .to))) (envOf words′ tally′) l)
       → atoms l ≡ atoms (g .acts)
       → state′ ≡ before (own-left α own) (blank ahead ++ (s ++ blank behind))
       → Ran P t words row tally state′ words′ row′ tally′ α
@@ -274,7 +274,7 @@ module _ {own : Own} {ahead behind : ℕ} {f : Term → Term} (o : Frame own ahe
     (g : Ran Q x words₁ row tally s words₂ row′ tally′ α) {P : Place} {t : Term} {words′ : List ℕ} {l : List Act}
     (k : SameLengths words tally words′ tally′) where
   pub ran-kept : skip ≡ 0 → own-left α own ≡ own
-      → Rewrites ⊥ P t (envOf words tally) (answers α (leave α (f (g .to))) (envOf words′ tally′) l)
+      → Rewrites left-first P t (envOf words tally) (answers α (leave α (f (g .to))) (envOf words′ tally′) l)
       → atoms l ≡ atoms (g .acts)
       → Ran P t words row tally (putMid a (e - a) state s) words′ row′ tally′ α
   ran-kept z w d q =
@@ -282,7 +282,7 @@ module _ {own : Own} {ahead behind : ℕ} {f : Term → Term} (o : Frame own ahe
 
   pub ran-phase : skip ≤ 1 → {ph : ℕ} → own ≡ in-phase ph
       → {own′ : Own} {f′ : Term → Term} → Frame own′ ahead behind f′ → {ph′ : ℕ} → own-left α own′ ≡ in-phase ph′
-      → Rewrites ⊥ P t (envOf words tally) (answers α (leave α (f′ (g .to))) (envOf words′ tally′) l)
+      → Rewrites left-first P t (envOf words tally) (answers α (leave α (f′ (g .to))) (envOf words′ tally′) l)
       → atoms l ≡ atoms (g .acts)
       → Ran P t words row tally (set (putMid a (e - a) state s) 0 ph′) words′ row′ tally′ α
   ran-phase z v o′ {ph′} w d q =

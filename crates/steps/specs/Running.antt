@@ -15,7 +15,7 @@ use Rattle.junior.specs.Configuration.{Config, Env, test}
 use Rattle.junior.specs.Program.{kind, size}
 use Rattle.junior.specs.Term.{Term, prog}
 use Rattle.junior.specs.Trace.{Place, Act, atoms}
-use Rattle.junior.specs.Rules.{Rewrites, answers}
+use Rattle.junior.specs.Rules.{left-first, Rewrites, answers}
 use Rattle.junior.specs.Figures.{LoopsStop, per}
 use Rattle.junior.proofs.Going.{Going}
 use Rattle.junior.proofs.Figures.{pot}
@@ -68,7 +68,7 @@ pub record SameLengths (words tally words′ tally′ : List ℕ) : Type 0 where
 pub record Ran (P : Place) (t : Term) (words row tally state′ words′ row′ tally′ : List ℕ) (α : Flag) : Type 0 where
   pub to : Term
   pub acts : List Act
-  pub rewrites : Rewrites ⊥ P t (envOf words tally) (answers α to (envOf words′ tally′) acts)
+  pub rewrites : Rewrites left-first P t (envOf words tally) (answers α to (envOf words′ tally′) acts)
   pub bytes : state′ ≡ left α to
   pub wrote : Wrote (atoms acts) row (atoms-done tally) row′ (atoms-done tally′)
   pub lengths : SameLengths words tally words′ tally′
