@@ -8,14 +8,14 @@ use lib.ListN.{length, getD, take, drop, drop-of-length-le}
 use lib.Seq.{length-take-le, take-all}
 use Rattle.events.specs.Events.{Events}
 use Rattle.table.specs.Records.{nodes}
-use Rattle.steps.specs.StateBytes.{stateBytes}
+use Rattle.state.specs.StateBytes.{stateBytes}
+use Rattle.state.proofs.Standing.{standing}
 use Rattle.kernel.specs.declared.Outcome.the-variants.{Ran}
 use Rattle.kernel.specs.declared.Answer.{Answer}
 use Rattle.kernel.specs.Answer.{instantOutcome, Run, Refused, Answered}
 use Rattle.kernel.specs.Passes.{Startable}
 use Rattle.kernel.proofs.Accepted.{admitted}
 use Rattle.kernel.proofs.Outcomes.{Passed}
-use Rattle.kernel.proofs.Standing.{standing}
 
 pub startable : (t s : List ℕ) {X : Events} {row : List ℕ} → Passed t s X row → ((i : ℕ) → getD s i 0 < 256)
     → Startable t (take (4 * nodes t) s) row

@@ -32,11 +32,11 @@ use Rattle.table.specs.Good.{goodConfiguration}
 use Rattle.table.specs.Spells.{form, configurationOf, programOf, treeOf}
 use Rattle.table.specs.Verdict.{Figures, numberOf, indexOf, no-figures, figuresOf, lengthGood, countsGood, distancesGood}
 use Rattle.table.specs.Verdict.{preorder, firstSuch, light, programVerdict, nodesVerdict, recordsVerdict, verdictOf}
-use Rattle.steps.specs.StateBytes.{below, stateBytes}
-use Rattle.steps.proofs.Parts.{fresh-zeros}
+use Rattle.state.specs.StateBytes.{below, stateBytes}
+use Rattle.state.proofs.Parts.{fresh-zeros}
+use Rattle.state.specs.Resting.{zeroNode, zeroNodes, phaseRests, flagsRest, countRests, rests}
 use Rattle.kernel.specs.declared.Outcome.{Outcome}
 use Rattle.kernel.specs.declared.Outcome.the-variants.{Ran, Table}
-use Rattle.kernel.specs.Resting.{zeroNode, zeroNodes, phaseRests, flagsRest, countRests, rests}
 use Rattle.kernel.specs.Answer.{outcomeNumber, outcomeIndex, onAccepted, startOutcome, instantOutcome, startedRoom}
 use Rattle.kernel.specs.Answer.{Started}
 use Rattle.kernel.specs.Bench.{Line, Entry, accepted, refused, not-started, not-run, Checks, Starts, Answers, Follow, Alone}

@@ -26,9 +26,9 @@ use Rattle.table.specs.Verdict.{endless, light}
 use Rattle.table.specs.Verdict.{numberOf, indexOf}
 use Rattle.table.proofs.Laid.{both}
 use Rattle.table.proofs.Order.{length-preorder}
+use Rattle.state.specs.Resting.{rests, blamed}
 use Rattle.kernel.specs.declared.Outcome.{Outcome}
 use Rattle.kernel.specs.declared.Outcome.the-variants.{Table, StateRoom, NotAtRest, UnlistedEvent, AtomRoom}
-use Rattle.kernel.specs.Resting.{rests, blamed}
 use Rattle.kernel.specs.Answer.{outcomeNumber, outcomeIndex, hasRoom, unlisted}
 use Rattle.kernel.specs.Demand1.{Handed, LowestBad, LowestNode, Endless, Check, its-length, its-counts}
 use Rattle.kernel.specs.Demand1.{its-distances}

@@ -2,7 +2,7 @@
 use Prim.Native.Nat.{ℕ, _-_}
 use mathlib.Core.Bool.{Bool, true, false, cond, not, false≢true}
 use mathlib.Core.Path.{_≡_, refl, ap, sym, _∙_}
-use mathlib.Core.Logic.{_≢_, _⊎_, inl, inr}
+use mathlib.Core.Logic.{_≢_, inl, inr}
 use mathlib.Core.List.{List, [], _∷_}
 use native.Mathlib.Omega.{arith}
 use lib.Dec.{ltb}
@@ -19,10 +19,10 @@ use Rattle.table.specs.Good.{goodConfiguration, goodNode}
 use Rattle.table.specs.Spells.{treeOf}
 use Rattle.table.specs.Verdict.{numberOf, indexOf, lengthGood, countsGood, distancesGood, preorder, firstSuch, deep}
 use Rattle.table.specs.Verdict.{endless, light, programVerdict, nodesVerdict, recordsVerdict, verdictOf}
+use Rattle.state.specs.Resting.{blamed}
 use Rattle.kernel.specs.declared.Outcome.{Outcome}
 use Rattle.kernel.specs.declared.Outcome.the-variants.{Ran, Table, StateRoom, NotAtRest, UnlistedEvent}
 use Rattle.kernel.specs.declared.Outcome.the-variants.{AtomRoom}
-use Rattle.kernel.specs.Resting.{blamed}
 use Rattle.kernel.specs.Answer.{outcomeNumber, outcomeIndex, onAccepted, hasRoom, startOutcome, startedRoom}
 use Rattle.kernel.specs.Answer.{unlisted, instantOutcome}
 use Rattle.kernel.specs.Demand1.{Handed, handed, Check, its-length, its-counts, its-distances}

@@ -23,15 +23,15 @@ use Rattle.junior.proofs.Going.{leaves-rest, program-kept}
 use Rattle.junior.proofs.AsPrinted.{instant-as-printed}
 use Rattle.junior.proofs.PrintedOnce.{printed-exactly, actions-deeds}
 use Rattle.table.specs.Records.{nodes, events}
-use Rattle.steps.specs.StateBytes.{stateBytes}
-use Rattle.steps.proofs.Parts.{len-bytes}
+use Rattle.state.specs.StateBytes.{stateBytes}
+use Rattle.state.proofs.Parts.{len-bytes}
+use Rattle.state.proofs.OneTerm.{one-term}
 use Rattle.kernel.specs.declared.Outcome.the-variants.{Ran}
 use Rattle.kernel.specs.declared.Answer.{Answer}
 use Rattle.kernel.specs.Answer.{unlisted, instantOutcome, ended, Run, Answered}
 use Rattle.kernel.specs.Demand2.{Premises, Stands, Gives, GivesPrinted, Demand2}
 use Rattle.kernel.proofs.Accepted.{admitted}
 use Rattle.kernel.proofs.Outcomes.{instant-ran}
-use Rattle.kernel.proofs.OneTerm.{one-term}
 
 -- on the premises nothing is refused
 none-unlisted : (t : List ℕ) (X : Events) → ((e : ℕ) → X e ≡ true → e < events t) → unlisted t X ≡ places

@@ -1,16 +1,15 @@
 -- Demand 3, of every answer: by the contract of `instant` and demand 3 of the definitions.
-use Prim.Native.Nat.{ℕ, _*_}
-use mathlib.Core.Path.{_≡_, sym, _∙_}
+use Prim.Native.Nat.{ℕ}
+use mathlib.Core.Path.{sym, _∙_}
 use mathlib.Core.List.{List}
-use native.Mathlib.Omega.{arith}
 use Rattle.events.specs.Events.{Events}
 use Rattle.junior.proofs.Demand3.{demand-3 as by-the-rules}
+use Rattle.state.proofs.Blameless.{resting}
 use Rattle.kernel.specs.declared.Answer.{Answer}
 use Rattle.kernel.specs.Answer.{Answered}
 use Rattle.kernel.specs.Demand2.{Premises}
 use Rattle.kernel.specs.Demand3.{Demand3}
 use Rattle.kernel.proofs.Accepted.{admitted}
-use Rattle.kernel.proofs.Blameless.{resting}
 use Rattle.kernel.proofs.Demand2.{runs, stands, gives}
 
 pub demand-3 : {t s : List ℕ} {X : Events} {row s′ row′ : List ℕ} {a : Answer} (p : Premises t s X row) → Answered t s X row s′ row′ a

@@ -1,14 +1,4 @@
 -- Laws, in the order in which they lean on one another.
-pub mod Little
-pub mod Zeros
-pub mod Children
-pub mod Firsts
-pub mod Near
-pub mod Fresh
-pub mod NodeBytes
-pub mod OneTerm
-pub mod Standing
-pub mod Blameless
 pub mod Unlisted
 pub mod Accepted
 pub mod Outcomes

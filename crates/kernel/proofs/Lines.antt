@@ -25,14 +25,14 @@ use Rattle.table.specs.Records.{nodes}
 use Rattle.table.specs.Spells.{treeOf}
 use Rattle.table.specs.Verdict.{verdictOf}
 use Rattle.table.proofs.Laid.{both}
-use Rattle.steps.specs.StateBytes.{stateBytes}
-use Rattle.steps.proofs.Parts.{len-bytes}
+use Rattle.state.specs.StateBytes.{stateBytes}
+use Rattle.state.proofs.Parts.{len-bytes}
+use Rattle.state.specs.Resting.{blamed}
+use Rattle.state.proofs.Blameless.{resting}
 use Rattle.kernel.specs.declared.Outcome.{Outcome}
 use Rattle.kernel.specs.declared.Outcome.the-variants.{Ran, UnlistedEvent, AtomRoom}
-use Rattle.kernel.specs.Resting.{blamed}
 use Rattle.kernel.specs.Answer.{outcomeNumber, outcomeIndex, unlisted, instantOutcome, ended, Answered}
 use Rattle.kernel.specs.Bench.{Line, Answers}
-use Rattle.kernel.proofs.Blameless.{resting}
 use Rattle.kernel.proofs.Accepted.{admitted}
 use Rattle.kernel.proofs.Outcomes.{instant-is}
 use Rattle.kernel.proofs.OneAnswer.{one-instant}

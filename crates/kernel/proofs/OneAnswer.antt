@@ -14,14 +14,14 @@ use Rattle.junior.proofs.Deterministic.{one-outcome}
 use Rattle.table.specs.declared.Checked.{Checked}
 use Rattle.table.specs.Records.{nodes}
 use Rattle.table.specs.Verdict.{verdictOf}
-use Rattle.steps.specs.StateBytes.{stateBytes}
+use Rattle.state.specs.StateBytes.{stateBytes}
+use Rattle.state.proofs.OneTerm.{one-term}
 use Rattle.kernel.specs.declared.Outcome.{Outcome}
 use Rattle.kernel.specs.declared.Outcome.the-variants.{Ran, Table, StateRoom, NotAtRest, UnlistedEvent}
 use Rattle.kernel.specs.declared.Outcome.the-variants.{AtomRoom}
 use Rattle.kernel.specs.declared.Answer.{Answer}
 use Rattle.kernel.specs.Answer.{startedRoom, ended, Run, Refused, Started, Answered}
 use Rattle.kernel.specs.Exports.{startPlaces, instantPlaces, StartedInPlaces, AnsweredInPlaces}
-use Rattle.kernel.proofs.OneTerm.{one-term}
 
 pub one-check : (t : List ℕ) (q r : Checked) → q ≡ verdictOf t → r ≡ verdictOf t → q ≡ r
 one-check t q r a b = a ∙ sym b

@@ -19,10 +19,10 @@ use Rattle.table.specs.Records.{nodes}
 use Rattle.table.specs.Verdict.{no-figures, figuresOf, verdictOf}
 use Rattle.table.proofs.Checked.{the-type as verdict-type}
 use Rattle.table.proofs.Accepted.{chosen, passed}
+use Rattle.state.specs.Resting.{rests, blamed}
 use Rattle.kernel.specs.declared.Outcome.{Outcome}
 use Rattle.kernel.specs.declared.Outcome.the-variants.{Ran, Table, StateRoom, NotAtRest, UnlistedEvent}
 use Rattle.kernel.specs.declared.Outcome.the-variants.{AtomRoom}
-use Rattle.kernel.specs.Resting.{rests, blamed}
 use Rattle.kernel.specs.Answer.{onAccepted, hasRoom, startOutcome, unlisted, instantOutcome}
 use Rattle.kernel.proofs.Outcome.{the-type as outcome-type}
 

@@ -32,13 +32,13 @@ use Rattle.junior.proofs.Figures.{pot, pot-at-rest}
 use Rattle.junior.proofs.Instants.{uses-up, goes-on}
 use Rattle.table.specs.Records.{nodes}
 use Rattle.table.proofs.Tree.{size-pos}
-use Rattle.steps.specs.StateBytes.{zeros, below, stateBytes}
+use Rattle.state.specs.StateBytes.{zeros, below, stateBytes}
+use Rattle.state.proofs.Parts.{len-bytes}
 use Rattle.steps.specs.Running.{atoms-done, envOf, Any, Ready, Ran, Wrote}
 use Rattle.steps.specs.Numbers.{event-words, moved-at, ended-at, places-of-row, wordsOf, tallyOf, firstNumbers, nextNumbers, Numbers}
 use Rattle.steps.specs.Flags.{flagOf}
 use Rattle.steps.specs.Kinds.{all-seen}
 use Rattle.steps.specs.Lent.{lent, Stands, Went, CanRun, HasRun}
-use Rattle.steps.proofs.Parts.{len-bytes}
 use Rattle.steps.proofs.Done.{wrote-long, few}
 use Rattle.steps.proofs.Row.{still, tally-1, tally-2, first-words, first-tally, first-holds, next-words, next-holds}
 use Rattle.kernel.specs.declared.Answer.{Answer}

@@ -1,5 +1,5 @@
 -- What start and instant answer, and what they leave in the lent rooms (01, "Refusal numbers" and "Rules of a pass").
-use Prim.Native.Nat.{ℕ, _+_, _*_}
+use Prim.Native.Nat.{ℕ, _*_}
 use mathlib.Core.Bool.{Bool, true, false, cond, _&&_}
 use mathlib.Core.Path.{_≡_}
 use mathlib.Core.Logic.{_≢_}
@@ -22,12 +22,12 @@ use Rattle.table.specs.declared.Checked.the-variants.{TooDeep, EndlessLoop, Too
 use Rattle.table.specs.Records.{nodes, events}
 use Rattle.table.specs.Spells.{treeOf}
 use Rattle.table.specs.Verdict.{verdictOf, numberOf, indexOf}
-use Rattle.steps.specs.StateBytes.{stateBytes}
+use Rattle.state.specs.StateBytes.{stateBytes}
+use Rattle.state.specs.Resting.{blamed}
 use Rattle.kernel.specs.declared.Outcome.{Outcome}
 use Rattle.kernel.specs.declared.Outcome.the-variants.{Ran, Table, StateRoom, NotAtRest, UnlistedEvent}
 use Rattle.kernel.specs.declared.Outcome.the-variants.{AtomRoom}
 use Rattle.kernel.specs.declared.Answer.{Answer}
-use Rattle.kernel.specs.Resting.{blamed}
 
 -- this paper's number and index of each outcome
 unfoldable pub outcomeNumber : Outcome → ℕ

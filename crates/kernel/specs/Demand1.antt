@@ -16,9 +16,9 @@ use Rattle.table.specs.Records.{nodes, configurations, events, back-to-nodes, b
 use Rattle.table.specs.Good.{goodConfiguration, goodNode}
 use Rattle.table.specs.Spells.{Spells, treeOf}
 use Rattle.table.specs.Verdict.{Node, preorder, verdictOf, numberOf, indexOf}
+use Rattle.state.specs.Resting.{rests}
 use Rattle.kernel.specs.declared.Outcome.{Outcome}
 use Rattle.kernel.specs.declared.Answer.{Answer}
-use Rattle.kernel.specs.Resting.{rests}
 use Rattle.kernel.specs.Answer.{outcomeNumber, outcomeIndex, Started, Answered}
 
 -- what a call is handed; check is handed a table alone, start a table and a state

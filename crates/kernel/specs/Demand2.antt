@@ -20,10 +20,10 @@ use Rattle.table.specs.declared.Checked.the-variants.{Accepted}
 use Rattle.table.specs.Records.{nodes, events}
 use Rattle.table.specs.Spells.{treeOf}
 use Rattle.table.specs.Verdict.{verdictOf}
-use Rattle.steps.specs.StateBytes.{stateBytes}
+use Rattle.state.specs.StateBytes.{stateBytes}
+use Rattle.state.specs.Resting.{blamed}
 use Rattle.kernel.specs.declared.Outcome.the-variants.{Ran}
 use Rattle.kernel.specs.declared.Answer.{Answer}
-use Rattle.kernel.specs.Resting.{blamed}
 use Rattle.kernel.specs.Answer.{ended}
 
 -- what an instant is handed

@@ -1,7 +1,7 @@
 -- Demand 3: "On the same premises an instant always ends, within two passes more than the event generations worked out at loading, leaves a
 -- state at rest, its event set only grows from pass to pass; once the end is declared no event is generated and no action done; every test
 -- decided in the instant has the value that the finished events give it, a local event's being its own scope's."
-use Prim.Native.Nat.{ℕ, _+_, _*_, _≤_}
+use Prim.Native.Nat.{ℕ, _+_, _≤_}
 use mathlib.Core.Path.{_≡_}
 use mathlib.Core.List.{List}
 use Rattle.events.specs.Events.{Events}
@@ -13,9 +13,9 @@ use Rattle.junior.specs.Instant.{Instant}
 use Rattle.junior.specs.Course.{event-sets, Rising, IdleOnceEnded}
 use Rattle.junior.specs.Decided.{DecidedRight}
 use Rattle.table.specs.Records.{nodes}
+use Rattle.state.specs.Resting.{blamed}
 use Rattle.kernel.specs.declared.Outcome.the-variants.{Ran}
 use Rattle.kernel.specs.declared.Answer.{Answer}
-use Rattle.kernel.specs.Resting.{blamed}
 use Rattle.kernel.specs.Demand2.{Premises, Stands}
 
 pub record Demand3 {t s : List ℕ} {X : Events} {row : List ℕ} (p : Premises t s X row) (s′ : List ℕ) (a : Answer) : Type 0 where

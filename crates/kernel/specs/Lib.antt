@@ -1,5 +1,3 @@
-pub mod Resting
-pub mod Inside
 pub mod Answer
 pub mod Passes
 pub mod Demand1

@@ -14,7 +14,7 @@ use Rattle.junior.specs.AtRest.{AtRest}
 use Rattle.table.specs.Records.{nodes}
 use Rattle.table.specs.Spells.{treeOf}
 use Rattle.table.specs.Inside.{Placed}
-use Rattle.steps.specs.StateBytes.{stateBytes}
+use Rattle.state.specs.StateBytes.{stateBytes}
 use Rattle.kernel.specs.declared.Outcome.the-variants.{Ran}
 use Rattle.kernel.specs.declared.Answer.{Answer}
 use Rattle.kernel.specs.Answer.{Run}

@@ -7,9 +7,9 @@ ghost use Rattle.events.specs.Events.{lowest};
 ghost use Rattle.events.specs.Members.{places, members};
 ghost use Rattle.kernel.specs.Answer.{Started, instantOutcome, Answered, Refused};
 use crate::passes::run_passes;
-use crate::resting::first_blamed;
 use events::EventSet;
-use steps::clear;
+use state::clear;
+use state::resting::first_blamed;
 use table::Checked;
 use table::check;
 use table::records::word_at;
@@ -17,7 +17,6 @@ use table::records::word_at;
 pub mod exports;
 pub mod numbers;
 mod passes;
-mod resting;
 
 // How a call ended; specs/Answer.antt has each case's number and index (01, "Refusal numbers").
 pub enum Outcome {

@@ -19,13 +19,13 @@ use Rattle.junior.proofs.Verdicts.{test-event}
 use Rattle.junior.proofs.Going.{Going, Controlled}
 use Rattle.table.specs.Records.{argumentAt}
 use Rattle.table.specs.Spells.{Spells}
+use Rattle.state.proofs.Shape.{Shape, is-done, is-control, shape-by}
+use Rattle.state.proofs.Frames.{control-body}
 use Rattle.steps.specs.Running.{Ready, Ran, Live, Runs, Any, Kind, envOf}
-use Rattle.steps.proofs.Shape.{Shape, is-done, is-control, shape-by}
-use Rattle.steps.proofs.Frames.{control-body}
 use Rattle.steps.proofs.Children.{falling, only-cut, first-at}
-use Rattle.runner.proofs.Only.{only-asks, only-ran}
 use Rattle.steps.proofs.Tally.{not-ended, is-ended}
 use Rattle.steps.proofs.Done.{phase-0-left, ran-alone, ran-kept}
+use Rattle.runner.proofs.Only.{only-asks, only-ran}
 
 pub data Controls : Term → Type 0 where
   controls : (s : ℕ) (x : Term) → Controls (control s x)

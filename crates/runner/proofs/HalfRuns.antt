@@ -8,20 +8,20 @@ use lib.Dec.{lit<}
 use lib.ListN.{length, getD, take, drop}
 use Rattle.junior.specs.Term.{Term}
 use Rattle.table.specs.Records.{sizeAt, secondAt}
+use Rattle.state.proofs.Parts.{first-of, with-first, rest-of, with-rest}
+use Rattle.state.proofs.Shape.{Shape, is-done, is-par, shape-by}
 use Rattle.steps.specs.Running.{Ready, Any, Kind, parEnd}
-use Rattle.steps.proofs.Parts.{first-of, with-first, rest-of, with-rest}
-use Rattle.steps.proofs.Shape.{Shape, is-done, is-par, shape-by}
 use Rattle.steps.proofs.Children.{own-in}
-use Rattle.runner.proofs.Par.{Left, Right, par-by, left-by, right-by, par-reads, par-fits, left-flag, right-flag, first-asks}
-use Rattle.runner.proofs.Par.{left-end-asks, left-ran, right-asks, right-end-asks, right-ran}
 use Rattle.steps.specs.Kinds.{NotBoth, par-kind}
 use Rattle.steps.specs.Flags.{flagOf, ParEnds}
 use Rattle.steps.specs.Lent.{lent, Around, Stands, Went, CanRun, HasRun}
 use Rattle.steps.proofs.Context.{byte-at, byte-in, outer}
 use Rattle.steps.proofs.FlagNumbers.{code-of}
 use Rattle.steps.proofs.Dispatch.{run-at, phase-is, flags-are}
-use Rattle.runner.proofs.Falling.{weigh, child-rank, lighter, smaller-by}
 use Rattle.steps.proofs.ChildContext.{child-stands, par-end-around}
+use Rattle.runner.proofs.Par.{Left, Right, par-by, left-by, right-by, par-reads, par-fits, left-flag, right-flag, first-asks}
+use Rattle.runner.proofs.Par.{left-end-asks, left-ran, right-asks, right-end-asks, right-ran}
+use Rattle.runner.proofs.Falling.{weigh, child-rank, lighter, smaller-by}
 
 -- a Par that doesn't read as Nothing is in phase 0
 par-phase : {t : Term} {ph : ℕ} → Shape t par-kind ph → ph ≢ 3 → ph ≡ 0

@@ -18,10 +18,10 @@ use Rattle.junior.specs.Trace.{Place}
 use Rattle.junior.specs.AtRest.{Over}
 use Rattle.junior.proofs.Going.{Going, Stand, stands}
 use Rattle.table.proofs.Tree.{size-pos}
-use Rattle.steps.specs.StateBytes.{code, zeros, below, stateBytes}
+use Rattle.state.specs.StateBytes.{code, zeros, below, stateBytes}
+use Rattle.state.proofs.Parts.{first-of, with-first, rest-of, with-rest, blank-two, part-is, put-is}
 use Rattle.steps.specs.Running.{Ran}
 use Rattle.steps.specs.Running.{left, gone, ended, isTERM, parEnd}
-use Rattle.steps.proofs.Parts.{first-of, with-first, rest-of, with-rest, blank-two, part-is, put-is}
 use Rattle.steps.proofs.Done.{left-leave}
 
 -- a Par's bytes: its flags, those of its first branch, n nodes, and those of its second

@@ -21,14 +21,14 @@ use Rattle.junior.proofs.Grows.{grows}
 use Rattle.junior.proofs.Going.{Going}
 use Rattle.table.specs.Records.{argumentAt}
 use Rattle.table.specs.Spells.{Spells}
-use Rattle.steps.specs.StateBytes.{in-phase}
+use Rattle.state.specs.StateBytes.{in-phase}
+use Rattle.state.proofs.Shape.{Shape, is-done, is-local, shape-by}
+use Rattle.state.proofs.Frames.{local-body}
 use Rattle.steps.specs.Running.{Ready, SameLengths, Ran, Live, Runs, Any, Kind, envOf, signAfter}
-use Rattle.steps.proofs.Shape.{Shape, is-done, is-local, shape-by}
-use Rattle.steps.proofs.Frames.{local-body}
 use Rattle.steps.proofs.LoadedNode.{local-placed}
 use Rattle.steps.proofs.Children.{at-node, falling, only-cut, first-at, phase-is}
-use Rattle.runner.proofs.Only.{only-asks, only-ran}
 use Rattle.steps.proofs.Done.{own-left, ran-long, back-in, ran-phase}
+use Rattle.runner.proofs.Only.{only-asks, only-ran}
 
 pub data Locals : Term → Type 0 where
   locals : (b : Bool) (e : ℕ) (x : Term) → Locals (local b e x)

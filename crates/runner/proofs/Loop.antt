@@ -18,15 +18,15 @@ use Rattle.junior.proofs.Kept.{prog-fresh}
 use Rattle.junior.proofs.Held.{held-fresh, begun, ends-unheld}
 use Rattle.junior.proofs.Going.{Going, rest-going, fresh-at-rest}
 use Rattle.junior.proofs.Figures.{pot, pot-fresh}
-use Rattle.steps.specs.StateBytes.{below}
+use Rattle.state.specs.StateBytes.{below}
+use Rattle.state.proofs.Parts.{fresh-zeros}
+use Rattle.state.proofs.Shape.{Shape, is-done, is-loop0, is-loop1, shape-by}
+use Rattle.state.proofs.Frames.{loop-body}
 use Rattle.steps.specs.Running.{Ready, Ran, Live, Runs, Any, Kind, KindPhase}
-use Rattle.steps.proofs.Parts.{fresh-zeros}
-use Rattle.steps.proofs.Shape.{Shape, is-done, is-loop0, is-loop1, shape-by}
-use Rattle.steps.proofs.Frames.{loop-body}
 use Rattle.steps.proofs.Children.{at-node, falling, only-cut, first-at, phase-is}
-use Rattle.runner.proofs.Only.{only-asks, only-ran}
 use Rattle.steps.proofs.Done.{same-lengths, ready-as, room-after, few, ran-flag, ran-zeros, ran-long, ran-then}
 use Rattle.steps.proofs.Done.{back-kept, back-long, back-in, own-stays, ran-kept, ran-phase}
+use Rattle.runner.proofs.Only.{only-asks, only-ran}
 
 -- a Loop that is to begin its body
 pub data Begins : Term → Type 0 where

@@ -9,19 +9,19 @@ use lib.ListN.{length, getD, take, drop, set}
 use borrow.Rule.Slice.PartMut.{midOf, putMid}
 use Rattle.junior.specs.Term.{Term}
 use Rattle.table.specs.Records.{kindAt, sizeAt}
+use Rattle.state.proofs.Shape.{Shape, is-done, is-loop0, is-loop1, shape-by}
 use Rattle.steps.specs.Running.{Ready, Any}
-use Rattle.steps.proofs.Shape.{Shape, is-done, is-loop0, is-loop1, shape-by}
 use Rattle.steps.proofs.Children.{own-in, unseen}
-use Rattle.runner.proofs.Loop.{Begins, begins-by, begin-asks, goes-on, begin-writes, begin-ran}
-use Rattle.runner.proofs.Loop.{Loops, loops-by, loop-asks, loop-waits, anew-asks, loop-again}
 use Rattle.steps.specs.Kinds.{OfKind, Beginning, loop-kind}
 use Rattle.steps.specs.Lent.{Lent, lent, Around, Stands, Went, CanRun, HasRun}
 use Rattle.steps.proofs.Context.{outer, phase-at, phase-in, put-phase}
 use Rattle.steps.proofs.Row.{kept-then, still}
 use Rattle.steps.proofs.FlagNumbers.{is-term, not-term}
 use Rattle.steps.proofs.Dispatch.{phase-is, to-kind}
-use Rattle.runner.proofs.Falling.{weigh, child-rank, form-rank, stage-rank, smaller-by}
 use Rattle.steps.proofs.ChildContext.{child-stands}
+use Rattle.runner.proofs.Loop.{Begins, begins-by, begin-asks, goes-on, begin-writes, begin-ran}
+use Rattle.runner.proofs.Loop.{Loops, loops-by, loop-asks, loop-waits, anew-asks, loop-again}
+use Rattle.runner.proofs.Falling.{weigh, child-rank, form-rank, stage-rank, smaller-by}
 
 -- the body begins
 module _ {table : List ℕ} {i : ℕ} {state m row before part behind : List ℕ}

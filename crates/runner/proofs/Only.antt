@@ -12,9 +12,9 @@ use Rattle.junior.specs.Trace.{Place}
 use Rattle.junior.proofs.Going.{Going}
 use Rattle.table.proofs.Tree.{size-pos}
 use Rattle.table.proofs.Loaded.{in-table}
-use Rattle.steps.specs.StateBytes.{Own}
+use Rattle.state.specs.StateBytes.{Own}
+use Rattle.state.proofs.Frames.{Frame}
 use Rattle.steps.specs.Running.{Ready, Ran, Live, Runs, Any}
-use Rattle.steps.proofs.Frames.{Frame}
 use Rattle.steps.proofs.Children.{falling, own-in, only-cut, asks, child-ran, next-index}
 
 module _ {skip : ℕ} {table : List ℕ} {i : ℕ} {state words row tally : List ℕ} {t : Term}

@@ -23,17 +23,17 @@ use Rattle.table.specs.Spells.{Spells}
 use Rattle.table.specs.Inside.{Placed}
 use Rattle.table.proofs.Tree.{size-pos, written}
 use Rattle.table.proofs.Loaded.{in-table}
-use Rattle.steps.specs.StateBytes.{code, head, below, stateBytes}
+use Rattle.state.specs.StateBytes.{code, head, below, stateBytes}
+use Rattle.state.proofs.Parts.{first-of, with-first, rest-of, with-rest, len-bytes}
+use Rattle.state.proofs.Shape.{Shape, is-done, is-par, shape-by}
 use Rattle.steps.specs.Running.{envOf, Ready, Wrote, SameLengths, Ran, Live, Runs, Any, Kind, LeftSuspended}
 use Rattle.steps.specs.Running.{RightSuspended, parEnd, atoms-done}
-use Rattle.steps.proofs.Parts.{first-of, with-first, rest-of, with-rest, len-bytes}
-use Rattle.steps.proofs.Shape.{Shape, is-done, is-par, shape-by}
 use Rattle.steps.proofs.FlagTables.{code-same, code-below, both-are}
 use Rattle.steps.proofs.Children.{asks-for, at-node, falling, first-at, second-at, byte-is}
+use Rattle.steps.proofs.Done.{same-lengths, lengths-then, few, ran-flag, ran-long, room-after, wrote-as, wrote-then}
 use Rattle.runner.proofs.Joined.{Two, first-part, put-first, ends, second-part, put-second}
 use Rattle.runner.proofs.Joined.{end-asks, unchanged}
 use Rattle.runner.proofs.Joined.{Branch, branch-stood, branch-ran, par-ended}
-use Rattle.steps.proofs.Done.{same-lengths, lengths-then, few, ran-flag, ran-long, room-after, wrote-as, wrote-then}
 
 -- a Par, and which of its branches run
 pub data Branches : Flag → Flag → Type 0 where

@@ -8,18 +8,18 @@ use lib.ListN.{length, getD, take, drop}
 use Rattle.junior.specs.declared.Flag.the-variants.{SUSP}
 use Rattle.junior.specs.Term.{Term}
 use Rattle.table.specs.Records.{sizeAt, secondAt}
+use Rattle.state.proofs.Parts.{first-of, with-first, rest-of, with-rest}
 use Rattle.steps.specs.Running.{Ready, Any, Kind, parEnd}
-use Rattle.steps.proofs.Parts.{first-of, with-first, rest-of, with-rest}
 use Rattle.steps.proofs.Children.{byte-is, own-in}
-use Rattle.runner.proofs.Par.{First, par-by, both-by, par-reads, first-asks, both-fits, then-asks, both-end-asks, both-ran}
 use Rattle.steps.specs.Kinds.{BothSuspended}
 use Rattle.steps.specs.Flags.{flagOf, ParEnds}
 use Rattle.steps.specs.Lent.{lent, Around, Stands, Went, CanRun, HasRun}
 use Rattle.steps.proofs.Context.{byte-at, byte-in, outer}
 use Rattle.steps.proofs.Row.{kept-then, still}
 use Rattle.steps.proofs.Dispatch.{run-at}
-use Rattle.runner.proofs.Falling.{weigh, child-rank, lighter, smaller-by}
 use Rattle.steps.proofs.ChildContext.{child-stands, front-stays, par-end-around}
+use Rattle.runner.proofs.Par.{First, par-by, both-by, par-reads, first-asks, both-fits, then-asks, both-end-asks, both-ran}
+use Rattle.runner.proofs.Falling.{weigh, child-rank, lighter, smaller-by}
 
 module _ {table : List ℕ} {i : ℕ} {part words row tally : List ℕ} {t : Term} (w : BothSuspended t) (h : Ready 0 table i part words row tally t) where
   pub as-par : Kind 4 t

@@ -21,18 +21,18 @@ use Rattle.junior.proofs.Going.{Going, rest-going, fresh-at-rest}
 use Rattle.junior.proofs.Figures.{pot, pot-at-rest, pot-again}
 use Rattle.table.specs.Records.{word, argumentAt}
 use Rattle.table.specs.Spells.{Spells}
-use Rattle.steps.specs.StateBytes.{head, below, zeros}
+use Rattle.state.specs.StateBytes.{head, below, zeros}
+use Rattle.state.proofs.Parts.{fresh-zeros, blank-below, own-of}
+use Rattle.state.proofs.Shape.{Shape, is-done, is-repeat0, is-repeat1, shape-by}
+use Rattle.state.proofs.Frames.{repeat-body}
 use Rattle.steps.specs.Running.{Ready, Ran, Live, Runs, Any, Kind, Times}
-use Rattle.steps.proofs.Parts.{fresh-zeros, blank-below, own-of}
-use Rattle.steps.proofs.Shape.{Shape, is-done, is-repeat0, is-repeat1, shape-by}
-use Rattle.steps.proofs.Frames.{repeat-body}
 use Rattle.steps.proofs.LoadedNode.{repeat-below}
 use Rattle.steps.proofs.Children.{at-node, falling, byte-is, only-cut, put-back, first-at, phase-is, unseen}
-use Rattle.runner.proofs.Only.{only-asks, only-ran}
 use Rattle.steps.proofs.Done.{same-lengths, ready-as, room-after, few, ran-flag, ran-zeros, ran-long, ran-alone}
 use Rattle.steps.proofs.Done.{ran-by}
 use Rattle.steps.proofs.Done.{ran-then, ran-around}
 use Rattle.steps.proofs.Done.{back-long, back-in, own-stays}
+use Rattle.runner.proofs.Only.{only-asks, only-ran}
 
 -- one not begun
 pub data Unbegun : Term → Type 0 where

@@ -22,11 +22,11 @@ use Rattle.table.specs.Records.{sizeAt}
 use Rattle.table.specs.Spells.{Spells}
 use Rattle.table.specs.Inside.{Placed}
 use Rattle.table.proofs.Tree.{written}
-use Rattle.steps.specs.StateBytes.{in-phase, zeros, below}
+use Rattle.state.specs.StateBytes.{in-phase, zeros, below}
+use Rattle.state.proofs.Parts.{first-of, with-first, rest-of, with-rest, fresh-zeros}
+use Rattle.state.proofs.Shape.{Shape, is-done, is-seq0, is-seq2, is-when2, is-until2, is-local, shape-by}
+use Rattle.state.proofs.Frames.{Frame, seq-first, seq-second, when-second, until-second}
 use Rattle.steps.specs.Running.{Ready, Ran, Live, Runs, Any, Kind, Phase, phaseAfter}
-use Rattle.steps.proofs.Parts.{first-of, with-first, rest-of, with-rest, fresh-zeros}
-use Rattle.steps.proofs.Shape.{Shape, is-done, is-seq0, is-seq2, is-when2, is-until2, is-local, shape-by}
-use Rattle.steps.proofs.Frames.{Frame, seq-first, seq-second, when-second, until-second}
 use Rattle.steps.proofs.Children.{at-node, falling, first-cut, second-cut, asks, child-ran, next-index}
 use Rattle.steps.proofs.Children.{first-at, second-at, phase-is, next-in-table, till-in}
 use Rattle.steps.proofs.Done.{ready-as, room-after, few, ran-flag, ran-zeros, ran-long, ran-then}

@@ -8,21 +8,21 @@ use lib.Dec.{lit<}
 use lib.ListN.{length, getD, take, drop, set}
 use Rattle.junior.specs.Term.{Term}
 use Rattle.table.specs.Records.{sizeAt, secondAt}
+use Rattle.state.proofs.Parts.{first-of, with-first, rest-of, with-rest}
 use Rattle.steps.specs.Running.{Ready, Any, phaseAfter}
-use Rattle.steps.proofs.Parts.{first-of, with-first, rest-of, with-rest}
 use Rattle.steps.proofs.Children.{own-in}
-use Rattle.runner.proofs.Seq.{Second, second-by, second-reads, second-fits, second-asks, second-writes, second-ran}
-use Rattle.runner.proofs.Seq.{Seq0, seq0-by, first-reads, first-asks, seq-waits, over-asks, seq-goes-over}
 use Rattle.steps.specs.Kinds.{OfKind, InSecond, seq-kind}
 use Rattle.steps.specs.Flags.{flagOf}
 use Rattle.steps.specs.Lent.{Lent, lent, Around, Stands, Went, CanRun, HasRun}
 use Rattle.steps.proofs.Context.{outer, phase-at, phase-in, put-phase}
 use Rattle.steps.proofs.Row.{still}
-use Rattle.runner.proofs.GoesOn.{to-phase, by-phase, went-as}
 use Rattle.steps.proofs.FlagNumbers.{is-term, not-term}
 use Rattle.steps.proofs.Dispatch.{run-at, phase-is}
-use Rattle.runner.proofs.Falling.{weigh, child-rank, lighter, smaller-by}
 use Rattle.steps.proofs.ChildContext.{child-stands}
+use Rattle.runner.proofs.Seq.{Second, second-by, second-reads, second-fits, second-asks, second-writes, second-ran}
+use Rattle.runner.proofs.Seq.{Seq0, seq0-by, first-reads, first-asks, seq-waits, over-asks, seq-goes-over}
+use Rattle.runner.proofs.GoesOn.{to-phase, by-phase, went-as}
+use Rattle.runner.proofs.Falling.{weigh, child-rank, lighter, smaller-by}
 
 -- gone over: the second child runs
 module _ {table : List ℕ} {i : ℕ} {state m row before part behind : List ℕ}

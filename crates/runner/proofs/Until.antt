@@ -25,12 +25,12 @@ use Rattle.table.specs.Records.{sizeAt}
 use Rattle.table.specs.Spells.{Spells}
 use Rattle.table.proofs.Tree.{size-pos, written}
 use Rattle.table.proofs.Loaded.{in-table}
-use Rattle.steps.specs.StateBytes.{zeros, below, stateBytes}
+use Rattle.state.specs.StateBytes.{zeros, below, stateBytes}
+use Rattle.state.proofs.Parts.{len-bytes, fresh-zeros, own-of, part-is, put-is}
+use Rattle.state.proofs.Shape.{Shape, is-done, is-until0, is-until*, is-until2, shape-by}
+use Rattle.state.proofs.Frames.{until-first}
 use Rattle.steps.specs.Running.{Ready, Ran, Live, Runs, Any, Kind, Phase, KindPhase, envOf}
 use Rattle.steps.specs.Running.{HasTest, TestRead}
-use Rattle.steps.proofs.Parts.{len-bytes, fresh-zeros, own-of, part-is, put-is}
-use Rattle.steps.proofs.Shape.{Shape, is-done, is-until0, is-until*, is-until2, shape-by}
-use Rattle.steps.proofs.Frames.{until-first}
 use Rattle.steps.proofs.Children.{at-node, falling, first-cut, asks, child-ran, next-index, first-at}
 use Rattle.steps.proofs.Children.{phase-is}
 use Rattle.steps.proofs.Children.{next-in-table, till-in, byte-is, own-and-below}

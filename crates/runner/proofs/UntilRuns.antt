@@ -12,13 +12,10 @@ use Rattle.junior.specs.declared.Verdict.{Verdict}
 use Rattle.junior.specs.declared.Verdict.the-variants.{Sat, Unsat, Unknown}
 use Rattle.junior.specs.Term.{Term}
 use Rattle.table.specs.Records.{sizeAt, secondAt}
+use Rattle.state.proofs.Parts.{first-of, with-first}
 use Rattle.steps.specs.Running.{Ready, Any, TestRead}
-use Rattle.steps.proofs.Parts.{first-of, with-first}
 use Rattle.steps.proofs.Children.{own-in}
 use Rattle.steps.proofs.Tally.{not-ended, is-ended}
-use Rattle.runner.proofs.Until.{Until0, until0-by, body-asks, until-waits, star-asks, until-stops}
-use Rattle.runner.proofs.Until.{Star, star-by, star-has, star-waits, star-fails, star-reads, star-fits}
-use Rattle.runner.proofs.Until.{handler-live, handler-goes, handler-later, handler-writes}
 use Rattle.steps.specs.Numbers.{ended-at, wordsOf, tallyOf}
 use Rattle.steps.specs.Kinds.{OfKind, Starred, InSecond, until-kind}
 use Rattle.steps.specs.Tests.{CanTest}
@@ -27,8 +24,11 @@ use Rattle.steps.proofs.Context.{inner, outer, phase-at, phase-in, put-phase, b
 use Rattle.steps.proofs.Row.{kept-same, still}
 use Rattle.steps.proofs.FlagNumbers.{is-stop, not-stop}
 use Rattle.steps.proofs.Dispatch.{phase-is}
-use Rattle.runner.proofs.Falling.{smaller-by}
 use Rattle.steps.proofs.ChildContext.{child-stands}
+use Rattle.runner.proofs.Until.{Until0, until0-by, body-asks, until-waits, star-asks, until-stops}
+use Rattle.runner.proofs.Until.{Star, star-by, star-has, star-waits, star-fails, star-reads, star-fits}
+use Rattle.runner.proofs.Until.{handler-live, handler-goes, handler-later, handler-writes}
+use Rattle.runner.proofs.Falling.{smaller-by}
 use Rattle.runner.proofs.GoesOn.{went-as, to-phase, by-phase}
 
 -- in its body: that runs

@@ -23,12 +23,12 @@ use Rattle.junior.proofs.Going.{Going, rest-going, fresh-at-rest}
 use Rattle.junior.proofs.Figures.{pot, pot-fresh}
 use Rattle.table.specs.Records.{sizeAt}
 use Rattle.table.specs.Spells.{Spells}
-use Rattle.steps.specs.StateBytes.{in-phase, zeros, below, stateBytes}
+use Rattle.state.specs.StateBytes.{in-phase, zeros, below, stateBytes}
+use Rattle.state.proofs.Parts.{fresh-zeros}
+use Rattle.state.proofs.Shape.{Shape, is-done, is-when0, is-when1, is-when2, shape-by}
+use Rattle.state.proofs.Frames.{when-first}
 use Rattle.steps.specs.Running.{Ready, Ran, Live, Runs, Any, Kind, Phase, KindPhase, phaseAfter, envOf}
 use Rattle.steps.specs.Running.{HasTest, TestRead}
-use Rattle.steps.proofs.Parts.{fresh-zeros}
-use Rattle.steps.proofs.Shape.{Shape, is-done, is-when0, is-when1, is-when2, shape-by}
-use Rattle.steps.proofs.Frames.{when-first}
 use Rattle.steps.proofs.Children.{at-node, falling, first-cut, asks, child-ran, next-index, first-at}
 use Rattle.steps.proofs.Children.{phase-is}
 use Rattle.steps.proofs.Children.{next-in-table, till-in}

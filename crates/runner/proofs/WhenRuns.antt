@@ -10,12 +10,10 @@ use Rattle.junior.specs.declared.Verdict.{Verdict}
 use Rattle.junior.specs.declared.Verdict.the-variants.{Sat, Unsat, Unknown}
 use Rattle.junior.specs.Term.{Term}
 use Rattle.table.specs.Records.{sizeAt}
+use Rattle.state.proofs.Parts.{first-of, with-first}
 use Rattle.steps.specs.Running.{Ready, Any, TestRead, phaseAfter}
-use Rattle.steps.proofs.Parts.{first-of, with-first}
 use Rattle.steps.proofs.Children.{own-in}
 use Rattle.steps.proofs.Tally.{not-ended, is-ended}
-use Rattle.runner.proofs.When.{Then, then-by, then-asks, then-writes, then-ran}
-use Rattle.runner.proofs.When.{When0, when0-by, when-has, when-waits, then-live, then-goes, then-later, else-live, else-goes, else-later}
 use Rattle.steps.specs.Numbers.{ended-at, wordsOf, tallyOf}
 use Rattle.steps.specs.Kinds.{OfKind, InThen, InSecond, when-kind}
 use Rattle.steps.specs.Flags.{flagOf}
@@ -24,8 +22,10 @@ use Rattle.steps.specs.Lent.{Lent, lent, Around, Stands, Went, CanRun, HasRun}
 use Rattle.steps.proofs.Context.{outer, phase-at, phase-in, put-phase}
 use Rattle.steps.proofs.Row.{kept-same}
 use Rattle.steps.proofs.Dispatch.{phase-is}
-use Rattle.runner.proofs.Falling.{smaller-by}
 use Rattle.steps.proofs.ChildContext.{child-stands}
+use Rattle.runner.proofs.When.{Then, then-by, then-asks, then-writes, then-ran}
+use Rattle.runner.proofs.When.{When0, when0-by, when-has, when-waits, then-live, then-goes, then-later, else-live, else-goes, else-later}
+use Rattle.runner.proofs.Falling.{smaller-by}
 use Rattle.runner.proofs.GoesOn.{stands-as, went-as, to-phase, by-phase}
 
 -- in its then branch: that runs

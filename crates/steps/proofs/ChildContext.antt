@@ -10,7 +10,7 @@ use borrow.Rule.Slice.PartMut.{midOf, putMid}
 use Rattle.junior.specs.declared.Flag.{Flag}
 use Rattle.junior.specs.declared.Flag.the-variants.{SUSP, STOP, TERM}
 use Rattle.junior.specs.Flags.{γ, δ₁, δ₂}
-use Rattle.steps.specs.StateBytes.{code}
+use Rattle.state.specs.StateBytes.{code}
 use Rattle.steps.specs.Running.{Live, Any, isTERM, gone, ended, parEnd}
 use Rattle.steps.specs.Numbers.{Numbers, wordsOf, tallyOf}
 use Rattle.steps.specs.Flags.{parEndAt}

@@ -17,10 +17,10 @@ use Rattle.table.specs.Records.{sizeAt}
 use Rattle.table.specs.Inside.{Placed}
 use Rattle.table.proofs.Tree.{size-pos}
 use Rattle.table.proofs.Loaded.{size-of, in-table}
-use Rattle.steps.specs.StateBytes.{Own, head, below, stateBytes}
+use Rattle.state.specs.StateBytes.{Own, head, below, stateBytes}
+use Rattle.state.proofs.Parts.{blank, len-bytes, own-of, own-below, part-is, put-is}
+use Rattle.state.proofs.Frames.{Frame}
 use Rattle.steps.specs.Running.{Ready, Ran, Live, Runs, Any}
-use Rattle.steps.proofs.Parts.{blank, len-bytes, own-of, own-below, part-is, put-is}
-use Rattle.steps.proofs.Frames.{Frame}
 
 module _ {skip : ℕ} {table : List ℕ} {i : ℕ} {state words row tally : List ℕ} {t : Term}
     (h : Ready skip table i state words row tally t) where

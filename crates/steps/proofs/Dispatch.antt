@@ -11,7 +11,7 @@ use Rattle.junior.specs.Term.{Term, prog}
 use Rattle.table.specs.Records.{kindAt, sizeAt}
 use Rattle.table.proofs.Tree.{size-pos}
 use Rattle.table.proofs.Loaded.{kind-of, in-table, own-node}
-use Rattle.steps.specs.StateBytes.{head}
+use Rattle.state.specs.StateBytes.{head}
 use Rattle.steps.specs.Running.{Ready}
 use Rattle.steps.proofs.Children.{byte-is, own-in}
 use Rattle.steps.specs.Numbers.{wordsOf, tallyOf}

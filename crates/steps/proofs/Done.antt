@@ -19,10 +19,10 @@ use Rattle.junior.proofs.Little.{collect-++}
 use Rattle.junior.proofs.Kept.{kept}
 use Rattle.junior.proofs.Going.{Going}
 use Rattle.junior.proofs.Figures.{pot, rest, spends, cost-A}
-use Rattle.steps.specs.StateBytes.{Own, before, in-phase, zeros}
+use Rattle.state.specs.StateBytes.{Own, before, in-phase, zeros}
+use Rattle.state.proofs.Parts.{blank, blank-below, blank-both, len-bytes}
+use Rattle.state.proofs.Frames.{Frame}
 use Rattle.steps.specs.Running.{Bytes, Ready, Wrote, SameLengths, Ran, left, envOf, atoms-done, phaseAfter}
-use Rattle.steps.proofs.Parts.{blank, blank-below, blank-both, len-bytes}
-use Rattle.steps.proofs.Frames.{Frame}
 use Rattle.steps.proofs.Children.{Cut, byte-is, own-in, put-back}
 
 -- no atom went into the row

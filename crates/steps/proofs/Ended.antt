@@ -5,7 +5,7 @@ use mathlib.Core.List.{List}
 use lib.Dec.{lit<}
 use lib.ListN.{getD, set}
 use Rattle.junior.specs.Term.{Term}
-use Rattle.steps.proofs.Shape.{shape-by}
+use Rattle.state.proofs.Shape.{shape-by}
 use Rattle.steps.proofs.Children.{own-in, phase-is}
 use Rattle.steps.proofs.LeafParts.{done-ran}
 use Rattle.steps.specs.Lent.{lent, HasRun}

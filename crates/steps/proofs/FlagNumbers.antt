@@ -9,8 +9,8 @@ use lib.Dec.{lit<}
 use lib.ListN.{getD, set}
 use Rattle.junior.specs.declared.Flag.{Flag}
 use Rattle.junior.specs.declared.Flag.the-variants.{SUSP, STOP, TERM}
-use Rattle.steps.specs.StateBytes.{code}
 use Rattle.junior.specs.Flags.{γ, δ₁, δ₂}
+use Rattle.state.specs.StateBytes.{code}
 use Rattle.steps.specs.Running.{isTERM}
 use Rattle.steps.proofs.FlagTables.{code-below, joined-at, kept-at}
 use Rattle.steps.specs.Flags.{flagOf, ParEnds}

@@ -14,7 +14,7 @@ use Rattle.junior.proofs.Flag.{the-type}
 use Rattle.junior.specs.declared.Flag.{Flag}
 use Rattle.junior.specs.declared.Flag.the-variants.{SUSP, STOP, TERM}
 use Rattle.junior.specs.Flags.{γ, δ₁, δ₂}
-use Rattle.steps.specs.StateBytes.{code}
+use Rattle.state.specs.StateBytes.{code}
 use Rattle.steps.specs.Running.{signAfter, isTERM}
 
 -- a flag whose place is one of the keys of an arm is none whose place isn't

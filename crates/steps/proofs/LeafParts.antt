@@ -1,6 +1,6 @@
 -- What the forms without children do when they run, and a node that reads as Nothing.
 use Prim.Native.Nat.{ℕ, suc, _+_, _-_, _*_, _<_}
-use mathlib.Core.Bool.{Bool, true, false, cond}
+use mathlib.Core.Bool.{true, false}
 use mathlib.Core.Path.{_≡_, refl, ap, sym, _∙_}
 use mathlib.Core.Logic.{_≢_}
 use mathlib.Core.List.{List, [], _∷_}
@@ -24,9 +24,9 @@ use Rattle.junior.proofs.Figures.{pot}
 use Rattle.table.specs.Records.{argumentAt}
 use Rattle.table.specs.Spells.{Spells}
 use Rattle.table.proofs.Tree.{size-pos}
-use Rattle.steps.specs.StateBytes.{zeros, below, stateBytes}
+use Rattle.state.specs.StateBytes.{zeros, below, stateBytes}
+use Rattle.state.proofs.Shape.{Shape, is-done, is-stop, is-atom, is-generate, is-await, is-local, no-sign}
 use Rattle.steps.specs.Running.{Ready, Ran, HasTest, TestRead, envOf, atoms-done}
-use Rattle.steps.proofs.Shape.{Shape, is-done, is-stop, is-atom, is-generate, is-await, is-local}
 use Rattle.steps.proofs.LoadedNode.{generate-placed, await-test}
 use Rattle.steps.proofs.Done.{ran-alone, wrote-none}
 
@@ -47,10 +47,6 @@ moved : (words words′ tally : List ℕ) (s : ℕ) → length tally ≡ 3 → m
 moved words words′ [] s n e = absurd (omega arith)
 moved words words′ (a ∷ []) s n e = absurd (omega arith)
 moved words words′ (a ∷ b ∷ l) s n e = rw e
-
-pub no-sign : (b : Bool) → _≡_ {A = ℕ} (cond b 1 0) 3 → ⊥
-no-sign true e = omega arith
-no-sign false e = omega arith
 
 module _ {table : List ℕ} {i : ℕ} {state words row tally : List ℕ} where
   pub done-ran : {P : Place} {t : Term} {k : ℕ} → Shape t k 3 → Ready 0 table i state words row tally t

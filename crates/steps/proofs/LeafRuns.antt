@@ -18,9 +18,9 @@ use Rattle.junior.specs.Trace.{Place, collect}
 use Rattle.junior.specs.Rules.{r1}
 use Rattle.table.specs.Records.{argumentAt}
 use Rattle.table.specs.Spells.{Spells}
-use Rattle.steps.specs.StateBytes.{below}
+use Rattle.state.specs.StateBytes.{below}
+use Rattle.state.proofs.Shape.{Shape, is-done, is-nothing, is-generate, shape-by}
 use Rattle.steps.specs.Running.{Ready, Ran}
-use Rattle.steps.proofs.Shape.{Shape, is-done, is-nothing, is-generate, shape-by}
 use Rattle.steps.proofs.LoadedNode.{generate-placed}
 use Rattle.steps.proofs.Children.{own-in}
 use Rattle.steps.proofs.Done.{ran-alone}

@@ -1,7 +1,4 @@
-pub mod Parts
-pub mod Shape
 pub mod FlagTables
-pub mod Frames
 pub mod Children
 pub mod Done
 pub mod LoadedNode

@@ -7,7 +7,7 @@ use lib.ListN.{set}
 use Rattle.junior.specs.declared.Flag.{Flag}
 use Rattle.junior.specs.declared.Flag.the-variants.{SUSP, STOP, TERM}
 use Rattle.junior.specs.Flags.{γ, δ₁, δ₂}
-use Rattle.steps.specs.StateBytes.{code}
+use Rattle.state.specs.StateBytes.{code}
 use Rattle.steps.specs.Running.{ended, gone, isTERM}
 
 abbrev pub flagOf : ℕ → Flag

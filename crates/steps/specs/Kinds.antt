@@ -4,7 +4,7 @@ use mathlib.Core.Path.{_≡_}
 use mathlib.Core.Logic.{_≢_}
 use Rattle.junior.specs.Program.{kind}
 use Rattle.junior.specs.Term.{Term, prog}
-use Rattle.steps.specs.StateBytes.{head}
+use Rattle.state.specs.StateBytes.{head}
 use Rattle.steps.specs.Running.{Phase, KindPhase}
 
 abbrev pub nothing-kind : ℕ

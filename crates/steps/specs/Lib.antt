@@ -1,4 +1,3 @@
-pub mod StateBytes
 pub mod Running
 pub mod Numbers
 pub mod Kinds

@@ -22,7 +22,7 @@ use Rattle.junior.proofs.Figures.{pot}
 use Rattle.table.specs.Records.{nodes, configurations, argumentAt}
 use Rattle.table.specs.Spells.{Configured, tested}
 use Rattle.table.specs.Inside.{Loaded, Placed}
-use Rattle.steps.specs.StateBytes.{code, head, zeros, stateBytes}
+use Rattle.state.specs.StateBytes.{code, head, zeros, stateBytes}
 
 -- The tally of an instant: how many atoms are done, whether something moved, whether the end is declared (0 for no).
 abbrev pub atoms-done : List ℕ → ℕ

@@ -6,8 +6,8 @@ ghost use lib.Dec.{eqb};
 ghost use lib.ListN.{length, set, replicate};
 ghost use borrow.Rule.Slice.PartMut.{putMid};
 ghost use Rattle.steps.specs.Kinds.{par-kind};
-use crate::clear;
 use crate::kinds::PAR;
+use state::clear;
 use table::records::wide;
 
 // Where the flags and the count stand behind the phase.

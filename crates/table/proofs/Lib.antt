@@ -25,4 +25,5 @@ pub mod Swept
 pub mod Answers
 pub mod TestParts
 pub mod Loaded
+pub mod Subtrees
 pub mod Accepted

@@ -1,0 +1,90 @@
+-- Nodes with no byte but zeros: when one rests, and that an all-zero subtree does.
+use Prim.Native.Nat.{ℕ, _+_, _-_, _≤_, _<_}
+use mathlib.Core.Bool.{Bool, true, false, cond, _&&_, _||_, and-true, and-false}
+use mathlib.Core.Path.{_≡_, refl, ap, sym, _∙_}
+use mathlib.Core.List.{List}
+use native.Mathlib.Omega.{arith}
+use lib.Dec.{eqb}
+use borrow.Author.Tests.{eqb-true}
+use Rattle.table.specs.Records.{nodes, kindAt, sizeAt}
+use Rattle.table.specs.Good.{children}
+use Rattle.table.specs.Inside.{Loaded}
+use Rattle.table.proofs.Laid.{both}
+use Rattle.table.proofs.Subtrees.{body, pair, nested, ends}
+use Rattle.state.specs.Resting.{zeroNode, firstZero, secondZero, belowZero, phaseRests, flagsRest, countRests, rests}
+use Rattle.state.specs.Inside.{Judged}
+use Rattle.state.proofs.Little.{cond-same}
+use Rattle.state.proofs.Zeros.{zero-bytes, zero-all}
+use Rattle.state.proofs.Near.{body-below, pair-below}
+use Rattle.state.proofs.Firsts.{Hold, hold-join}
+
+-- such a node rests if phase 0 does
+pub fresh-rests : (t s : List ℕ) (i : ℕ) → zeroNode s i ≡ true → rests t s i ≡ phaseRests t s i (kindAt t i) 0
+unfolding rests flagsRest countRests
+fresh-rests t s i z = let b = zero-bytes s i z in rw (b .phase-is, b .flags-are, b .count-is) (simp (cond-same, and-false, and-true))
+
+-- all below being zero as well, it does rest
+module _ {t : List ℕ} (s : List ℕ) (l : Loaded t) (i : ℕ) (h : i < nodes t) (z : belowZero t s i ≡ true) where
+  first-wanted : children (kindAt t i) ≡ 1 → firstZero t s i ≡ true
+  first-wanted e = sym (body-below s (body l i h e)) ∙ z
+
+  parts-wanted : children (kindAt t i) ≡ 2 → (firstZero t s i ≡ true) × (secondZero t s i ≡ true)
+  parts-wanted e = both (sym (pair-below s (pair l i h e)) ∙ z)
+
+  -- a kind that has as many children as one of two kinds
+  of-kind : (k : ℕ) {c : ℕ} → children k ≡ c → kindAt t i ≡ k → children (kindAt t i) ≡ c
+  of-kind k e f = ap children f ∙ e
+
+  idle-phase : phaseRests t s i (kindAt t i) 0 ≡ true
+  unfolding phaseRests children
+  idle-phase =
+      go (eqb k 3) (eqb k 5) (eqb k 6) (eqb k 9) (eqb k 10)
+      (λ e. parts-wanted (of-kind 3 refl (eqb-true _ _ e)) .1)
+      (λ e. first-wanted (of-kind 5 refl (eqb-true _ _ e)))
+      (λ e. first-wanted (of-kind 6 refl (eqb-true _ _ e)))
+      (λ e. parts-wanted (of-kind 9 refl (eqb-true _ _ e)))
+      (λ e. parts-wanted (of-kind 10 refl (eqb-true _ _ e)) .1)
+    where
+      k : ℕ
+      k = kindAt t i
+
+      F : Bool
+      F = firstZero t s i
+
+      S : Bool
+      S = secondZero t s i
+
+      go : (a b c d e : Bool) → (a ≡ true → S ≡ true) → (b ≡ true → F ≡ true) → (c ≡ true → F ≡ true)
+          → (d ≡ true → (F ≡ true) × (S ≡ true)) → (e ≡ true → S ≡ true)
+          → cond a (S || false) (cond (b || c) (F || false) (cond d ((F && S) || false) (cond e (S || false) true))) ≡ true
+      go true b c d e α β γ δ ε = rw (α refl)
+      go false true c d e α β γ δ ε = rw (β refl)
+      go false false true d e α β γ δ ε = rw (γ refl)
+      go false false false true e α β γ δ ε = rw (δ refl .0, δ refl .1)
+      go false false false false true α β γ δ ε = rw (ε refl)
+      go false false false false false α β γ δ ε = refl
+
+  pub idle-rests : zeroNode s i ≡ true → rests t s i ≡ true
+  idle-rests e = fresh-rests t s i e ∙ idle-phase
+
+-- every node of an all-zero subtree rests
+pub zero-rests : {t : List ℕ} (s : List ℕ) → Loaded t → (i : ℕ) → i < nodes t → Hold (zeroNode s) i (i + sizeAt t i)
+    → Hold (rests t s) i (i + sizeAt t i)
+zero-rests {t} s l i h z k a b =
+    let m = ends l i h in
+    let e = nested l i h k a b in
+    idle-rests s l k (omega arith) (zero-all s (k + 1) (sizeAt t k - 1) (λ j c d. z j (omega arith) (omega arith))) (z k a b)
+
+module _ {t s : List ℕ} {i near : ℕ} (j : Judged t s i near) (at : ℕ) (a : i ≤ at) (b : at < near) where
+  pub at-in : at < nodes t
+  at-in = let w = j .nearest .within in omega arith
+
+  -- the nodes up to `at` rest, and so do those of the all-zero subtree there
+  pub on-past : (m : ℕ) → m ≡ sizeAt t at → at + m ≤ near → Hold (rests t s) i at → Hold (rests t s) i (at + m)
+  on-past m e h r =
+      rw e
+      (hold-join (rests t s) i at (at + sizeAt t at) r
+      (zero-rests s (j .loaded) at at-in (λ k c d. j .nearest .before k (omega arith) (omega arith))))
+
+  pub at-rests : (k : ℕ) → k ≡ kindAt t at → rests t s at ≡ phaseRests t s at k 0
+  at-rests k e = rw e (fresh-rests t s at (j .nearest .before at a b))

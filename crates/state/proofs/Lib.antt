@@ -1,0 +1,13 @@
+-- Laws, in the order in which they lean on one another: a term's bytes; zeros and the first that isn't; who is to blame, and what term stands there.
+pub mod Little
+pub mod Parts
+pub mod Shape
+pub mod Frames
+pub mod OneTerm
+pub mod Zeros
+pub mod Firsts
+pub mod Near
+pub mod Fresh
+pub mod NodeBytes
+pub mod Standing
+pub mod Blameless

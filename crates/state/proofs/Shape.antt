@@ -1,0 +1,66 @@
+-- What a term is, by its kind and its phase: at numbers, all other terms drop out.
+use Prim.Native.Nat.{ℕ}
+use mathlib.Core.Bool.{Bool, true, false, cond}
+use mathlib.Core.Path.{_≡_, refl, subst}
+use native.Mathlib.Omega.{arith}
+use Rattle.junior.specs.declared.Flag.{Flag}
+use Rattle.junior.specs.Configuration.{Config}
+use Rattle.junior.specs.Program.{Program, kind}
+use Rattle.junior.specs.Term.{Term, done, nothing, stop, atom, generate, await, seq0, seq2, par, loop0, loop1}
+use Rattle.junior.specs.Term.{repeat0, repeat1, when0, when1, when2, until0, until*, until2, control, local, prog}
+use Rattle.state.specs.StateBytes.{head}
+
+pub data Shape : Term → ℕ → ℕ → Type 0 where
+  is-done : (p : Program) {k : ℕ} → kind p ≡ k → Shape (done p) k 3
+  is-nothing : Shape nothing 0 0
+  is-stop : Shape stop 1 0
+  is-atom : (a : ℕ) → Shape (atom a) 2 0
+  is-seq0 : (t : Term) (q : Program) → Shape (seq0 t q) 3 0
+  is-seq2 : (p : Program) (t : Term) → Shape (seq2 p t) 3 2
+  is-par : (α β : Flag) (t u : Term) → Shape (par α β t u) 4 0
+  is-loop0 : (p : Program) → Shape (loop0 p) 5 0
+  is-loop1 : (t : Term) → Shape (loop1 t) 5 1
+  is-repeat0 : (n : ℕ) (p : Program) → Shape (repeat0 n p) 6 0
+  is-repeat1 : (n k : ℕ) (t : Term) → Shape (repeat1 n k t) 6 1
+  is-generate : (s : ℕ) → Shape (generate s) 7 0
+  is-await : (c : Config) → Shape (await c) 8 0
+  is-when0 : (c : Config) (p q : Program) → Shape (when0 c p q) 9 0
+  is-when1 : (c : Config) (t : Term) (q : Program) → Shape (when1 c t q) 9 1
+  is-when2 : (c : Config) (p : Program) (t : Term) → Shape (when2 c p t) 9 2
+  is-until0 : (c : Config) (t : Term) (q : Program) → Shape (until0 c t q) 10 0
+  is-until* : (c : Config) (t : Term) (q : Program) → Shape (until* c t q) 10 1
+  is-until2 : (c : Config) (p : Program) (t : Term) → Shape (until2 c p t) 10 2
+  is-control : (s : ℕ) (t : Term) → Shape (control s t) 11 0
+  is-local : (b : Bool) (s : ℕ) (t : Term) {ph : ℕ} → cond b 1 0 ≡ ph → Shape (local b s t) 12 ph
+
+shape : (t : Term) → Shape t (kind (prog t)) (head t .phase)
+unfolding kind prog
+shape (done p) = is-done p refl
+shape nothing = is-nothing
+shape stop = is-stop
+shape (atom a) = is-atom a
+shape (seq0 t q) = is-seq0 t q
+shape (seq2 p t) = is-seq2 p t
+shape (par α β t u) = is-par α β t u
+shape (loop0 p) = is-loop0 p
+shape (loop1 t) = is-loop1 t
+shape (repeat0 n p) = is-repeat0 n p
+shape (repeat1 n k t) = is-repeat1 n k t
+shape (generate s) = is-generate s
+shape (await c) = is-await c
+shape (when0 c p q) = is-when0 c p q
+shape (when1 c t q) = is-when1 c t q
+shape (when2 c p t) = is-when2 c p t
+shape (until0 c t q) = is-until0 c t q
+shape (until* c t q) = is-until* c t q
+shape (until2 c p t) = is-until2 c p t
+shape (control s t) = is-control s t
+shape (local b s t) = is-local b s t refl
+
+pub shape-by : (t : Term) {k ph : ℕ} → kind (prog t) ≡ k → head t .phase ≡ ph → Shape t k ph
+shape-by t {ph = ph} e f = subst (λ (n : ℕ). Shape t n ph) e (subst (λ (n : ℕ). Shape t (kind (prog t)) n) f (shape t))
+
+-- the phase of a Local is never 3
+pub no-sign : (b : Bool) → _≡_ {A = ℕ} (cond b 1 0) 3 → ⊥
+no-sign true e = omega arith
+no-sign false e = omega arith

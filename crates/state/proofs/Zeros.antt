@@ -1,0 +1,76 @@
+-- Nodes with no byte but zeros: one by one, and in parts.
+use Prim.Native.Nat.{ℕ, zero, suc, _+_, _-_, _*_, _≤_, _<_}
+use mathlib.Core.Bool.{Bool, true, false, _&&_, false≢true, and-assoc}
+use mathlib.Core.Path.{_≡_, refl, sym, _∙_}
+use mathlib.Core.List.{List}
+use native.Mathlib.Omega.{arith}
+use native.Mathlib.Nat.{add-zero, zero-add, suc-add}
+use native.Mathlib.Decide.{ℕ-discrete}
+use borrow.Author.Tests.{eqb-true}
+use Rattle.table.proofs.Laid.{both}
+use Rattle.state.specs.Resting.{phaseAt, flagsAt, countAt, zeroNode, zeroNodes}
+
+-- a node's own bytes as one number
+abbrev pub own : List ℕ → ℕ → ℕ
+own s i = phaseAt s i * 16777216 + flagsAt s i * 65536 + countAt s i
+
+-- what a node's own bytes are, each
+pub record Bytes (s : List ℕ) (i phase flags count : ℕ) : Type 0 where
+  pub phase-is : phaseAt s i ≡ phase
+  pub flags-are : flagsAt s i ≡ flags
+  pub count-is : countAt s i ≡ count
+
+pub zero-node : {s : List ℕ} {i : ℕ} → Bytes s i 0 0 0 → zeroNode s i ≡ true
+unfolding zeroNode
+zero-node b = rw (b .phase-is, b .flags-are, b .count-is)
+
+pub zero-bytes : (s : List ℕ) (i : ℕ) → zeroNode s i ≡ true → Bytes s i 0 0 0
+unfolding zeroNode
+zero-bytes s i z =
+    let h = both z in
+    let k = both (h .1) in
+    record { phase-is = eqb-true _ _ (h .0); flags-are = eqb-true _ _ (k .0); count-is = eqb-true _ _ (k .1) }
+
+pub own-zero : (s : List ℕ) (i : ℕ) → own s i ≡ 0 → zeroNode s i ≡ true
+own-zero s i e = zero-node (record { phase-is = omega arith; flags-are = omega arith; count-is = omega arith })
+
+pub own-not-zero : (s : List ℕ) (i : ℕ) → (own s i ≡ 0 → ⊥) → zeroNode s i ≡ false
+own-not-zero s i e = go (zeroNode s i) refl
+  where
+    go : (b : Bool) → zeroNode s i ≡ b → b ≡ false
+    go true z = let b = zero-bytes s i z in absurd (e (rw (b .phase-is, b .flags-are, b .count-is)))
+    go false z = refl
+
+-- the first of some nodes, and the rest
+pub zero-rest : (s : List ℕ) (a m : ℕ) → 0 < m → zeroNodes s a m ≡ (zeroNode s a && zeroNodes s (a + 1) (m - 1))
+unfolding zeroNodes
+zero-rest s a zero h = absurd (omega arith)
+zero-rest s a (suc m) h = let e : suc m - 1 ≡ m = omega arith in rw e
+
+pub zero-all : (s : List ℕ) (a m : ℕ) → ((k : ℕ) → a ≤ k → k < a + m → zeroNode s k ≡ true) → zeroNodes s a m ≡ true
+unfolding zeroNodes
+zero-all s a zero h = refl
+zero-all s a (suc m) h = rw (h a (omega arith) (omega arith)) (zero-all s (a + 1) m (λ k g l. h k (omega arith) (omega arith)))
+
+pub zero-each : (s : List ℕ) (a m : ℕ) → zeroNodes s a m ≡ true → (k : ℕ) → a ≤ k → k < a + m → zeroNode s k ≡ true
+unfolding zeroNodes
+zero-each s a zero z k g l = absurd (omega arith)
+zero-each s a (suc m) z k g l = go (zero-each s (a + 1) m (both {a = zeroNode s a} z .1)) (ℕ-discrete k a)
+  where
+    go : ((j : ℕ) → a + 1 ≤ j → j < a + 1 + m → zeroNode s j ≡ true) → Dec (k ≡ a) → zeroNode s k ≡ true
+    go later (yes e) = rw e (both z .0)
+    go later (no e) = later k (omega arith) (omega arith)
+
+pub zero-not : (s : List ℕ) (a m k : ℕ) → a ≤ k → k < a + m → zeroNode s k ≡ false → zeroNodes s a m ≡ false
+zero-not s a m k g l z = go (zeroNodes s a m) refl
+  where
+    go : (b : Bool) → zeroNodes s a m ≡ b → b ≡ false
+    go true e = absurd (false≢true (sym z ∙ zero-each s a m e k g l))
+    go false e = refl
+
+pub zero-split : (s : List ℕ) (i a b : ℕ) → zeroNodes s i (a + b) ≡ (zeroNodes s i a && zeroNodes s (i + a) b)
+unfolding zeroNodes
+zero-split s i zero b = rw (zero-add b, add-zero i)
+zero-split s i (suc a) b =
+    let e : i + 1 + a ≡ i + suc a = omega arith in
+    rw (suc-add, zero-split s (i + 1) a b, e, and-assoc)

@@ -1,0 +1,46 @@
+-- What the search for the lowest blamed node knows. Private contracts alone cite this file; no public one does.
+use Prim.Native.Nat.{ℕ, _+_, _-_, _*_, _≤_, _<_}
+use mathlib.Core.Bool.{Bool, true, false}
+use mathlib.Core.Path.{_≡_}
+use mathlib.Core.List.{List}
+use lib.ListN.{length}
+use Rattle.table.specs.Records.{nodes}
+use Rattle.table.specs.Inside.{Loaded}
+use Rattle.state.specs.Resting.{zeroNode, zeroNodes, rests}
+
+-- r is the first of the nodes from i to n of which it doesn't hold; n if it holds of all
+pub record First (holds : ℕ → Bool) (i n r : ℕ) : Type 0 where
+  pub from : i ≤ r
+  pub within : r ≤ n
+  pub before : (k : ℕ) → i ≤ k → k < r → holds k ≡ true
+  pub there : r < n → holds r ≡ false
+
+-- the first from i on that has a byte other than zero; the first from i on that is to blame
+abbrev pub Nearest : List ℕ → ℕ → ℕ → ℕ → Type 0
+Nearest s i n near = First (zeroNode s) i n near
+
+abbrev pub Blamed : List ℕ → List ℕ → ℕ → ℕ → Type 0
+Blamed t s i low = First (rests t s) i (nodes t) low
+
+-- the nodes from r to near have no byte but zeros, and r is the first such
+pub record ZeroFrom (s : List ℕ) (near r : ℕ) : Type 0 where
+  pub within : r ≤ near
+  pub zero : (k : ℕ) → r ≤ k → k < near → zeroNode s k ≡ true
+  pub first : 0 < r → zeroNode s (r - 1) ≡ false
+
+-- the first node that has a byte other than zero tells of m nodes from a on whether they are all zero, unless it stands before them
+pub record Tells (s : List ℕ) (near a m : ℕ) : Type 0 where
+  pub in-room : 4 * (a + m) ≤ length s
+  pub all-zero : a + m ≤ near → zeroNodes s a m ≡ true
+  pub not-zero : a ≤ near → near < a + m → zeroNodes s a m ≡ false
+
+-- the nodes of a loaded table from i on can be judged: their state is there, and the first that isn't zero is known
+pub record Judged (t s : List ℕ) (i near : ℕ) : Type 0 where
+  pub loaded : Loaded t
+  pub room : 4 * nodes t ≤ length s
+  pub nearest : Nearest s i (nodes t) near
+
+-- node i can, by what stands behind it
+pub record Judging (t s : List ℕ) (i near : ℕ) : Type 0 where
+  pub inside : i < nodes t
+  pub behind : Judged t s (i + 1) near

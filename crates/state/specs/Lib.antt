@@ -1,0 +1,3 @@
+pub mod StateBytes
+pub mod Resting
+pub mod Inside
