@@ -9,7 +9,7 @@ use Rattle.events.specs.Events.{Events, put}
 use Rattle.junior.specs.declared.Flag.{Flag}
 use Rattle.junior.specs.declared.Flag.the-variants.{SUSP, STOP, TERM}
 use Rattle.junior.specs.Flags.{γ, δ₁, δ₂}
-use Rattle.junior.specs.Configuration.{Config, Event, Env, declared-end}
+use Rattle.junior.specs.Configuration.{Config, Event, Env, declared-end, handed-in, unknown}
 use Rattle.junior.specs.Term.{Term, done, nothing, stop, atom, generate, await, seq0, seq2, par, loop0, loop1}
 use Rattle.junior.specs.Term.{repeat0, repeat1, when0, when1, when2, until0, until*, until2, control, local}
 use Rattle.junior.specs.Term.{leave}
@@ -21,7 +21,7 @@ use Rattle.junior.specs.Rules.{r32, r33, r34, r35-39}
 use Rattle.junior.specs.Instant.{Instant, r47, r48, r49}
 use Rattle.junior.specs.Course.{Idle, IdleOnceEnded}
 use Rattle.junior.proofs.Little.{STOP≢SUSP, TERM≢SUSP, TERM≢STOP, collect-++, collect-none, put-at}
-use Rattle.junior.proofs.Verdicts.{known-at-end, known-present, present}
+use Rattle.junior.proofs.Verdicts.{unknown-before, known-at-end, known-present, present}
 use Rattle.junior.proofs.Grows.{end-kept, unchanged, quiet, quiet-unchanged}
 
 γ-answered : (α β : Flag) → α ≢ SUSP → β ≢ SUSP → γ α β ≢ SUSP
@@ -81,26 +81,26 @@ ended (r33 v) e = STOP≢SUSP
 ended (r34 {E = E} {c = c} v) e = absurd (known-at-end c E e v)
 ended (r35-39 d) e = ended d e
 
--- t waits, the events X being present: all that would run in it is a test
+-- t waits, the events X being present: all that would run in it is a test, unknown in X before the end
 unfoldable pub Blocked : Events → Term → Type 0
 Blocked X (done p) = ⊥
 Blocked X nothing = ⊥
 Blocked X stop = ⊥
 Blocked X (atom a) = ⊥
 Blocked X (generate s) = ⊥
-Blocked X (await c) = Unit {0}
+Blocked X (await c) = unknown c (handed-in X)
 Blocked X (seq0 t q) = Blocked X t
 Blocked X (seq2 p t) = Blocked X t
-Blocked X (par α β t u) = (α ≡ SUSP → Blocked X t) × (β ≡ SUSP → Blocked X u)
+Blocked X (par α β t u) = (γ α β ≡ SUSP) × (α ≡ SUSP → Blocked X t) × (β ≡ SUSP → Blocked X u)
 Blocked X (loop0 p) = ⊥
 Blocked X (loop1 t) = Blocked X t
 Blocked X (repeat0 n p) = ⊥
 Blocked X (repeat1 n k t) = Blocked X t
-Blocked X (when0 c p q) = Unit {0}
+Blocked X (when0 c p q) = unknown c (handed-in X)
 Blocked X (when1 c t q) = Blocked X t
 Blocked X (when2 c p t) = Blocked X t
 Blocked X (until0 c t q) = Blocked X t
-Blocked X (until* c t q) = Unit {0}
+Blocked X (until* c t q) = unknown c (handed-in X)
 Blocked X (until2 c p t) = Blocked X t
 Blocked X (control s t) = X s ≡ true → Blocked X t
 Blocked X (local b s t) = Blocked (put s b X) t
@@ -127,6 +127,18 @@ leave-susp TERM t h = absurd (TERM≢SUSP h)
 δ₂-susp SUSP TERM h k = k
 δ₂-susp STOP TERM h k = k
 δ₂-susp TERM TERM h k = k
+
+-- a Par that answers SUSP still has a flag SUSP
+γ-susp : (α β : Flag) → γ α β ≡ SUSP → γ (δ₁ α β) (δ₂ α β) ≡ SUSP
+γ-susp SUSP SUSP h = refl
+γ-susp SUSP STOP h = refl
+γ-susp SUSP TERM h = refl
+γ-susp STOP SUSP h = refl
+γ-susp STOP STOP h = absurd (STOP≢SUSP h)
+γ-susp STOP TERM h = absurd (STOP≢SUSP h)
+γ-susp TERM SUSP h = refl
+γ-susp TERM STOP h = absurd (STOP≢SUSP h)
+γ-susp TERM TERM h = absurd (TERM≢SUSP h)
 
 -- a Local whose event didn't change keeps its sign
 sign-kept : (b now : Bool) (α : Flag) → now ≡ b → α ≡ SUSP → sign b α now ≡ b
@@ -163,18 +175,28 @@ blocks (r4-on d) q f = rw leave-susp (blocks d q f)
 blocks (r5 d h) q f = rw leave-susp (blocks d q f)
 blocks (r8 {r = r} {s = s} d e) q f =
     rw leave-susp (
+      γ-susp (r .flag) (s .flag) f,
       λ g. blocks d (collect-none event-of (r .acts) (s .acts) q .0) (δ₁-susp (r .flag) (s .flag) f g),
       λ g. behind d s q (λ k. blocks e k (δ₂-susp (r .flag) (s .flag) f g)),
     )
 blocks (r9 {r = r} {s = s} x e d) q f =
     rw leave-susp (
+      γ-susp (r .flag) (s .flag) f,
       λ g. behind e r q (λ k. blocks d k (δ₁-susp (r .flag) (s .flag) f g)),
       λ g. blocks e (collect-none event-of (s .acts) (r .acts) q .0) (δ₂-susp (r .flag) (s .flag) f g),
     )
 blocks (r10 {β = β} {r = r} h d) q f =
-    rw leave-susp (λ g. blocks d q (δ₁-susp (r .flag) β f g), λ g. absurd (h (δ₂-susp (r .flag) β f g)))
+    rw leave-susp (
+      γ-susp (r .flag) β f,
+      λ g. blocks d q (δ₁-susp (r .flag) β f g),
+      λ g. absurd (h (δ₂-susp (r .flag) β f g)),
+    )
 blocks (r11 {α = α} {r = r} h d) q f =
-    rw leave-susp (λ g. absurd (h (δ₁-susp α (r .flag) f g)), λ g. blocks d q (δ₂-susp α (r .flag) f g))
+    rw leave-susp (
+      γ-susp α (r .flag) f,
+      λ g. absurd (h (δ₁-susp α (r .flag) f g)),
+      λ g. blocks d q (δ₂-susp α (r .flag) f g),
+    )
 blocks (r12 d h) q f = rw leave-susp (blocks d q f)
 blocks (r13 {r = r} x d e) q f = behind d r q (λ k. blocks e k f)
 blocks (r4-loop {r = r} d e) q f = behind d r q (λ k. blocks e k f)
@@ -190,11 +212,11 @@ blocks (r18 v h) q f = absurd (STOP≢SUSP f)
 blocks (r19 v h d) q f = rw leave-susp (blocks d q f)
 blocks (r19-on d) q f = rw leave-susp (blocks d q f)
 blocks (r20 v h) q f = absurd (STOP≢SUSP f)
-blocks (r21 v) q f = tt
+blocks (r21 {E = E} {c = c} v) q f = unknown-before c E v
 blocks (r22 v h) q f = TERM≢SUSP f
 blocks (r23 v h) q f = STOP≢SUSP f
-blocks (r24 v) q f = tt
-blocks (r25 v) q f = tt
+blocks (r24 v) q f = absurd (STOP≢SUSP f)
+blocks (r25 {E = E} {c = c} v) q f = unknown-before c E v
 blocks (r26 v d) q f = rw leave-susp (λ g. blocks d q f)
 blocks (r27 v) q f = absurd (STOP≢SUSP f)
 blocks (r28 {E = E} {s = s} v) q f = λ g. absurd (known-present s E g v)
@@ -204,7 +226,7 @@ blocks (r31 v h d) q f = rw leave-susp (blocks d q f)
 blocks (r31-on d) q f = rw leave-susp (blocks d q f)
 blocks (r32 v h) q f = absurd (STOP≢SUSP f)
 blocks (r33 v) q f = absurd (STOP≢SUSP f)
-blocks (r34 v) q f = tt
+blocks (r34 {E = E} {c = c} v) q f = unknown-before c E v
 blocks (r35-39 {E = E} {b = b} {s = s} {r = r} d) q f =
     let k = collect-none event-of (r .acts) (_ ∷ []) q .0 in
     let same : r .env .now s ≡ b = ap (λ F. F .now s) (unchanged d k) ∙ put-at s b (E .now) in
@@ -259,18 +281,18 @@ idles (r4 d d′) e b = absurd (TERM≢STOP (idles d e b .stops))
 idles (r4-on d) e b = idles d e b
 idles (r5 d h) e b = idles d e b
 idles (r8 {u = u} d d′) e b =
-    let i = idles d e (b .0 refl) in
-    let j = idles d′ (end-kept d ∙ e) (subst (λ F. Blocked (F .now) u) (sym (unchanged d (i .no-event))) (b .1 refl)) in
+    let i = idles d e (b .1 refl) in
+    let j = idles d′ (end-kept d ∙ e) (subst (λ F. Blocked (F .now) u) (sym (unchanged d (i .no-event))) (b .2 refl)) in
     idle-++ (ap₂ γ (i .stops) (j .stops)) i j
 idles (r9 {t = t} x d′ d) e b =
-    let j = idles d′ e (b .1 refl) in
-    let i = idles d (end-kept d′ ∙ e) (subst (λ F. Blocked (F .now) t) (sym (unchanged d′ (j .no-event))) (b .0 refl)) in
+    let j = idles d′ e (b .2 refl) in
+    let i = idles d (end-kept d′ ∙ e) (subst (λ F. Blocked (F .now) t) (sym (unchanged d′ (j .no-event))) (b .1 refl)) in
     idle-++ (ap₂ γ (i .stops) (j .stops)) j i
 idles (r10 {β = β} h d) e b =
-    let i = idles d e (b .0 refl) in
+    let i = idles d e (b .1 refl) in
     record { stops = rw (i .stops) (stop-γ β h); no-atom = i .no-atom; no-event = i .no-event }
 idles (r11 {α = α} h d) e b =
-    let i = idles d e (b .1 refl) in
+    let i = idles d e (b .2 refl) in
     record { stops = rw (i .stops) (γ-stop α h); no-atom = i .no-atom; no-event = i .no-event }
 idles (r12 d h) e b = absurd b
 idles (r13 f d d′) e b = absurd b
@@ -298,9 +320,10 @@ idles (r26 {E = E} {s = s} v d) e b =
 idles (r27 v) e b = idle-read
 idles (r28 {E = E} {s = s} v) e b = absurd (known-at-end (Event s) E e v)
 idles (r29 d h) e b = absurd (h (idles d e b .stops))
-idles (r30 d d′) e b =
-    let i = idles d′ (end-kept d ∙ e) tt in
-    idle-++ (i .stops) (idles d e b) i
+idles (r30 d (r31 v h d′)) e b = absurd (false≢true (sym h ∙ (end-kept d ∙ e)))
+idles (r30 d (r32 v h)) e b = idle-++ refl (idles d e b) idle-read
+idles (r30 d (r33 v)) e b = idle-++ refl (idles d e b) idle-read
+idles (r30 {E′ = E′} {c = c} d (r34 v)) e b = absurd (known-at-end c E′ (end-kept d ∙ e) v)
 idles (r31 v h d) e b = absurd (false≢true (sym h ∙ e))
 idles (r31-on d) e b = idles d e b
 idles (r32 v h) e b = idle-read

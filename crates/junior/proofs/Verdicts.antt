@@ -1,14 +1,16 @@
--- Reading a configuration: `fixed` and `eval` together are three-valued logic; a verdict once given holds of every set of events
--- that the instant can still end with; once the end is declared every configuration has one.
+-- Reading a configuration: `fixed` and `eval` together are three-valued logic; a verdict once given stays where no event's changes but from
+-- unknown, so it holds of every set of events that the instant can still end with; once the end is declared every configuration has one.
 use Prim.Native.Nat.{ℕ}
-use mathlib.Core.Bool.{Bool, true, false, not, _&&_, _||_, and-false, or-true}
-use mathlib.Core.Path.{_≡_, refl, ap, sym, _∙_}
+use mathlib.Core.Bool.{Bool, true, false, not, _&&_, _||_, or-true}
+use mathlib.Core.Path.{_≡_, refl, ap, sym, _∙_, subst}
 use mathlib.Core.Logic.{_≢_}
 use native.Mathlib.Omega.{arith}
 use Rattle.events.specs.Events.{Events}
 use Rattle.junior.specs.declared.Verdict.{Verdict}
 use Rattle.junior.specs.declared.Verdict.the-variants.{Sat, Unsat, Unknown}
-use Rattle.junior.specs.Configuration.{Env, Config, Event, Not, And, Or, eval, fixed, verdict, test}
+use Rattle.junior.specs.Configuration.{Env, declared-end, handed-in, Config, Event, Not, And, Or, eval, fixed}
+use Rattle.junior.specs.Configuration.{verdict, test}
+use Rattle.junior.specs.Course.{_⊆_}
 
 -- the tables of three-valued logic
 abbrev pub not₃ : Verdict → Verdict
@@ -72,68 +74,57 @@ pub test-or : (c d : Config) (E : Env) → test (Or c d) E ≡ or₃ (test c E) 
 unfolding test fixed eval
 test-or c d E = verdict-or (fixed c E) (fixed d E) (eval c (E .now)) (eval d (E .now))
 
--- a value that a verdict allows
-abbrev pub Allows : Verdict → Bool → Type 0
-Allows Sat b = b ≡ true
-Allows Unsat b = b ≡ false
-Allows Unknown b = Unit {0}
+-- a verdict that is given stays, an unknown one may become any
+abbrev pub Keeps : Verdict → Verdict → Type 0
+Keeps Sat v = v ≡ Sat
+Keeps Unsat v = v ≡ Unsat
+Keeps Unknown v = Unit {0}
 
--- X can still come of E: it differs from E's events only in those that aren't fixed
-abbrev pub CanCome : Env → Events → Type 0
-CanCome E X = (s : ℕ) → Allows (test (Event s) E) (X s)
+keeps-not : (u v : Verdict) → Keeps u v → Keeps (not₃ u) (not₃ v)
+keeps-not Sat v h = ap not₃ h
+keeps-not Unsat v h = ap not₃ h
+keeps-not Unknown v h = tt
 
-allows-not : (v : Verdict) (b : Bool) → Allows v b → Allows (not₃ v) (not b)
-allows-not Sat b h = ap not h
-allows-not Unsat b h = ap not h
-allows-not Unknown b h = tt
+and-unsat : (v : Verdict) → and₃ v Unsat ≡ Unsat
+and-unsat Sat = refl
+and-unsat Unsat = refl
+and-unsat Unknown = refl
 
-allows-and : (u v : Verdict) (a b : Bool) → Allows u a → Allows v b → Allows (and₃ u v) (a && b)
-allows-and Sat v a b h k = rw h k
-allows-and Unsat v a b h k = rw h
-allows-and Unknown Sat a b h k = tt
-allows-and Unknown Unsat a b h k = rw k (and-false a)
-allows-and Unknown Unknown a b h k = tt
+or-sat : (v : Verdict) → or₃ v Sat ≡ Sat
+or-sat Sat = refl
+or-sat Unsat = refl
+or-sat Unknown = refl
 
-allows-or : (u v : Verdict) (a b : Bool) → Allows u a → Allows v b → Allows (or₃ u v) (a || b)
-allows-or Sat v a b h k = rw h
-allows-or Unsat v a b h k = rw h k
-allows-or Unknown Sat a b h k = rw k (or-true a)
-allows-or Unknown Unsat a b h k = tt
-allows-or Unknown Unknown a b h k = tt
+keeps-and : (u v u′ v′ : Verdict) → Keeps u u′ → Keeps v v′ → Keeps (and₃ u v) (and₃ u′ v′)
+keeps-and Sat v u′ v′ h k = rw h k
+keeps-and Unsat v u′ v′ h k = rw h
+keeps-and Unknown Sat u′ v′ h k = tt
+keeps-and Unknown Unsat u′ v′ h k = rw k (and-unsat u′)
+keeps-and Unknown Unknown u′ v′ h k = tt
 
-pub allowed : (c : Config) (E : Env) (X : Events) → CanCome E X → Allows (test c E) (eval c X)
-unfolding eval
-allowed (Event s) E X h = h s
-allowed (Not c) E X h = rw (test-not c E) (allows-not (test c E) (eval c X) (allowed c E X h))
-allowed (And c d) E X h =
-    rw (test-and c d E) (allows-and (test c E) (test d E) (eval c X) (eval d X) (allowed c E X h) (allowed d E X h))
-allowed (Or c d) E X h =
-    rw (test-or c d E) (allows-or (test c E) (test d E) (eval c X) (eval d X) (allowed c E X h) (allowed d E X h))
+keeps-or : (u v u′ v′ : Verdict) → Keeps u u′ → Keeps v v′ → Keeps (or₃ u v) (or₃ u′ v′)
+keeps-or Sat v u′ v′ h k = rw h
+keeps-or Unsat v u′ v′ h k = rw h k
+keeps-or Unknown Sat u′ v′ h k = rw k (or-sat u′)
+keeps-or Unknown Unsat u′ v′ h k = tt
+keeps-or Unknown Unknown u′ v′ h k = tt
 
--- a test found sat (b = true) or unsat (b = false) has that value later too
-pub lasts : (c : Config) (E : Env) (X : Events) {b : Bool} → test c E ≡ verdict true b → CanCome E X → eval c X ≡ b
-lasts c E X {b} t h = value b (rw t at (allowed c E X h))
-  where
-    value : (b : Bool) → Allows (verdict true b) (eval c X) → eval c X ≡ b
-    value true k = k
-    value false k = k
+-- where the events' verdicts stay, a configuration's does
+pub keeps : (c : Config) (E F : Env) → ((s : ℕ) → Keeps (test (Event s) E) (test (Event s) F)) → Keeps (test c E) (test c F)
+keeps (Event s) E F h = h s
+keeps (Not c) E F h = rw (test-not c E, test-not c F) (keeps-not (test c E) (test c F) (keeps c E F h))
+keeps (And c d) E F h =
+    rw (test-and c d E, test-and c d F) (
+    keeps-and (test c E) (test d E) (test c F) (test d F) (keeps c E F h) (keeps d E F h)
+    )
+keeps (Or c d) E F h =
+    rw (test-or c d E, test-or c d F) (
+    keeps-or (test c E) (test d E) (test c F) (test d F) (keeps c E F h) (keeps d E F h)
+    )
 
--- before the end, every larger set can come
-pub larger : (E : Env) (X : Events) → E .eoi ≡ false → ((s : ℕ) → E .now s ≡ true → X s ≡ true) → CanCome E X
-larger E X e h s = rw (test-event s E, e) (go (E .now s) (h s))
-  where
-    go : (b : Bool) → (b ≡ true → X s ≡ true) → Allows (verdict (b || false) b) (X s)
-    go true k = k refl
-    go false k = tt
-
--- the events as they are can come, before the end and at it
-pub as-it-is : (E : Env) → CanCome E (E .now)
-as-it-is E s = rw (test-event s E) (go (E .now s) (E .eoi))
-  where
-    go : (b e : Bool) → Allows (verdict (b || e) b) b
-    go true e = refl
-    go false true = refl
-    go false false = tt
+stays-decided : (b : Bool) (v : Verdict) → Keeps (verdict true b) v → v ≡ verdict true b
+stays-decided true v h = h
+stays-decided false v h = h
 
 fixed-at-end : (c : Config) (E : Env) → E .eoi ≡ true → fixed c E ≡ true
 unfolding fixed
@@ -147,9 +138,79 @@ pub test-at-end : (c : Config) (E : Env) → E .eoi ≡ true → test c E ≡ ve
 unfolding test
 test-at-end c E e = rw (fixed-at-end c E e)
 
+-- X can still come of E: it differs from E's events only in those that aren't fixed
+abbrev pub CanCome : Env → Events → Type 0
+CanCome E X = (s : ℕ) → Keeps (test (Event s) E) (verdict true (X s))
+
+same-value : (a b : Bool) → verdict true a ≡ verdict true b → a ≡ b
+same-value true true h = refl
+same-value true false h = cc
+same-value false true h = cc
+same-value false false h = refl
+
+-- a test found sat (b = true) or unsat (b = false) has that value later too
+pub lasts : (c : Config) (E : Env) (X : Events) {b : Bool} → test c E ≡ verdict true b → CanCome E X → eval c X ≡ b
+unfolding eval
+lasts c E X {b} t h =
+    let end = declared-end (handed-in X) in
+    let k = keeps c E end (λ s. rw (test-at-end (Event s) end refl) (h s)) in
+    same-value (eval c X) b (sym (test-at-end c end refl) ∙ stays-decided b (test c end) (rw t at k))
+
+-- before the end, every larger set can come
+pub larger : (E : Env) (X : Events) → E .eoi ≡ false → E .now ⊆ X → CanCome E X
+larger E X e h s = rw (test-event s E, e) (go (E .now s) (h s))
+  where
+    go : (b : Bool) → (b ≡ true → X s ≡ true) → Keeps (verdict (b || false) b) (verdict true (X s))
+    go true k = ap (verdict true) (k refl)
+    go false k = tt
+
+-- the events as they are can come, before the end and at it
+pub as-it-is : (E : Env) → CanCome E (E .now)
+as-it-is E s = rw (test-event s E) (go (E .now s) (E .eoi))
+  where
+    go : (b e : Bool) → Keeps (verdict (b || e) b) (verdict true b)
+    go true e = refl
+    go false true = refl
+    go false false = tt
+
+-- a test decided before the end is decided so in every larger set, before the end too
+pub decided-before : (c : Config) (E : Env) (X : Events) (b : Bool)
+    → test c E ≡ verdict true b
+    → E .eoi ≡ false
+    → E .now ⊆ X
+    → test c (handed-in X) ≡ verdict true b
+decided-before c E X b t e h =
+    stays-decided b (test c (handed-in X)) (
+    subst (λ v. Keeps v (test c (handed-in X))) t (
+    keeps c E (handed-in X) (λ s. rw (test-event s E, test-event s (handed-in X), e) (go s (E .now s) (h s)))
+    )
+    )
+  where
+    go : (s : ℕ) (b : Bool) → (b ≡ true → X s ≡ true) → Keeps (verdict (b || false) b) (verdict (X s || false) (X s))
+    go s true k = ap (λ x. verdict (x || false) x) (k refl)
+    go s false k = tt
+
 decided≢Unknown : (b : Bool) → verdict true b ≢ Unknown
 decided≢Unknown true h = let z : _≡_ {A = ℕ} 0 1 = cc in omega arith
 decided≢Unknown false h = let z : _≡_ {A = ℕ} 0 1 = cc in omega arith
+
+-- a test that is unknown was so before the end
+pub unknown-before : (c : Config) (E : Env) → test c E ≡ Unknown → test c (handed-in (E .now)) ≡ Unknown
+unknown-before c E t =
+    known (test c (handed-in (E .now))) (
+    subst (Keeps (test c (handed-in (E .now)))) t (
+    keeps c (handed-in (E .now)) E (λ s. rw (test-event s (handed-in (E .now)), test-event s E) (go (E .now s) (E .eoi)))
+    )
+    )
+  where
+    go : (b e : Bool) → Keeps (verdict (b || false) b) (verdict (b || e) b)
+    go true e = refl
+    go false e = tt
+
+    known : (v : Verdict) → Keeps v Unknown → v ≡ Unknown
+    known Sat h = sym h
+    known Unsat h = sym h
+    known Unknown h = refl
 
 pub known-at-end : (c : Config) (E : Env) → E .eoi ≡ true → test c E ≢ Unknown
 known-at-end c E e h = decided≢Unknown (eval c (E .now)) (sym (test-at-end c E e) ∙ h)
