@@ -13,17 +13,15 @@ use borrow.Author.Tests.{not-false}
 use Rattle.events.specs.Events.{Events, lowest}
 use Rattle.events.specs.Members.{places}
 use Rattle.events.proofs.Events.{before-lowest, at-lowest, lowest-is}
-use Rattle.junior.specs.Program.{Program, Nothing, Stop, Atom, Seq, Par, Loop, Repeat, Generate, Await, When, Until}
-use Rattle.junior.specs.Program.{Control, Local, size, kind}
+use Rattle.junior.specs.Program.{Program, Loop, loop, repeat, control, local, Parts, no-part, one-part, two-parts, parts, size, kind}
 use Rattle.junior.specs.Figures.{stops, G, A, W}
 use Rattle.table.specs.declared.Checked.the-variants.{BadLength, BadCounts, BadDistances, BadConfiguration, BadNode}
 use Rattle.table.specs.declared.Checked.the-variants.{TooDeep, EndlessLoop, TooHeavy}
 use Rattle.table.specs.Records.{nodes, configurations, events, back-to-nodes, back-to-configurations}
 use Rattle.table.specs.Good.{goodConfiguration, goodNode}
 use Rattle.table.specs.Spells.{treeOf}
-use Rattle.table.specs.Verdict.{lengthGood, countsGood, distancesGood, Node, preorder, firstSuch, deep, endlessLoop}
-use Rattle.table.specs.Verdict.{endless, light}
-use Rattle.table.specs.Verdict.{numberOf, indexOf}
+use Rattle.table.specs.Verdict.{lengthGood, countsGood, distancesGood, Node, preorder, firstSuch, deep, endlessParts}
+use Rattle.table.specs.Verdict.{endless, light, numberOf, indexOf}
 use Rattle.table.proofs.Laid.{both}
 use Rattle.table.proofs.Order.{length-preorder}
 use Rattle.state.specs.Resting.{rests, blamed}
@@ -187,27 +185,20 @@ module _ {So : Node → Type 0} {so : Node → Bool} (t : Tests So so) (p : Prog
 deep-test : Tests (λ x. 64 < x .depth) deep
 deep-test = record { sound = λ x e. ltb-true 64 (x .depth) e; whole = λ x h. lt-ltb 64 (x .depth) h }
 
-endless-so : (p : Program) → endlessLoop p ≡ true → (q : Program) × (p ≡ Loop q) × (stops q ≡ false)
+endless-so : {p : Program} (v : Parts p) → endlessParts v ≡ true → (q : Program) × (p ≡ Loop q) × (stops q ≡ false)
 unfolding kind
-endless-so Nothing e = absurd (false≢true e)
-endless-so Stop e = absurd (false≢true e)
-endless-so (Atom a) e = absurd (false≢true e)
-endless-so (Seq p q) e = absurd (false≢true e)
-endless-so (Par p q) e = absurd (false≢true e)
-endless-so (Loop p) e = (p, refl, not-true (stops p) e)
-endless-so (Repeat n p) e = absurd (false≢true e)
-endless-so (Generate s) e = absurd (false≢true e)
-endless-so (Await c) e = absurd (false≢true e)
-endless-so (When c p q) e = absurd (false≢true e)
-endless-so (Until c p q) e = absurd (false≢true e)
-endless-so (Control s p) e = absurd (false≢true e)
-endless-so (Local s p) e = absurd (false≢true e)
+endless-so (no-part f) e = absurd (false≢true e)
+endless-so (one-part (loop q) v) e = (q, refl, not-true (stops q) e)
+endless-so (one-part (repeat n q) v) e = absurd (false≢true e)
+endless-so (one-part (control s q) v) e = absurd (false≢true e)
+endless-so (one-part (local s q) v) e = absurd (false≢true e)
+endless-so (two-parts f v w) e = absurd (false≢true e)
 
 endless-test : Tests Endless endless
 unfolding kind
 endless-test =
     record {
-      sound = λ x e. let (q, loop, through) = endless-so (x .part) e in record { body = q; loop = loop; runs-through = through };
+      sound = λ x e. let (q, is-loop, through) = endless-so (parts (x .part)) e in record { body = q; loop = is-loop; runs-through = through };
       whole = λ x b. rw (b .loop, b .runs-through);
     }
 

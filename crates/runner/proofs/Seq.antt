@@ -25,7 +25,7 @@ use Rattle.table.proofs.Tree.{written}
 use Rattle.state.specs.StateBytes.{in-phase, zeros, below}
 use Rattle.state.proofs.Parts.{first-of, with-first, rest-of, with-rest, fresh-zeros}
 use Rattle.state.proofs.Shape.{Shape, is-done, is-seq0, is-seq2, is-when2, is-until2, is-local, shape-by}
-use Rattle.state.proofs.Frames.{Frame, seq-first, seq-second, when-second, until-second}
+use Rattle.state.proofs.Frames.{Frame, size-in, seq-first, seq-second, when-second, until-second}
 use Rattle.steps.specs.Running.{Ready, Ran, Live, Runs, Any, Kind, Phase, phaseAfter}
 use Rattle.steps.proofs.Children.{at-node, falling, first-cut, second-cut, asks, child-ran, next-index}
 use Rattle.steps.proofs.Children.{first-at, second-at, phase-is, next-in-table, till-in}
@@ -62,7 +62,7 @@ second-reads (in-second p o x z g d) h = next-in-table o h
 module _ {table : List ℕ} {i : ℕ} {state words row tally : List ℕ} {n : ℕ} (m : n ≡ sizeAt table (i + 1)) where
   -- the rest of the state, behind the first child, is the second's
   pub second-fits : {t : Term} → Second t → Ready 1 table i state words row tally t → 4 + 4 * n ≤ length state
-  second-fits (in-second p o x z g d) h = omega (arith, h .long, o .size-is x, z table i (h .placed))
+  second-fits (in-second p o x z g d) h = omega (arith, h .long, size-in o x, z table i (h .placed))
 
   pub second-asks : {t : Term} → Second t → Ready 1 table i state words row tally t
       → {k : ℕ} (rank : ℕ) → falling table i rank ≡ k

@@ -1,174 +1,111 @@
 -- In a state in whose bytes a term at rest stands no node is to blame.
 use Prim.Native.Nat.{ℕ, _+_, _-_, _*_, _≤_, _<_, min}
-use mathlib.Core.Bool.{Bool, true, false, not, true≢false}
-use mathlib.Core.Path.{_≡_, refl, sym, ap, subst, _∙_}
-use mathlib.Core.List.{List, [], _++_}
+use mathlib.Core.Bool.{true, false, true≢false}
+use mathlib.Core.Path.{_≡_, refl, sym, ap, _∙_}
+use mathlib.Core.List.{List, _++_}
 use native.Mathlib.Omega.{arith}
 use lib.ListN.{length, getD, take, drop, replicate, length-take, length-drop, length-replicate}
 use lib.Seq.{take-at, drop-at, length-take-le}
-use lib.Dec.{eqb, ltb}
-use borrow.Author.Tests.{ltb-true, ltb-false, lt-ltb}
-use Rattle.events.proofs.Events.{lowest-is}
+use lib.Dec.{eqb}
+use borrow.Author.Tests.{lt-ltb}
 use Rattle.junior.specs.declared.Flag.{Flag}
 use Rattle.junior.specs.declared.Flag.the-variants.{SUSP, STOP, TERM}
-use Rattle.junior.specs.Program.{Program, Nothing, Stop, Atom, Seq, Par, Loop, Repeat, Generate, Await, When}
-use Rattle.junior.specs.Program.{Until, Control, Local, size, kind}
+use Rattle.junior.specs.Program.{Program, Nothing, Stop, Atom, Loop, Repeat, Generate, Await, When, size, kind}
 use Rattle.junior.specs.Term.{Term, done, nothing, stop, atom, generate, await, seq0, seq2, par, loop0, loop1}
-use Rattle.junior.specs.Term.{repeat0, repeat1, when0, when1, when2, until0, until*, until2, control, local, prog}
+use Rattle.junior.specs.Term.{repeat0, repeat1, when0, when1, when2, until0, until*, until2, control, local, prog, fresh}
 use Rattle.junior.specs.AtRest.{AtRest, Waiting, Over}
-use Rattle.table.specs.Records.{nodes, secondAt}
+use Rattle.table.specs.Records.{nodes, sizeAt, secondAt}
 use Rattle.table.specs.Spells.{Spells, treeOf}
-use Rattle.table.specs.Inside.{Placed}
-use Rattle.table.proofs.Tree.{size-pos, written, second-is, second}
+use Rattle.table.specs.Inside.{Loaded, Placed}
+use Rattle.table.proofs.Tree.{size-pos, written, spells-two, second-is, second}
 use Rattle.table.proofs.Loaded.{all-nodes}
 use Rattle.state.specs.StateBytes.{Own, head, code, before, in-phase, zeros, below, stateBytes}
 use Rattle.state.specs.Resting.{phaseAt, firstZero, secondZero, belowZero, phaseRests, flagsRest, countRests, rests, blamed}
-use Rattle.state.proofs.Parts.{blank, blank-below, blank-both, len-bytes}
-use Rattle.state.proofs.NodeBytes.{bytesAt, Owns, both-parts, node-owns, bytes-zero, first-byte}
+use Rattle.state.proofs.Parts.{blank, len-bytes, fresh-zeros}
+use Rattle.state.proofs.Frames.{Side, only-part, first-part, second-part, Frame, size-in, spells-in, seq-first, seq-second, loop-body}
+use Rattle.state.proofs.Frames.{repeat-body, when-first, when-second, until-first, until-second, control-body, local-body}
+use Rattle.state.proofs.Zeros.{Owns, zero-each}
+use Rattle.state.proofs.Firsts.{Hold, hold-more, hold-join, first-at, first-lowest}
+use Rattle.state.proofs.Fresh.{zero-rests}
+use Rattle.state.proofs.NodeBytes.{bytesAt, both-parts, node-owns, bytes-zero, first-byte}
 
-module _ (t s : List ℕ) (long : 4 * nodes t ≤ length s) where
+module _ (t s : List ℕ) (l : Loaded t) (long : 4 * nodes t ≤ length s) where
   -- of the n nodes from i on none is to blame
   abbrev Calm : ℕ → ℕ → Type 0
-  Calm i n = (k : ℕ) → i ≤ k → k < i + n → rests t s k ≡ true
-
-  no-nodes : (i : ℕ) → Calm i 0
-  no-nodes i k a b = absurd (omega arith)
-
-  with-below : (i n : ℕ) → rests t s i ≡ true → Calm (i + 1) n → Calm i (1 + n)
-  with-below i n r c k a b = go (ltb i k) refl
-    where
-      go : (x : Bool) → ltb i k ≡ x → rests t s k ≡ true
-      go true e = let l = ltb-true i k e in c k (omega arith) (omega arith)
-      go false e =
-          let l = ltb-false i k e in let f : i ≡ k = omega arith in subst (λ (j : ℕ). rests t s j ≡ true) f r
-
-  joined : (i m n : ℕ) → Calm i m → Calm (i + m) n → Calm i (m + n)
-  joined i m n c d k a b = go (ltb k (i + m)) refl
-    where
-      go : (x : Bool) → ltb k (i + m) ≡ x → rests t s k ≡ true
-      go true e = let l = ltb-true k (i + m) e in c k a (omega arith)
-      go false e = let l = ltb-false k (i + m) e in d k (omega arith) (omega arith)
-
-  with-both : (i m n : ℕ) → rests t s i ≡ true → Calm (i + 1) m → Calm (i + 1 + m) n → Calm i (1 + m + n)
-  with-both i m n r c d =
-      let e : 1 + (m + n) ≡ 1 + m + n = omega arith in
-      subst (λ (j : ℕ). Calm i j) e (with-below i (m + n) r (joined (i + 1) m n c d))
+  Calm i n = Hold (rests t s) i (i + n)
 
   -- the bytes of two children told apart
-  parts : (i m n : ℕ) (l r : List ℕ) → i + m + n ≤ nodes t → length l ≡ 4 * m → bytesAt s i (m + n) ≡ l ++ r
-      → (bytesAt s i m ≡ l) × (bytesAt s (i + m) n ≡ r)
-  parts i m n l r h e b =
-      let c = sym (both-parts s i m n) ∙ b in
+  parts : (i m n : ℕ) (a b : List ℕ) → i + m + n ≤ nodes t → length a ≡ 4 * m → bytesAt s i (m + n) ≡ a ++ b
+      → (bytesAt s i m ≡ a) × (bytesAt s (i + m) n ≡ b)
+  parts i m n a b h e w =
+      let c = sym (both-parts s i m n) ∙ w in
       let f : 4 * m ≤ length (drop (4 * i) s) = simp length-drop (omega arith) in
       let g = length-take-le (4 * m) (drop (4 * i) s) f in (
-        sym (take-at (bytesAt s i m) (bytesAt s (i + m) n) (4 * m) g) ∙ (ap (take (4 * m)) c ∙ take-at l r (4 * m) e),
-        sym (drop-at (bytesAt s i m) (bytesAt s (i + m) n) (4 * m) g) ∙ (ap (drop (4 * m)) c ∙ drop-at l r (4 * m) e),
+        sym (take-at (bytesAt s i m) (bytesAt s (i + m) n) (4 * m) g) ∙ (ap (take (4 * m)) c ∙ take-at a b (4 * m) e),
+        sym (drop-at (bytesAt s i m) (bytesAt s (i + m) n) (4 * m) g) ∙ (ap (drop (4 * m)) c ∙ drop-at a b (4 * m) e),
       )
 
   blank-len : (n : ℕ) → length (blank n) ≡ 4 * n
   blank-len n = length-replicate (4 * n) 0
 
-  -- children that are all zero, as the tests say it
-  first-zero : (i : ℕ) (p : Program) → Spells t (i + 1) p → i + 1 + size p ≤ nodes t → bytesAt s (i + 1) (size p) ≡ zeros p
-      → firstZero t s i ≡ true
-  first-zero i p a h e = rw (written t (i + 1) p a) (bytes-zero s (i + 1) (size p) (omega arith) e)
-
-  second-zero : (i : ℕ) (p q : Program) → Spells t (i + 1) p → Spells t (secondAt t i) q → i + 1 + size p + size q ≤ nodes t
-      → bytesAt s (i + 1 + size p) (size q) ≡ zeros q
-      → secondZero t s i ≡ true
-  second-zero i p q a b h e =
-      rw (written t (secondAt t i) q b, written t (i + 1) p a) (bytes-zero s (i + 1 + size p) (size q) (omega arith) e)
-
-  -- a node all below which is zero: nothing there is to blame, nor is it if it is zero too
-  abbrev Zero : ℕ → Program → Type 0
-  Zero i p = (Owns s i (in-phase 0) → rests t s i ≡ true) × Calm (i + 1) (size p - 1)
-
-  abbrev Below : ℕ → ℕ → Type 0
-  Below i n = bytesAt s (i + 1) n ≡ blank n
-
-  zero-all : (p : Program) (i : ℕ) → i + size p ≤ nodes t → bytesAt s i (size p) ≡ zeros p
-      → (Below i (size p - 1) → Zero i p)
-      → Calm i (size p)
-  zero-all p i h e f =
-      let m : size p ≡ 1 + (size p - 1) = omega (arith, size-pos p) in
-      let b = ap (bytesAt s i) (sym m) ∙ (e ∙ (ap blank m ∙ sym (blank-below (size p - 1)))) in
-      let (own, z) = node-owns s i (size p - 1) (omega (arith, size-pos p)) (in-phase 0) (blank (size p - 1)) b in
-      let (o, c) = f z in
-      subst (λ (j : ℕ). Calm i j) (sym m) (with-below i (size p - 1) (o own) c)
-
-  one-zero : (i : ℕ) (p : Program) → Spells t (i + 1) p → i + (1 + size p) ≤ nodes t → Below i (1 + size p - 1)
-      → (Below (i + 1) (size p - 1) → Zero (i + 1) p)
-      → (firstZero t s i ≡ true) × Calm (i + 1) (1 + size p - 1)
-  one-zero i p a h b f =
-      let e : 1 + size p - 1 ≡ size p = omega arith in
-      let x : bytesAt s (i + 1) (size p) ≡ zeros p = rw e at b in
-      (first-zero i p a (omega arith) x, rw e (zero-all p (i + 1) (omega arith) x f))
-
-  two-zero : (i : ℕ) (p q : Program) → Spells t (i + 1) p → Spells t (secondAt t i) q → i + (1 + size p + size q) ≤ nodes t
-      → Below i (1 + size p + size q - 1)
-      → (Below (i + 1) (size p - 1) → Zero (i + 1) p)
-      → (Below (i + 1 + size p) (size q - 1) → Zero (i + 1 + size p) q)
-      → (firstZero t s i ≡ true) × (secondZero t s i ≡ true) × Calm (i + 1) (1 + size p + size q - 1)
-  two-zero i p q a a′ h b f g =
-      let e : 1 + size p + size q - 1 ≡ size p + size q = omega arith in
-      let c : bytesAt s (i + 1) (size p + size q) ≡ blank (size p) ++ blank (size q) = rw e at b ∙ sym (blank-both (size p) (size q)) in
-      let (x, y) = parts (i + 1) (size p) (size q) (blank (size p)) (blank (size q)) (omega arith) (blank-len (size p)) c in
-      let u = zero-all p (i + 1) (omega arith) x f in
-      let v = zero-all q (i + 1 + size p) (omega arith) y g in
-      (first-zero i p a (omega arith) x, second-zero i p q a a′ (omega arith) y, rw e (joined (i + 1) (size p) (size q) u v))
-
-  unbegun : (p : Program) (i : ℕ) → Spells t i p → i + size p ≤ nodes t → Below i (size p - 1) → Zero i p
-  unfolding Spells size kind rests phaseRests flagsRest countRests
-  unbegun Nothing i sp h b = (λ o. simp (sp .0 .0, o .0, o .1, o .2), no-nodes (i + 1))
-  unbegun Stop i sp h b = (λ o. simp (sp .0 .0, o .0, o .1, o .2), no-nodes (i + 1))
-  unbegun (Atom a) i sp h b = (λ o. simp (sp .0 .0, o .0, o .1, o .2), no-nodes (i + 1))
-  unbegun (Generate e) i sp h b = (λ o. simp (sp .0 .0, o .0, o .1, o .2), no-nodes (i + 1))
-  unbegun (Await c) i sp h b = (λ o. simp (sp .0 .0, o .0, o .1, o .2), no-nodes (i + 1))
-  unbegun (Loop p) i sp h b =
-      let z = one-zero i p (sp .2) h b (unbegun p (i + 1) (sp .2) (omega arith)) in
-      (λ o. simp (sp .0 .0, o .0, o .1, o .2, z .0), z .1)
-  unbegun (Repeat n p) i sp h b =
-      let z = one-zero i p (sp .2) h b (unbegun p (i + 1) (sp .2) (omega arith)) in
-      (λ o. simp (sp .0 .0, o .0, o .1, o .2, z .0), z .1)
-  unbegun (Control e p) i sp h b =
-      let z = one-zero i p (sp .2) h b (unbegun p (i + 1) (sp .2) (omega arith)) in
-      (λ o. simp (sp .0 .0, o .0, o .1, o .2), z .1)
-  unbegun (Local e p) i sp h b =
-      let z = one-zero i p (sp .2) h b (unbegun p (i + 1) (sp .2) (omega arith)) in
-      (λ o. simp (sp .0 .0, o .0, o .1, o .2), z .1)
-  unbegun (Seq p q) i sp h b =
-      let at-second = unbegun q (i + 1 + size p) (second t i p q (sp .2) (sp .3)) (omega arith) in
-      let z = two-zero i p q (sp .2) (sp .3) h b (unbegun p (i + 1) (sp .2) (omega arith)) at-second in
-      (λ o. simp (sp .0 .0, o .0, o .1, o .2, z .1), z .2)
-  unbegun (Par p q) i sp h b =
-      let at-second = unbegun q (i + 1 + size p) (second t i p q (sp .2) (sp .3)) (omega arith) in
-      let z = two-zero i p q (sp .2) (sp .3) h b (unbegun p (i + 1) (sp .2) (omega arith)) at-second in
-      (λ o. simp (sp .0 .0, o .0, o .1, o .2), z .2)
-  unbegun (When c p q) i sp h b =
-      let at-second = unbegun q (i + 1 + size p) (second t i p q (sp .2) (sp .3)) (omega arith) in
-      let z = two-zero i p q (sp .2) (sp .3) h b (unbegun p (i + 1) (sp .2) (omega arith)) at-second in
-      (λ o. simp (sp .0 .0, o .0, o .1, o .2, z .0, z .1), z .2)
-  unbegun (Until c p q) i sp h b =
-      let at-second = unbegun q (i + 1 + size p) (second t i p q (sp .2) (sp .3)) (omega arith) in
-      let z = two-zero i p q (sp .2) (sp .3) h b (unbegun p (i + 1) (sp .2) (omega arith)) at-second in
-      (λ o. simp (sp .0 .0, o .0, o .1, o .2, z .1), z .2)
+  -- nodes that have no byte but zeros, the nodes of a subtree or all of them but the first
+  idle-from : (p : Program) (i j n : ℕ) → Spells t i p → i + size p ≤ nodes t → i ≤ j → j + n ≡ i + size p → bytesAt s j n ≡ blank n
+      → Calm j n
+  idle-from p i j n sp h g e b =
+      let w = written t i p sp in
+      let f : i + sizeAt t i ≡ j + n = omega arith in
+      let z = zero-each s j n (bytes-zero s j n (omega arith) b) in
+      rw f at (zero-rests s l i (omega (arith, size-pos p)) j g (rw f z))
 
   idle : (p : Program) (i : ℕ) → Spells t i p → i + size p ≤ nodes t → bytesAt s i (size p) ≡ zeros p → Calm i (size p)
-  idle p i sp h e = zero-all p i h e (unbegun p i sp h)
+  idle p i sp h b = idle-from p i i (size p) sp h (omega arith) refl b
 
-  -- a node above one and above two, told apart
-  above-one : (i m : ℕ) → i + (1 + m) ≤ nodes t → (o : Own) (l : List ℕ) → bytesAt s i (1 + m) ≡ before o l
-      → Owns s i o × (bytesAt s (i + 1) m ≡ l)
-  above-one i m h o l b = node-owns s i m (omega arith) o l b
+  -- so a fresh term's
+  unbegun : (p : Program) (i : ℕ) → Spells t i p → i + size p ≤ nodes t → bytesAt s i (size p) ≡ stateBytes (fresh p) → Calm i (size p)
+  unbegun p i sp h b = idle p i sp h (b ∙ fresh-zeros p)
 
-  above-two : (i m n : ℕ) → i + (1 + m + n) ≤ nodes t → (o : Own) (l r : List ℕ) → length l ≡ 4 * m
-      → bytesAt s i (1 + m + n) ≡ before o (l ++ r)
-      → Owns s i o × (bytesAt s (i + 1) m ≡ l) × (bytesAt s (i + 1 + m) n ≡ r)
-  above-two i m n h o l r e b =
-      let k : 1 + m + n ≡ 1 + (m + n) = omega arith in
-      let (own, c) = above-one i (m + n) (omega arith) o (l ++ r) (rw k at b) in
-      let (x, y) = parts (i + 1) m n l r (omega arith) e c in
-      (own, x, y)
+  -- what a child that has no state comes to
+  module _ {p q : Program} (i : ℕ) (sp : Spells t i p) where
+    ahead-idle : {ahead behind : ℕ} → Side p q ahead behind → i + 1 + ahead ≤ nodes t → bytesAt s (i + 1) ahead ≡ blank ahead
+        → (0 < ahead → firstZero t s i ≡ true) × Calm (i + 1) ahead
+    ahead-idle (only-part f) h b = (λ z. absurd (omega arith), λ k c d. absurd (omega arith))
+    ahead-idle (first-part f) h b = (λ z. absurd (omega arith), λ k c d. absurd (omega arith))
+    ahead-idle (second-part {r = r} f) h b =
+        let a = spells-two t i f sp .0 in
+        (λ z. rw (written t (i + 1) r a) (bytes-zero s (i + 1) (size r) (omega arith) b), idle r (i + 1) a h b)
+
+    behind-idle : {ahead behind : ℕ} → Side p q ahead behind → (j : ℕ) → j ≡ i + 1 + ahead + size q → j + behind ≤ nodes t
+        → bytesAt s j behind ≡ blank behind
+        → (0 < behind → secondZero t s i ≡ true) × Calm j behind
+    behind-idle (only-part f) j e h b = (λ z. absurd (omega arith), λ k c d. absurd (omega arith))
+    behind-idle (second-part f) j e h b = (λ z. absurd (omega arith), λ k c d. absurd (omega arith))
+    behind-idle (first-part {r = r} f) j e h b =
+        let (a, c) = spells-two t i f sp in
+        let z : secondAt t i ≡ j = second-is t i q a ∙ omega arith in
+        (λ y. rw (written t (secondAt t i) r c, z) (bytes-zero s j (size r) (omega arith) b), idle r j (rw z at c) h b)
+
+  -- a node around one child
+  within : {own : Own} {ahead behind : ℕ} {f : Term → Term} → Frame own ahead behind f → (x : Term) (i : ℕ)
+      → Spells t i (prog (f x))
+      → i + size (prog (f x)) ≤ nodes t
+      → bytesAt s i (size (prog (f x))) ≡ stateBytes (f x)
+      → ((j : ℕ) → Spells t j (prog x) → j + size (prog x) ≤ nodes t → bytesAt s j (size (prog x)) ≡ stateBytes x → Calm j (size (prog x)))
+      → (Owns s i own → (0 < ahead → firstZero t s i ≡ true) → (0 < behind → secondZero t s i ≡ true) → rests t s i ≡ true)
+      → Calm i (size (prog (f x)))
+  within {own} {ahead} {behind} {f} o x i sp h b inner node =
+      let n = size (prog x) in
+      let m : size (prog (f x)) ≡ 1 + (ahead + (n + behind)) = omega (arith, size-in o x) in
+      let w : bytesAt s i (1 + (ahead + (n + behind))) ≡ before own (blank ahead ++ (stateBytes x ++ blank behind)) =
+      rw m at b ∙ rw (o .head-is x, o .below-is x) in
+      let (owns, below) = node-owns s i (ahead + (n + behind)) (omega arith) own _ w in
+      let (front, more) = parts (i + 1) ahead (n + behind) _ _ (omega arith) (blank-len ahead) below in
+      let (there, back) = parts (i + 1 + ahead) n behind _ _ (omega arith) (len-bytes x) more in
+      let (z₁, c₁) = ahead-idle i sp (o .side x) (omega arith) front in
+      let (z₂, c₂) = behind-idle i sp (o .side x) (i + 1 + ahead + n) refl (omega arith) back in
+      let c = inner (i + 1 + ahead) (spells-in o x t i sp) (omega arith) there in
+      let R = rests t s in
+      let e : i + size (prog (f x)) ≡ i + 1 + ahead + n + behind = omega arith in
+      rw e (hold-more R i _ (node owns z₁ z₂) (hold-join R (i + 1) _ _ c₁ (hold-join R (i + 1 + ahead) _ _ c c₂)))
 
   -- a TERM flag stands over phase 3
   over-3 : (x : Term) (i : ℕ) → bytesAt s i (size (prog x)) ≡ stateBytes x → Over TERM x → eqb (phaseAt s i) 3 ≡ true
@@ -194,102 +131,58 @@ module _ (t s : List ℕ) (long : 4 * nodes t ≤ length s) where
   calm : (x : Term) (i : ℕ) → Spells t i (prog x) → i + size (prog x) ≤ nodes t → bytesAt s i (size (prog x)) ≡ stateBytes x
       → AtRest x
       → Calm i (size (prog x))
-  unfolding Spells size kind prog below AtRest rests phaseRests countRests
+  unfolding fresh Spells size kind prog below AtRest rests phaseRests countRests
   calm (done p) i sp h b a =
       let m : size p ≡ 1 + (size p - 1) = omega (arith, size-pos p) in
       let n : 4 * size p - 4 ≡ 4 * (size p - 1) = omega arith in
       let c : bytesAt s i (1 + (size p - 1)) ≡ before (in-phase 3) (blank (size p - 1)) =
       ap (bytesAt s i) (sym m) ∙ (b ∙ ap (λ k. before (in-phase 3) (replicate k 0)) n) in
-      let (o, z) = above-one i (size p - 1) (omega (arith, size-pos p)) (in-phase 3) (blank (size p - 1)) c in
+      let (o, z) = node-owns s i (size p - 1) (omega (arith, size-pos p)) (in-phase 3) (blank (size p - 1)) c in
       let e : belowZero t s i ≡ true = rw (written t i p sp) (bytes-zero s (i + 1) (size p - 1) (omega (arith, size-pos p)) z) in
-      subst (λ (j : ℕ). Calm i j) (sym m) (with-below i (size p - 1) (simp (o .0, o .1, o .2, e)) (unbegun p i sp h z .1))
-  calm nothing i sp h b a =
-      let (o, z) = above-one i 0 h (in-phase 0) [] b in
-      with-below i 0 (simp (sp .0 .0, o .0, o .1, o .2)) (no-nodes (i + 1))
-  calm stop i sp h b a =
-      let (o, z) = above-one i 0 h (in-phase 0) [] b in
-      with-below i 0 (simp (sp .0 .0, o .0, o .1, o .2)) (no-nodes (i + 1))
-  calm (atom n) i sp h b a =
-      let (o, z) = above-one i 0 h (in-phase 0) [] b in
-      with-below i 0 (simp (sp .0 .0, o .0, o .1, o .2)) (no-nodes (i + 1))
-  calm (generate e) i sp h b a =
-      let (o, z) = above-one i 0 h (in-phase 0) [] b in
-      with-below i 0 (simp (sp .0 .0, o .0, o .1, o .2)) (no-nodes (i + 1))
-  calm (await c) i sp h b a =
-      let (o, z) = above-one i 0 h (in-phase 0) [] b in
-      with-below i 0 (simp (sp .0 .0, o .0, o .1, o .2)) (no-nodes (i + 1))
+      let g : i + 1 + (size p - 1) ≡ i + size p = omega arith in
+      hold-more (rests t s) i _ (simp (o .0, o .1, o .2, e)) (rw g at (idle-from p i (i + 1) (size p - 1) sp h (omega arith) g z))
+  calm nothing i sp h b a = unbegun Nothing i sp h b
+  calm stop i sp h b a = unbegun Stop i sp h b
+  calm (atom n) i sp h b a = unbegun (Atom n) i sp h b
+  calm (generate e) i sp h b a = unbegun (Generate e) i sp h b
+  calm (await c) i sp h b a = unbegun (Await c) i sp h b
+  calm (loop0 p) i sp h b a = unbegun (Loop p) i sp h b
+  calm (repeat0 n p) i sp h b a = unbegun (Repeat n p) i sp h b
+  calm (when0 c p q) i sp h b a = unbegun (When c p q) i sp h b
   calm (seq0 u q) i sp h b a =
-      let (o, x, y) = above-two i (size (prog u)) (size q) h (in-phase 0) (stateBytes u) (zeros q) (len-bytes u) b in
-      let z₂ = second-zero i (prog u) q (sp .2) (sp .3) (omega arith) y in
-      let first = calm u (i + 1) (sp .2) (omega arith) x a in
-      let later = idle q (i + 1 + size (prog u)) (second t i (prog u) q (sp .2) (sp .3)) (omega arith) y in
-      with-both i (size (prog u)) (size q) (simp (sp .0 .0, o .0, o .1, o .2, z₂)) first later
+      within (seq-first q) u i sp h b (λ j k m c. calm u j k m c a) (λ o z₁ z₂. simp (sp .0 .0, o .0, o .1, o .2, z₂ (size-pos q)))
   calm (seq2 p u) i sp h b a =
-      let (o, x, y) = above-two i (size p) (size (prog u)) h (in-phase 2) (zeros p) (stateBytes u) (blank-len (size p)) b in
-      let z₁ = first-zero i p (sp .2) (omega arith) x in
-      let first = idle p (i + 1) (sp .2) (omega arith) x in
-      let later = calm u (i + 1 + size p) (second t i p (prog u) (sp .2) (sp .3)) (omega arith) y a in
-      with-both i (size p) (size (prog u)) (simp (sp .0 .0, o .0, o .1, o .2, z₁)) first later
-  calm (par α β u v) i sp h b a =
-      let (o, x, y) = above-two i (size (prog u)) (size (prog v)) h (head (par α β u v)) (stateBytes u) (stateBytes v) (len-bytes u) b in
-      let f = par-flags α β u v i (a .0) (a .1) (a .2) (sp .2) x y in
-      let first = calm u (i + 1) (sp .2) (omega arith) x (a .3) in
-      let later = calm v (i + 1 + size (prog u)) (second t i (prog u) (prog v) (sp .2) (sp .3)) (omega arith) y (a .4) in
-      with-both i (size (prog u)) (size (prog v)) (simp (sp .0 .0, o .0, o .1, o .2, f)) first later
-  calm (loop0 p) i sp h b a =
-      let (o, x) = above-one i (size p) h (in-phase 0) (zeros p) b in
-      let z = first-zero i p (sp .2) (omega arith) x in
-      with-below i (size p) (simp (sp .0 .0, o .0, o .1, o .2, z)) (idle p (i + 1) (sp .2) (omega arith) x)
+      within (seq-second p) u i sp h b (λ j k m c. calm u j k m c a) (λ o z₁ z₂. simp (sp .0 .0, o .0, o .1, o .2, z₁ (size-pos p)))
   calm (loop1 u) i sp h b a =
-      let (o, x) = above-one i (size (prog u)) h (in-phase 1) (stateBytes u) b in
-      with-below i (size (prog u)) (simp (sp .0 .0, o .0, o .1, o .2)) (calm u (i + 1) (sp .2) (omega arith) x a)
-  calm (repeat0 n p) i sp h b a =
-      let (o, x) = above-one i (size p) h (in-phase 0) (zeros p) b in
-      let z = first-zero i p (sp .2) (omega arith) x in
-      with-below i (size p) (simp (sp .0 .0, o .0, o .1, o .2, z)) (idle p (i + 1) (sp .2) (omega arith) x)
+      within loop-body u i sp h b (λ j k m c. calm u j k m c a) (λ o z₁ z₂. simp (sp .0 .0, o .0, o .1, o .2))
   calm (repeat1 n k u) i sp h b a =
-      let (o, x) = above-one i (size (prog u)) h (head (repeat1 n k u)) (stateBytes u) b in
       let l = lt-ltb k n (a .0) in
-      with-below i (size (prog u)) (simp (sp .0 .0, o .0, o .1, o .2, sp .1, l)) (calm u (i + 1) (sp .2) (omega arith) x (a .1))
-  calm (when0 c p q) i sp h b a =
-      let (o, x, y) = above-two i (size p) (size q) h (in-phase 0) (zeros p) (zeros q) (blank-len (size p)) b in
-      let z₁ = first-zero i p (sp .2) (omega arith) x in
-      let z₂ = second-zero i p q (sp .2) (sp .3) (omega arith) y in
-      let first = idle p (i + 1) (sp .2) (omega arith) x in
-      let later = idle q (i + 1 + size p) (second t i p q (sp .2) (sp .3)) (omega arith) y in
-      with-both i (size p) (size q) (simp (sp .0 .0, o .0, o .1, o .2, z₁, z₂)) first later
+      within (repeat-body n k) u i sp h b (λ j k m c. calm u j k m c (a .1)) (λ o z₁ z₂. simp (sp .0 .0, o .0, o .1, o .2, sp .1, l))
   calm (when1 c u q) i sp h b a =
-      let (o, x, y) = above-two i (size (prog u)) (size q) h (in-phase 1) (stateBytes u) (zeros q) (len-bytes u) b in
-      let z₂ = second-zero i (prog u) q (sp .2) (sp .3) (omega arith) y in
-      let first = calm u (i + 1) (sp .2) (omega arith) x a in
-      let later = idle q (i + 1 + size (prog u)) (second t i (prog u) q (sp .2) (sp .3)) (omega arith) y in
-      with-both i (size (prog u)) (size q) (simp (sp .0 .0, o .0, o .1, o .2, z₂)) first later
+      within (when-first c q) u i sp h b (λ j k m c. calm u j k m c a) (λ o z₁ z₂. simp (sp .0 .0, o .0, o .1, o .2, z₂ (size-pos q)))
   calm (when2 c p u) i sp h b a =
-      let (o, x, y) = above-two i (size p) (size (prog u)) h (in-phase 2) (zeros p) (stateBytes u) (blank-len (size p)) b in
-      let z₁ = first-zero i p (sp .2) (omega arith) x in
-      let first = idle p (i + 1) (sp .2) (omega arith) x in
-      let later = calm u (i + 1 + size p) (second t i p (prog u) (sp .2) (sp .3)) (omega arith) y a in
-      with-both i (size p) (size (prog u)) (simp (sp .0 .0, o .0, o .1, o .2, z₁)) first later
+      within (when-second c p) u i sp h b (λ j k m c. calm u j k m c a) (λ o z₁ z₂. simp (sp .0 .0, o .0, o .1, o .2, z₁ (size-pos p)))
   calm (until0 c u q) i sp h b a =
-      let (o, x, y) = above-two i (size (prog u)) (size q) h (in-phase 0) (stateBytes u) (zeros q) (len-bytes u) b in
-      let z₂ = second-zero i (prog u) q (sp .2) (sp .3) (omega arith) y in
-      let first = calm u (i + 1) (sp .2) (omega arith) x a in
-      let later = idle q (i + 1 + size (prog u)) (second t i (prog u) q (sp .2) (sp .3)) (omega arith) y in
-      with-both i (size (prog u)) (size q) (simp (sp .0 .0, o .0, o .1, o .2, z₂)) first later
+      within (until-first c q) u i sp h b (λ j k m c. calm u j k m c a) (λ o z₁ z₂. simp (sp .0 .0, o .0, o .1, o .2, z₂ (size-pos q)))
   calm (until* c u q) i sp h b a = absurd a
   calm (until2 c p u) i sp h b a =
-      let (o, x, y) = above-two i (size p) (size (prog u)) h (in-phase 2) (zeros p) (stateBytes u) (blank-len (size p)) b in
-      let z₁ = first-zero i p (sp .2) (omega arith) x in
-      let first = idle p (i + 1) (sp .2) (omega arith) x in
-      let later = calm u (i + 1 + size p) (second t i p (prog u) (sp .2) (sp .3)) (omega arith) y a in
-      with-both i (size p) (size (prog u)) (simp (sp .0 .0, o .0, o .1, o .2, z₁)) first later
+      within (until-second c p) u i sp h b (λ j k m c. calm u j k m c a) (λ o z₁ z₂. simp (sp .0 .0, o .0, o .1, o .2, z₁ (size-pos p)))
   calm (control e u) i sp h b a =
-      let (o, x) = above-one i (size (prog u)) h (in-phase 0) (stateBytes u) b in
-      with-below i (size (prog u)) (simp (sp .0 .0, o .0, o .1, o .2)) (calm u (i + 1) (sp .2) (omega arith) x a)
+      within (control-body e) u i sp h b (λ j k m c. calm u j k m c a) (λ o z₁ z₂. simp (sp .0 .0, o .0, o .1, o .2))
   calm (local true e u) i sp h b a = absurd (true≢false (a .0))
   calm (local false e u) i sp h b a =
-      let (o, x) = above-one i (size (prog u)) h (in-phase 0) (stateBytes u) b in
-      with-below i (size (prog u)) (simp (sp .0 .0, o .0, o .1, o .2)) (calm u (i + 1) (sp .2) (omega arith) x (a .1))
+      within (local-body false e) u i sp h b (λ j k m c. calm u j k m c (a .1)) (λ o z₁ z₂. simp (sp .0 .0, o .0, o .1, o .2))
+  calm (par α β u v) i sp h b a =
+      let m = size (prog u) in
+      let n = size (prog v) in
+      let e : 1 + m + n ≡ 1 + (m + n) = omega arith in
+      let (o, c) = node-owns s i (m + n) (omega arith) (head (par α β u v)) (stateBytes u ++ stateBytes v) (rw e at b) in
+      let (x, y) = parts (i + 1) m n (stateBytes u) (stateBytes v) (omega arith) (len-bytes u) c in
+      let f = par-flags α β u v i (a .0) (a .1) (a .2) (sp .2) x y in
+      let first = calm u (i + 1) (sp .2) (omega arith) x (a .3) in
+      let later = calm v (i + 1 + m) (second t i (prog u) (prog v) (sp .2) (sp .3)) (omega arith) y (a .4) in
+      let g : i + (1 + m + n) ≡ i + 1 + m + n = omega arith in
+      rw g (hold-more (rests t s) i _ (simp (sp .0 .0, o .0, o .1, o .2, f)) (hold-join (rests t s) (i + 1) _ _ first later))
 
 pub resting : (t s : List ℕ) → Placed t 0 (treeOf t) → (x : Term) → prog x ≡ treeOf t → take (4 * nodes t) s ≡ stateBytes x → AtRest x
     → blamed t s ≡ nodes t
@@ -297,6 +190,7 @@ resting t s p x e b a =
     let n : size (prog x) ≡ nodes t = ap size e ∙ all-nodes p in
     let w : min (4 * nodes t) (length s) ≡ 4 * size (prog x) = sym (length-take (4 * nodes t) s) ∙ (ap (λ l. length l) b ∙ len-bytes x) in
     let long : 4 * nodes t ≤ length s = omega arith in
-    let c = calm t s long x 0 (rw e (p .spelled)) (omega arith) (rw n b) a in
-    let all : (k : ℕ) → k < nodes t → not (rests t s k) ≡ false = λ k l. ap not (c k (omega arith) (omega arith)) in
-    sym (lowest-is (nodes t) (nodes t) (λ j. not (rests t s j)) (omega arith) all (λ l. absurd (omega arith)))
+    let c = calm t s (p .loaded) long x 0 (rw e (p .spelled)) (omega arith) (rw n b) a in
+    let R = rests t s in
+    let all = first-at R 0 (nodes t) (nodes t) (omega arith) (omega arith) (λ k g h. c k g (omega arith)) (λ l. absurd (omega arith)) in
+    sym (first-lowest R (nodes t) (nodes t) all)

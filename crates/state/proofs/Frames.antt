@@ -6,134 +6,93 @@ use mathlib.Core.List.{List, _++_, append-nil}
 use native.Mathlib.Omega.{arith}
 use native.Mathlib.Nat.{add-zero}
 use Rattle.junior.specs.Configuration.{Config}
-use Rattle.junior.specs.Program.{Program, size}
-use Rattle.junior.specs.Term.{Term, seq0, seq2, loop1, repeat1, when1, when2, until0, until2, control, local, prog}
+use Rattle.junior.specs.Program.{Program, One, loop, repeat, control, local, Two, seq, when, until, size}
+use Rattle.junior.specs.Term.{Term, seq0, seq2, loop1, repeat1, when1, when2, until0, until2, prog}
+use Rattle.junior.specs.Term
 use Rattle.junior.specs.Figures.{LoopsStop, per}
 use Rattle.junior.proofs.Figures.{pot}
 use Rattle.table.specs.Spells.{Spells}
-use Rattle.table.proofs.Tree.{second}
+use Rattle.table.proofs.Parts.{of-one, of-two}
+use Rattle.table.proofs.Tree.{spells-one, spells-two, second}
 use Rattle.state.specs.StateBytes.{Own, head, in-phase, below, stateBytes}
 use Rattle.state.proofs.Parts.{blank}
 
--- a node f with its own bytes around one child: so many fresh nodes stand ahead of the child, so many behind it
+-- q is p's only part, its first or its second: so many nodes stand ahead of it, so many behind it
+pub data Side : Program → Program → ℕ → ℕ → Type 0 where
+  only-part : {p q : Program} → One p q → Side p q 0 0
+  first-part : {p q r : Program} → Two p q r → Side p q 0 (size r)
+  second-part : {p q r : Program} → Two p r q → Side p q (size r) 0
+
+-- a node f with its own bytes around one child, and no state ahead of the child or behind it
 pub record Frame (own : Own) (ahead behind : ℕ) (f : Term → Term) : Type 0 where
   pub head-is : (x : Term) → head (f x) ≡ own
   pub below-is : (x : Term) → below (f x) ≡ blank ahead ++ (stateBytes x ++ blank behind)
-  pub size-is : (x : Term) → size (prog (f x)) ≡ 1 + ahead + size (prog x) + behind
-  pub spells : (table : List ℕ) (i : ℕ) (x : Term) → Spells table i (prog (f x)) → Spells table (i + 1 + ahead) (prog x)
+  pub side : (x : Term) → Side (prog (f x)) (prog x) ahead behind
   pub loops : (x : Term) → LoopsStop (prog (f x)) → LoopsStop (prog x)
   pub pot-in : (x : Term) → pot (per 2) x ≤ pot (per 2) (f x)
 
--- a first or only child is the next record
-next-record : (table : List ℕ) (i : ℕ) (p : Program) → Spells table (i + 1) p → Spells table (i + 1 + 0) p
-next-record table i p s = rw add-zero s
+frame : {own : Own} {ahead behind : ℕ} {f : Term → Term}
+    → ((x : Term) → head (f x) ≡ own)
+    → ((x : Term) → below (f x) ≡ blank ahead ++ (stateBytes x ++ blank behind))
+    → ((x : Term) → Side (prog (f x)) (prog x) ahead behind)
+    → ((x : Term) → LoopsStop (prog (f x)) → LoopsStop (prog x))
+    → ((x : Term) → pot (per 2) x ≤ pot (per 2) (f x))
+    → Frame own ahead behind f
+frame a b c d e = record { head-is = a; below-is = b; side = c; loops = d; pot-in = e }
+
+size-by : {p q : Program} {ahead behind : ℕ} → Side p q ahead behind → size p ≡ 1 + ahead + size q + behind
+size-by (only-part f) = omega (arith, of-one f .size-is)
+size-by (first-part f) = omega (arith, of-two f .size-is)
+size-by (second-part f) = omega (arith, of-two f .size-is)
+
+spells-by : (t : List ℕ) (i : ℕ) {p q : Program} {ahead behind : ℕ} → Side p q ahead behind → Spells t i p → Spells t (i + 1 + ahead) q
+spells-by t i (only-part f) h = rw add-zero (spells-one t i f h)
+spells-by t i (first-part f) h = rw add-zero (spells-two t i f h .0)
+spells-by t i (second-part {q = q} {r = r} f) h = let (a, b) = spells-two t i f h in second t i r q a b
+
+module _ {own : Own} {ahead behind : ℕ} {f : Term → Term} (o : Frame own ahead behind f) (x : Term) where
+  pub size-in : size (prog (f x)) ≡ 1 + ahead + size (prog x) + behind
+  size-in = size-by (o .side x)
+
+  pub spells-in : (t : List ℕ) (i : ℕ) → Spells t i (prog (f x)) → Spells t (i + 1 + ahead) (prog x)
+  spells-in t i = spells-by t i (o .side x)
 
 pub seq-first : (q : Program) → Frame (in-phase 0) 0 (size q) (λ x. seq0 x q)
-unfolding below prog size Spells LoopsStop pot
-seq-first q = record {
-  head-is = λ x. refl;
-  below-is = λ x. refl;
-  size-is = λ x. omega arith;
-  spells = λ table i x h. next-record table i (prog x) (h .2);
-  loops = λ x h. h .0;
-  pot-in = λ x. omega arith;
-}
+unfolding below prog LoopsStop pot
+seq-first q = frame (λ x. refl) (λ x. refl) (λ x. first-part (seq (prog x) q)) (λ x h. h .0) (λ x. omega arith)
 
 pub seq-second : (p : Program) → Frame (in-phase 2) (size p) 0 (λ x. seq2 p x)
-unfolding below prog size Spells LoopsStop pot
-seq-second p = record {
-  head-is = λ x. refl;
-  below-is = λ x. simp append-nil;
-  size-is = λ x. omega arith;
-  spells = λ table i x h. second table i p (prog x) (h .2) (h .3);
-  loops = λ x h. h .1;
-  pot-in = λ x. omega arith;
-}
+unfolding below prog LoopsStop pot
+seq-second p = frame (λ x. refl) (λ x. simp append-nil) (λ x. second-part (seq p (prog x))) (λ x h. h .1) (λ x. omega arith)
 
 pub loop-body : Frame (in-phase 1) 0 0 (λ x. loop1 x)
-unfolding below prog size Spells LoopsStop pot
-loop-body = record {
-  head-is = λ x. refl;
-  below-is = λ x. simp append-nil;
-  size-is = λ x. omega arith;
-  spells = λ table i x h. next-record table i (prog x) (h .2);
-  loops = λ x h. h .1;
-  pot-in = λ x. omega arith;
-}
+unfolding below prog LoopsStop pot
+loop-body = frame (λ x. refl) (λ x. simp append-nil) (λ x. only-part (loop (prog x))) (λ x h. h .1) (λ x. omega arith)
 
 pub repeat-body : (n k : ℕ) → Frame (record { phase = 1; flags = 0; count = k }) 0 0 (λ x. repeat1 n k x)
-unfolding below prog size Spells LoopsStop pot
-repeat-body n k = record {
-  head-is = λ x. refl;
-  below-is = λ x. simp append-nil;
-  size-is = λ x. omega arith;
-  spells = λ table i x h. next-record table i (prog x) (h .2);
-  loops = λ x h. h;
-  pot-in = λ x. omega arith;
-}
+unfolding below prog LoopsStop pot
+repeat-body n k = frame (λ x. refl) (λ x. simp append-nil) (λ x. only-part (repeat n (prog x))) (λ x h. h) (λ x. omega arith)
 
 pub when-first : (c : Config) (q : Program) → Frame (in-phase 1) 0 (size q) (λ x. when1 c x q)
-unfolding below prog size Spells LoopsStop pot
-when-first c q = record {
-  head-is = λ x. refl;
-  below-is = λ x. refl;
-  size-is = λ x. omega arith;
-  spells = λ table i x h. next-record table i (prog x) (h .2);
-  loops = λ x h. h .0;
-  pot-in = λ x. omega arith;
-}
+unfolding below prog LoopsStop pot
+when-first c q = frame (λ x. refl) (λ x. refl) (λ x. first-part (when c (prog x) q)) (λ x h. h .0) (λ x. omega arith)
 
 pub when-second : (c : Config) (p : Program) → Frame (in-phase 2) (size p) 0 (λ x. when2 c p x)
-unfolding below prog size Spells LoopsStop pot
-when-second c p = record {
-  head-is = λ x. refl;
-  below-is = λ x. simp append-nil;
-  size-is = λ x. omega arith;
-  spells = λ table i x h. second table i p (prog x) (h .2) (h .3);
-  loops = λ x h. h .1;
-  pot-in = λ x. omega arith;
-}
+unfolding below prog LoopsStop pot
+when-second c p = frame (λ x. refl) (λ x. simp append-nil) (λ x. second-part (when c p (prog x))) (λ x h. h .1) (λ x. omega arith)
 
 pub until-first : (c : Config) (q : Program) → Frame (in-phase 0) 0 (size q) (λ x. until0 c x q)
-unfolding below prog size Spells LoopsStop pot
-until-first c q = record {
-  head-is = λ x. refl;
-  below-is = λ x. refl;
-  size-is = λ x. omega arith;
-  spells = λ table i x h. next-record table i (prog x) (h .2);
-  loops = λ x h. h .0;
-  pot-in = λ x. omega arith;
-}
+unfolding below prog LoopsStop pot
+until-first c q = frame (λ x. refl) (λ x. refl) (λ x. first-part (until c (prog x) q)) (λ x h. h .0) (λ x. omega arith)
 
 pub until-second : (c : Config) (p : Program) → Frame (in-phase 2) (size p) 0 (λ x. until2 c p x)
-unfolding below prog size Spells LoopsStop pot
-until-second c p = record {
-  head-is = λ x. refl;
-  below-is = λ x. simp append-nil;
-  size-is = λ x. omega arith;
-  spells = λ table i x h. second table i p (prog x) (h .2) (h .3);
-  loops = λ x h. h .1;
-  pot-in = λ x. omega arith;
-}
+unfolding below prog LoopsStop pot
+until-second c p = frame (λ x. refl) (λ x. simp append-nil) (λ x. second-part (until c p (prog x))) (λ x h. h .1) (λ x. omega arith)
 
-pub control-body : (s : ℕ) → Frame (in-phase 0) 0 0 (λ x. control s x)
-unfolding below prog size Spells LoopsStop pot
-control-body s = record {
-  head-is = λ x. refl;
-  below-is = λ x. simp append-nil;
-  size-is = λ x. omega arith;
-  spells = λ table i x h. next-record table i (prog x) (h .2);
-  loops = λ x h. h;
-  pot-in = λ x. omega arith;
-}
+pub control-body : (s : ℕ) → Frame (in-phase 0) 0 0 (λ x. Term.control s x)
+unfolding below prog LoopsStop pot
+control-body s = frame (λ x. refl) (λ x. simp append-nil) (λ x. only-part (control s (prog x))) (λ x h. h) (λ x. omega arith)
 
-pub local-body : (b : Bool) (s : ℕ) → Frame (in-phase (cond b 1 0)) 0 0 (λ x. local b s x)
-unfolding below prog size Spells LoopsStop pot
-local-body b s = record {
-  head-is = λ x. refl;
-  below-is = λ x. simp append-nil;
-  size-is = λ x. omega arith;
-  spells = λ table i x h. next-record table i (prog x) (h .2);
-  loops = λ x h. h;
-  pot-in = λ x. omega arith;
-}
+pub local-body : (b : Bool) (s : ℕ) → Frame (in-phase (cond b 1 0)) 0 0 (λ x. Term.local b s x)
+unfolding below prog LoopsStop pot
+local-body b s = frame (λ x. refl) (λ x. simp append-nil) (λ x. only-part (local s (prog x))) (λ x h. h) (λ x. omega arith)

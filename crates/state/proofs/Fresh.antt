@@ -14,14 +14,14 @@ use Rattle.table.proofs.Subtrees.{body, pair, nested, ends}
 use Rattle.state.specs.Resting.{zeroNode, firstZero, secondZero, belowZero, phaseRests, flagsRest, countRests, rests}
 use Rattle.state.specs.Inside.{Judged}
 use Rattle.state.proofs.Little.{cond-same}
-use Rattle.state.proofs.Zeros.{zero-bytes, zero-all}
+use Rattle.state.proofs.Zeros.{zero-owns, zero-all}
 use Rattle.state.proofs.Near.{body-below, pair-below}
 use Rattle.state.proofs.Firsts.{Hold, hold-join}
 
 -- such a node rests if phase 0 does
 pub fresh-rests : (t s : List ℕ) (i : ℕ) → zeroNode s i ≡ true → rests t s i ≡ phaseRests t s i (kindAt t i) 0
 unfolding rests flagsRest countRests
-fresh-rests t s i z = let b = zero-bytes s i z in rw (b .phase-is, b .flags-are, b .count-is) (simp (cond-same, and-false, and-true))
+fresh-rests t s i z = let (a, b, c) = zero-owns s i z in rw (a, b, c) (simp (cond-same, and-false, and-true))
 
 -- all below being zero as well, it does rest
 module _ {t : List ℕ} (s : List ℕ) (l : Loaded t) (i : ℕ) (h : i < nodes t) (z : belowZero t s i ≡ true) where
@@ -67,13 +67,14 @@ module _ {t : List ℕ} (s : List ℕ) (l : Loaded t) (i : ℕ) (h : i < nodes t
   pub idle-rests : zeroNode s i ≡ true → rests t s i ≡ true
   idle-rests e = fresh-rests t s i e ∙ idle-phase
 
--- every node of an all-zero subtree rests
-pub zero-rests : {t : List ℕ} (s : List ℕ) → Loaded t → (i : ℕ) → i < nodes t → Hold (zeroNode s) i (i + sizeAt t i)
-    → Hold (rests t s) i (i + sizeAt t i)
-zero-rests {t} s l i h z k a b =
+-- every node of an all-zero subtree rests, also if only those from j on are all zero
+pub zero-rests : {t : List ℕ} (s : List ℕ) → Loaded t → (i : ℕ) → i < nodes t → (j : ℕ) → i ≤ j
+    → Hold (zeroNode s) j (i + sizeAt t i)
+    → Hold (rests t s) j (i + sizeAt t i)
+zero-rests {t} s l i h j g z k a b =
     let m = ends l i h in
-    let e = nested l i h k a b in
-    idle-rests s l k (omega arith) (zero-all s (k + 1) (sizeAt t k - 1) (λ j c d. z j (omega arith) (omega arith))) (z k a b)
+    let e = nested l i h k (omega arith) b in
+    idle-rests s l k (omega arith) (zero-all s (k + 1) (sizeAt t k - 1) (λ n c d. z n (omega arith) (omega arith))) (z k a b)
 
 module _ {t s : List ℕ} {i near : ℕ} (j : Judged t s i near) (at : ℕ) (a : i ≤ at) (b : at < near) where
   pub at-in : at < nodes t
@@ -84,7 +85,7 @@ module _ {t s : List ℕ} {i near : ℕ} (j : Judged t s i near) (at : ℕ) (a :
   on-past m e h r =
       rw e
       (hold-join (rests t s) i at (at + sizeAt t at) r
-      (zero-rests s (j .loaded) at at-in (λ k c d. j .nearest .before k (omega arith) (omega arith))))
+      (zero-rests s (j .loaded) at at-in at (omega arith) (λ k c d. j .nearest .before k (omega arith) (omega arith))))
 
   pub at-rests : (k : ℕ) → k ≡ kindAt t at → rests t s at ≡ phaseRests t s at k 0
   at-rests k e = rw e (fresh-rests t s at (j .nearest .before at a b))

@@ -7,21 +7,16 @@ use native.Mathlib.Nat.{div-add-mod'}
 use native.Mathlib.Omega.{arith}
 use lib.ListN.{length, getD, take, drop, length-drop}
 use lib.Seq.{getD-take, getD-drop, drop-drop, take-add}
-use lib.Dec.{eqb}
-use borrow.Author.Tests.{eqb-true}
 use Rattle.table.specs.Records.{byte}
 use Rattle.table.proofs.Laid.{both}
 use Rattle.state.specs.StateBytes.{Own, before, in-phase}
-use Rattle.state.specs.Resting.{phaseAt, flagsAt, countAt, zeroNode, zeroNodes}
+use Rattle.state.specs.Resting.{phaseAt, countAt, zeroNode, zeroNodes}
 use Rattle.state.proofs.Parts.{blank, blank-below, own-of, own-below}
+use Rattle.state.proofs.Zeros.{Owns, zero-owns}
 
 -- the bytes of the n nodes from node i on
 abbrev pub bytesAt : List ℕ → ℕ → ℕ → List ℕ
 bytesAt s i n = take (4 * n) (drop (4 * i) s)
-
--- node i's own bytes are o
-abbrev pub Owns : List ℕ → ℕ → Own → Type 0
-Owns s i o = (phaseAt s i ≡ o .phase) × (flagsAt s i ≡ o .flags) × (countAt s i ≡ o .count)
 
 -- node i is in the state
 abbrev pub Within : List ℕ → ℕ → Type 0
@@ -76,12 +71,9 @@ unfolding zeroNodes zeroNode
 zero-bytes s small i zero h e = refl
 zero-bytes s small i (suc n) h e =
     let (own, rest) = both {a = zeroNode s i} e in
-    let (p, more) = both {a = eqb (phaseAt s i) 0} own in
-    let (f, c) = both {a = eqb (flagsAt s i) 0} more in
-    let is : Owns s i (in-phase 0) = (eqb-true (phaseAt s i) 0 p, eqb-true (flagsAt s i) 0 f, eqb-true (countAt s i) 0 c) in
     let k : suc n ≡ 1 + n = omega arith in
     let b = zero-bytes s small (i + 1) n (omega arith) rest in
-    rw k (node-bytes s small i n (omega arith) (in-phase 0) is ∙ (ap (λ l. before (in-phase 0) l) b ∙ blank-below n))
+    rw k (node-bytes s small i n (omega arith) (in-phase 0) (zero-owns s i own) ∙ (ap (λ l. before (in-phase 0) l) b ∙ blank-below n))
 
 pub bytes-zero : (s : List ℕ) (i n : ℕ) → 4 * (i + n) ≤ length s → bytesAt s i n ≡ blank n → zeroNodes s i n ≡ true
 unfolding zeroNodes zeroNode

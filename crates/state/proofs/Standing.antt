@@ -2,38 +2,52 @@
 use Prim.Native.Nat.{ℕ, _+_, _-_, _*_, _≤_, _<_}
 use mathlib.Core.Bool.{Bool, true, false, cond, not, _&&_}
 use mathlib.Core.Path.{_≡_, refl, sym, ap, ap₂, _∙_}
-use mathlib.Core.List.{List, [], _++_}
+use mathlib.Core.List.{List, _++_}
 use native.Mathlib.Omega.{arith}
 use lib.ListN.{length, getD, take, replicate}
 use lib.Dec.{eqb, ltb}
 use borrow.Author.Tests.{eqb-true, ltb-true, not-false}
 use Rattle.events.proofs.Events.{before-lowest}
+use Rattle.junior.specs.declared.Flag.{Flag}
 use Rattle.junior.specs.declared.Flag.the-variants.{SUSP, TERM}
-use Rattle.junior.specs.Program.{Program, Nothing, Stop, Atom, Seq, Par, Loop, Repeat, Generate, Await, When}
-use Rattle.junior.specs.Program.{Until, Control, Local, size, kind}
-use Rattle.junior.specs.Term.{Term, done, nothing, stop, atom, generate, await, seq0, seq2, par, loop0, loop1}
-use Rattle.junior.specs.Term.{repeat0, repeat1, when0, when1, when2, until0, until2, control, local, prog}
+use Rattle.junior.specs.Program.{Program, Par, Loop, Repeat, When, Leaf, nothing, stop, atom, generate, await, One, loop, repeat}
+use Rattle.junior.specs.Program.{control, local, Two, seq, par, when, until, Parts, no-part, one-part, two-parts, parts, size, kind}
+use Rattle.junior.specs.Term.{Term, done, prog, fresh}
+use Rattle.junior.specs.Term
 use Rattle.junior.specs.AtRest.{AtRest, Over}
-use Rattle.table.specs.Records.{byte, nodes, kindAt, argumentAt, sizeAt, secondAt}
+use Rattle.junior.proofs.Kept.{prog-fresh}
+use Rattle.junior.proofs.Going.{fresh-at-rest}
+use Rattle.table.specs.Records.{byte, nodes, kindAt, argumentAt, secondAt}
 use Rattle.table.specs.Spells.{Spells, treeOf}
 use Rattle.table.specs.Inside.{Placed}
-use Rattle.table.proofs.Tree.{size-pos, written, second-is, second}
+use Rattle.table.proofs.Parts as Table
+use Rattle.table.proofs.Parts.{of-none}
+use Rattle.table.proofs.Tree.{size-pos, kind-is, written, spells-one, spells-two, second-is, second}
 use Rattle.table.proofs.Laid.{both}
 use Rattle.table.proofs.Loaded.{all-nodes}
-use Rattle.state.specs.StateBytes.{Own, head, before, in-phase, zeros, below, stateBytes}
+use Rattle.state.specs.StateBytes.{Own, code, head, before, in-phase, below, stateBytes}
 use Rattle.state.specs.Resting.{phaseAt, flagsAt, countAt, zeroNodes, firstZero, secondZero, belowZero, phaseRests}
 use Rattle.state.specs.Resting.{flagsRest, countRests, rests, blamed}
-use Rattle.state.proofs.Parts.{blank}
-use Rattle.state.proofs.Shape.{Shape, is-done, is-local, shape-by, no-sign}
 use Rattle.state.proofs.Little.{either-true}
-use Rattle.state.proofs.NodeBytes.{bytesAt, Owns, both-parts, node-bytes, zero-bytes, first-byte}
+use Rattle.state.proofs.Parts.{blank, blank-below, blank-both, fresh-zeros}
+use Rattle.state.proofs.Shape.{Shape, is-done, is-local, shape-by, no-sign}
+use Rattle.state.proofs.Frames.{Frame, size-in, seq-first, seq-second, loop-body, repeat-body, when-first, when-second}
+use Rattle.state.proofs.Frames.{until-first, until-second, control-body, local-body}
+use Rattle.state.proofs.Zeros.{Owns}
+use Rattle.state.proofs.NodeBytes.{bytesAt, both-parts, node-bytes, zero-bytes, first-byte}
 
--- a term of p, at rest, stands at node i
-pub record Stands (s : List ℕ) (i : ℕ) (p : Program) : Type 0 where
-  pub term : Term
-  pub of-program : prog term ≡ p
-  pub bytes : bytesAt s i (size p) ≡ stateBytes term
-  pub at-rest : AtRest term
+-- the term u, at rest, stands at node i; some term of p does
+record Rests (s : List ℕ) (i : ℕ) (u : Term) : Type 0 where
+  bytes : bytesAt s i (size (prog u)) ≡ stateBytes u
+  at-rest : AtRest u
+
+record TermAt (s : List ℕ) (i : ℕ) (p : Program) : Type 0 where
+  term : Term
+  of-program : prog term ≡ p
+  rests-so : Rests s i term
+
+stand : {s : List ℕ} {i : ℕ} (u : Term) → bytesAt s i (size (prog u)) ≡ stateBytes u → AtRest u → TermAt s i (prog u)
+stand u b a = record { term = u; of-program = refl; rests-so = record { bytes = b; at-rest = a } }
 
 -- only a term that reads as Nothing has phase 3
 over : (x : Term) → head x .phase ≡ 3 → Over TERM x
@@ -60,11 +74,9 @@ module _ (t s : List ℕ) (small : (i : ℕ) → byte s i < 256) (long : 4 * nod
   node i n h o e = node-bytes s small i n (omega arith) o e
 
   -- phase 3 first, of any program
-  split : (p : Program) (i : ℕ) → kindAt t i ≡ kind p → sizeAt t i ≡ size p → i + size p ≤ nodes t
-      → (Active t s i (kind p) → Stands s i p)
-      → Stands s i p
+  split : (p : Program) (i : ℕ) → Spells t i p → i + size p ≤ nodes t → (Active t s i (kind p) → TermAt s i p) → TermAt s i p
   unfolding rests prog AtRest below
-  split p i ek es h f = go (eqb (phaseAt s i) 3) refl (all i (omega (arith, size-pos p)))
+  split p i sp h f = go (eqb (phaseAt s i) 3) refl (all i (omega (arith, size-pos p)))
     where
       go : (b : Bool)
           → eqb (phaseAt s i) 3 ≡ b
@@ -73,59 +85,51 @@ module _ (t s : List ℕ) (small : (i : ℕ) → byte s i < 256) (long : 4 * nod
           && (cond (eqb (kindAt t i) 4) (flagsRest t s i (flagsAt s i)) (eqb (flagsAt s i) 0)
           && countRests t i (kindAt t i) (phaseAt s i) (countAt s i)))
           ≡ true
-          → Stands s i p
+          → TermAt s i p
       go true e r =
           let (a, r1) = both r in
           let (b, c) = both r1 in
           let own : Owns s i (in-phase 3) = (eqb-true _ 3 e, eqb-true _ 0 a, eqb-true _ 0 b) in
           let m : size p ≡ 1 + (size p - 1) = omega (arith, size-pos p) in
           let n : 4 * (size p - 1) ≡ 4 * size p - 4 = omega arith in
-          let z = none (i + 1) (size p - 1) (omega (arith, size-pos p)) (rw es at c) in
+          let z = none (i + 1) (size p - 1) (omega (arith, size-pos p)) (rw (written t i p sp) at c) in
           let z' : bytesAt s (i + 1) (size p - 1) ≡ replicate (4 * size p - 4) 0 = z ∙ ap (λ k. replicate k 0) n in
-          record {
-            term = done p;
-            of-program = refl;
-            bytes = ap (bytesAt s i) m ∙ (node i (size p - 1) (omega (arith, size-pos p)) (in-phase 3) own ∙ ap (λ l. before (in-phase 3) l) z');
-            at-rest = tt;
-          }
+          stand (done p) (ap (bytesAt s i) m ∙ (node i (size p - 1) (omega (arith, size-pos p)) (in-phase 3) own ∙ ap (λ l. before (in-phase 3) l) z')) tt
       go false e r =
-          let (a, r1) = both (rw ek at r) in
+          let (a, r1) = both (rw (kind-is t i p sp) at r) in
           let (b, c) = both r1 in
           f (record { phases = a; flags = b; counts = c })
 
   plain : (i : ℕ) → eqb (flagsAt s i) 0 ≡ true → eqb (countAt s i) 0 ≡ true → (n : ℕ) → eqb (phaseAt s i) n ≡ true → Owns s i (in-phase n)
   plain i f g n e = (eqb-true _ n e, eqb-true _ 0 f, eqb-true _ 0 g)
 
-  -- a node above none, one and two
-  alone : (i : ℕ) → i + 1 ≤ nodes t → eqb (flagsAt s i) 0 ≡ true → eqb (countAt s i) 0 ≡ true → eqb (phaseAt s i) 0 ≡ true
-      → bytesAt s i 1 ≡ before (in-phase 0) []
-  alone i h f g e = node i 0 (omega arith) (in-phase 0) (plain i f g 0 e)
+  -- all zero: a fresh term
+  at-start : (p : Program) (i m : ℕ) → size p ≡ 1 + m → i + size p ≤ nodes t → Owns s i (in-phase 0) → bytesAt s (i + 1) m ≡ blank m
+      → TermAt s i p
+  at-start p i m e h o b =
+      let w = node i m (omega arith) (in-phase 0) o ∙ (ap (λ l. before (in-phase 0) l) b ∙ blank-below m) in
+      let z : bytesAt s i (size p) ≡ stateBytes (fresh p) = rw e w ∙ (ap blank (sym e) ∙ sym (fresh-zeros p)) in
+      record { term = fresh p; of-program = prog-fresh p; rests-so = record { bytes = rw (prog-fresh p) z; at-rest = fresh-at-rest p } }
 
-  one : (i m : ℕ) → i + (1 + m) ≤ nodes t → (o : Own) → Owns s i o → (l : List ℕ) → bytesAt s (i + 1) m ≡ l
-      → bytesAt s i (1 + m) ≡ before o l
-  one i m h o e l f = node i m (omega arith) o e ∙ ap (λ x. before o x) f
+  -- a node around a term that stands there
+  around : {own : Own} {ahead behind : ℕ} {f : Term → Term} → Frame own ahead behind f → (i : ℕ) {j : ℕ} {u : Term} → Rests s j u
+      → j ≡ i + 1 + ahead
+      → Owns s i own
+      → bytesAt s (i + 1) ahead ≡ blank ahead
+      → bytesAt s (j + size (prog u)) behind ≡ blank behind
+      → i + size (prog (f u)) ≤ nodes t
+      → AtRest (f u)
+      → TermAt s i (prog (f u))
+  around {own} {ahead} {behind} {f} o i {j} {u} x at owns front back h a =
+      let n = size (prog u) in
+      let m : size (prog (f u)) ≡ 1 + (ahead + (n + behind)) = omega (arith, size-in o u) in
+      let later = both-parts s j n behind ∙ ap₂ _++_ (x .bytes) back in
+      let below = both-parts s (i + 1) ahead (n + behind) ∙ ap₂ _++_ front (rw at at later) in
+      stand (f u) (rw m (node i (ahead + (n + behind)) (omega arith) own owns ∙ rw (below, o .head-is u, o .below-is u))) a
 
-  two : (i m n : ℕ) → i + (1 + m + n) ≤ nodes t → (o : Own) → Owns s i o → (l r : List ℕ) → bytesAt s (i + 1) m ≡ l
-      → bytesAt s (i + 1 + m) n ≡ r
-      → bytesAt s i (1 + m + n) ≡ before o (l ++ r)
-  two i m n h o e l r f g =
-      let k : 1 + m + n ≡ 1 + (m + n) = omega arith in
-      rw k (one i (m + n) (omega arith) o e (l ++ r) (both-parts s (i + 1) m n ∙ ap₂ _++_ f g))
-
-  -- children that have not begun or that the reading leaves out
-  first-none : (i : ℕ) (p : Program) → Spells t (i + 1) p → i + 1 + size p ≤ nodes t → firstZero t s i ≡ true
-      → bytesAt s (i + 1) (size p) ≡ zeros p
-  first-none i p a h e = none (i + 1) (size p) h (rw (written t (i + 1) p a) at e)
-
-  second-none : (i : ℕ) (p q : Program) → Spells t (i + 1) p → Spells t (secondAt t i) q → i + 1 + size p + size q ≤ nodes t
-      → secondZero t s i ≡ true
-      → bytesAt s (i + 1 + size p) (size q) ≡ zeros q
-  second-none i p q a b h e =
-      none (i + 1 + size p) (size q) h (rw (written t (secondAt t i) q b, written t (i + 1) p a) at e)
-
-  phase-3 : (i : ℕ) (p : Program) (a : Stands s i p) → eqb (phaseAt s i) 3 ≡ true → Over TERM (a .term)
-  phase-3 i p a e =
-      over (a .term) (sym (ap (λ l. getD l 0 0) (a .bytes)) ∙ (first-byte s i (size p) (size-pos p) ∙ eqb-true _ 3 e))
+  phase-3 : {j : ℕ} {u : Term} → Rests s j u → eqb (phaseAt s j) 3 ≡ true → Over TERM u
+  phase-3 {j} {u} x e =
+      over u (sym (ap (λ l. getD l 0 0) (x .bytes)) ∙ (first-byte s j (size (prog u)) (size-pos (prog u)) ∙ eqb-true _ 3 e))
 
   -- a Repeat's count, by its phase
   counted : (i ph n : ℕ) → argumentAt t i ≡ n → phaseAt s i ≡ ph → countRests t i 6 (phaseAt s i) (countAt s i) ≡ true
@@ -133,130 +137,109 @@ module _ (t s : List ℕ) (small : (i : ℕ) → byte s i < 256) (long : 4 * nod
   unfolding countRests
   counted i ph n a e c = rw (a, e) at c
 
-  stand : {i : ℕ} {p : Program} (x : Term) → prog x ≡ p → bytesAt s i (size p) ≡ stateBytes x → AtRest x → Stands s i p
-  stand x e b a = record { term = x; of-program = e; bytes = b; at-rest = a }
+  -- a form without parts
+  of-leaf : (i : ℕ) {p : Program} → Leaf p → Active t s i (kind p) → Owns s i (in-phase 0)
+  unfolding kind phaseRests countRests
+  of-leaf i nothing c = plain i (c .flags) (c .counts) 0 (c .phases)
+  of-leaf i stop c = plain i (c .flags) (c .counts) 0 (c .phases)
+  of-leaf i (atom a) c = plain i (c .flags) (c .counts) 0 (c .phases)
+  of-leaf i (generate e) c = plain i (c .flags) (c .counts) 0 (c .phases)
+  of-leaf i (await b) c = plain i (c .flags) (c .counts) 0 (c .phases)
 
-  find : (p : Program) (i : ℕ) → Spells t i p → i + size p ≤ nodes t → Stands s i p
-  unfolding Spells size kind prog below AtRest phaseRests countRests flagsRest
-  find Nothing i sp h =
-      split Nothing i (sp .0 .0) (sp .0 .1) h (λ c. stand nothing refl (alone i h (c .flags) (c .counts) (c .phases)) tt)
-  find Stop i sp h =
-      split Stop i (sp .0 .0) (sp .0 .1) h (λ c. stand stop refl (alone i h (c .flags) (c .counts) (c .phases)) tt)
-  find (Atom a) i sp h =
-      split (Atom a) i (sp .0 .0) (sp .0 .1) h (λ c. stand (atom a) refl (alone i h (c .flags) (c .counts) (c .phases)) tt)
-  find (Generate e) i sp h =
-      split (Generate e) i (sp .0 .0) (sp .0 .1) h (λ c. stand (generate e) refl (alone i h (c .flags) (c .counts) (c .phases)) tt)
-  find (Await b) i sp h =
-      split (Await b) i (sp .0 .0) (sp .0 .1) h (λ c. stand (await b) refl (alone i h (c .flags) (c .counts) (c .phases)) tt)
-  find (Seq p q) i sp h = split (Seq p q) i (sp .0 .0) (sp .0 .1) h (λ c.
-      let x = find p (i + 1) (sp .2) (omega arith) in
-      let y = find q (i + 1 + size p) (second t i p q (sp .2) (sp .3)) (omega arith) in
-      let own = plain i (c .flags) (c .counts) in
-      let none₁ = first-none i p (sp .2) (omega arith) in
-      let none₂ = second-none i p q (sp .2) (sp .3) (omega arith) in
-      let write = two i (size p) (size q) h in
-      either-true _ _ (c .phases)
-      (λ e.
-      let (ph, z) = both e in
-      stand (seq0 (x .term) q) (ap (λ r. Seq r q) (x .of-program))
-      (write (in-phase 0) (own 0 ph) _ _ (x .bytes) (none₂ z)) (x .at-rest))
-      (λ e.
-      let (ph, z) = both e in
-      stand (seq2 p (y .term)) (ap (Seq p) (y .of-program)) (write (in-phase 2) (own 2 ph) _ _ (none₁ z) (y .bytes))
-      (y .at-rest)))
-  find (Par p q) i sp h = split (Par p q) i (sp .0 .0) (sp .0 .1) h (λ c.
-      let x = find p (i + 1) (sp .2) (omega arith) in
-      let y = find q (i + 1 + size p) (second t i p q (sp .2) (sp .3)) (omega arith) in
-      let own : (n : ℕ) → eqb (flagsAt s i) n ≡ true → Owns s i (flagged n) =
-      λ n e. (eqb-true _ 0 (c .phases), eqb-true _ n e, eqb-true _ 0 (c .counts)) in
-      let write = two i (size p) (size q) h in
-      either-true _ _ (c .flags)
-      (λ e. stand (par SUSP SUSP (x .term) (y .term)) (ap₂ Par (x .of-program) (y .of-program))
-      (write (flagged 0) (own 0 e) _ _ (x .bytes) (y .bytes)) (tt, tt, tt, x .at-rest, y .at-rest))
-      (λ r. either-true _ _ r
-      (λ e.
-      let (f, d) = both e in
-      stand (par TERM SUSP (x .term) (y .term)) (ap₂ Par (x .of-program) (y .of-program))
-      (write (flagged 2) (own 2 f) _ _ (x .bytes) (y .bytes)) (tt, phase-3 (i + 1) p x d, tt, x .at-rest, y .at-rest))
-      (λ e.
-      let (f, d) = both e in
-      stand (par SUSP TERM (x .term) (y .term)) (ap₂ Par (x .of-program) (y .of-program))
-      (write (flagged 8) (own 8 f) _ _ (x .bytes) (y .bytes))
-      (tt, tt, phase-3 (i + 1 + size p) q y (rw (second-is t i p (sp .2)) at d), x .at-rest, y .at-rest))))
-  find (Loop p) i sp h = split (Loop p) i (sp .0 .0) (sp .0 .1) h (λ c.
-      let x = find p (i + 1) (sp .2) (omega arith) in
-      let own = plain i (c .flags) (c .counts) in
-      either-true _ _ (c .phases)
-      (λ e.
-      let (ph, z) = both e in
-      stand (loop0 p) refl (one i (size p) h (in-phase 0) (own 0 ph) _ (first-none i p (sp .2) (omega arith) z)) tt)
-      (λ ph. stand (loop1 (x .term)) (ap Loop (x .of-program)) (one i (size p) h (in-phase 1) (own 1 ph) _ (x .bytes))
-      (x .at-rest)))
-  find (Repeat n p) i sp h = split (Repeat n p) i (sp .0 .0) (sp .0 .1) h (λ c.
-      let x = find p (i + 1) (sp .2) (omega arith) in
-      either-true _ _ (c .phases)
-      (λ e.
-      let (ph, z) = both e in
-      let ct = counted i 0 n (sp .1) (eqb-true _ 0 ph) (c .counts) in
-      stand (repeat0 n p) refl
-      (one i (size p) h (in-phase 0) (eqb-true _ 0 ph, eqb-true _ 0 (c .flags), eqb-true _ 0 ct) _ (first-none i p (sp .2) (omega arith) z))
-      tt)
-      (λ ph.
-      let ct = counted i 1 n (sp .1) (eqb-true _ 1 ph) (c .counts) in
-      stand (repeat1 n (countAt s i) (x .term)) (ap (Repeat n) (x .of-program))
-      (one i (size p) h (record { phase = 1; flags = 0; count = countAt s i }) (eqb-true _ 1 ph, eqb-true _ 0 (c .flags), refl) _ (x .bytes))
-      (ltb-true _ n ct, x .at-rest)))
-  find (When b p q) i sp h = split (When b p q) i (sp .0 .0) (sp .0 .1) h (λ c.
-      let x = find p (i + 1) (sp .2) (omega arith) in
-      let y = find q (i + 1 + size p) (second t i p q (sp .2) (sp .3)) (omega arith) in
-      let own = plain i (c .flags) (c .counts) in
-      let none₁ = first-none i p (sp .2) (omega arith) in
-      let none₂ = second-none i p q (sp .2) (sp .3) (omega arith) in
-      let write = two i (size p) (size q) h in
-      either-true _ _ (c .phases)
-      (λ e.
-      let (ph, zs) = both e in
-      let (z₁, z) = both zs in
-      stand (when0 b p q) refl (write (in-phase 0) (own 0 ph) _ _ (none₁ z₁) (none₂ z)) tt)
-      (λ r. either-true _ _ r
-      (λ e.
-      let (ph, z) = both e in
-      stand (when1 b (x .term) q) (ap (λ r. When b r q) (x .of-program))
-      (write (in-phase 1) (own 1 ph) _ _ (x .bytes) (none₂ z)) (x .at-rest))
-      (λ e.
-      let (ph, z) = both e in
-      stand (when2 b p (y .term)) (ap (When b p) (y .of-program))
-      (write (in-phase 2) (own 2 ph) _ _ (none₁ z) (y .bytes)) (y .at-rest))))
-  find (Until b p q) i sp h = split (Until b p q) i (sp .0 .0) (sp .0 .1) h (λ c.
-      let x = find p (i + 1) (sp .2) (omega arith) in
-      let y = find q (i + 1 + size p) (second t i p q (sp .2) (sp .3)) (omega arith) in
-      let own = plain i (c .flags) (c .counts) in
-      let none₁ = first-none i p (sp .2) (omega arith) in
-      let none₂ = second-none i p q (sp .2) (sp .3) (omega arith) in
-      let write = two i (size p) (size q) h in
-      either-true _ _ (c .phases)
-      (λ e.
-      let (ph, z) = both e in
-      stand (until0 b (x .term) q) (ap (λ r. Until b r q) (x .of-program))
-      (write (in-phase 0) (own 0 ph) _ _ (x .bytes) (none₂ z)) (x .at-rest))
-      (λ e.
-      let (ph, z) = both e in
-      stand (until2 b p (y .term)) (ap (Until b p) (y .of-program))
-      (write (in-phase 2) (own 2 ph) _ _ (none₁ z) (y .bytes)) (y .at-rest)))
-  find (Control e p) i sp h = split (Control e p) i (sp .0 .0) (sp .0 .1) h (λ c.
-      let x = find p (i + 1) (sp .2) (omega arith) in
-      stand (control e (x .term)) (ap (Control e) (x .of-program))
-      (one i (size p) h (in-phase 0) (plain i (c .flags) (c .counts) 0 (c .phases)) _ (x .bytes)) (x .at-rest))
-  find (Local e p) i sp h = split (Local e p) i (sp .0 .0) (sp .0 .1) h (λ c.
-      let x = find p (i + 1) (sp .2) (omega arith) in
-      stand (local false e (x .term)) (ap (Local e) (x .of-program))
-      (one i (size p) h (in-phase 0) (plain i (c .flags) (c .counts) 0 (c .phases)) _ (x .bytes)) (refl, x .at-rest))
+  -- a form around u, and around u and v, that stand there; a part that has not begun or that the reading leaves out is zero
+  module _ (i : ℕ) {u : Term} (x : Rests s (i + 1) u) (a : Spells t (i + 1) (prog u)) where
+    none₁ : i + 1 + size (prog u) ≤ nodes t → firstZero t s i ≡ true → bytesAt s (i + 1) (size (prog u)) ≡ blank (size (prog u))
+    none₁ h e = none (i + 1) (size (prog u)) h (rw (written t (i + 1) (prog u) a) at e)
+
+    of-one : {p : Program} → One p (prog u) → Spells t i p → i + size p ≤ nodes t → Active t s i (kind p) → TermAt s i p
+    unfolding Spells size kind prog AtRest phaseRests countRests
+    of-one (loop q) sp h c =
+        let own = plain i (c .flags) (c .counts) in
+        either-true _ _ (c .phases)
+        (λ e. let (ph, z) = both e in at-start (Loop q) i (size q) refl h (own 0 ph) (none₁ (omega arith) z))
+        (λ ph. around loop-body i x (omega arith) (own 1 ph) refl refl h (x .at-rest))
+    of-one (repeat n q) sp h c =
+        let ct : (ph : ℕ) → eqb (phaseAt s i) ph ≡ true → cond (eqb ph 1) (ltb (countAt s i) n) (eqb (countAt s i) 0) ≡ true =
+        λ ph e. counted i ph n (sp .1) (eqb-true _ ph e) (c .counts) in
+        either-true _ _ (c .phases)
+        (λ e. let (ph, z) = both e in at-start (Repeat n q) i (size q) refl h (plain i (c .flags) (ct 0 ph) 0 ph) (none₁ (omega arith) z))
+        (λ ph.
+        around (repeat-body n (countAt s i)) i x (omega arith) (eqb-true _ 1 ph, eqb-true _ 0 (c .flags), refl) refl refl h
+        (ltb-true _ n (ct 1 ph), x .at-rest))
+    of-one (control e q) sp h c =
+        around (control-body e) i x (omega arith) (plain i (c .flags) (c .counts) 0 (c .phases)) refl refl h (x .at-rest)
+    of-one (local e q) sp h c =
+        around (local-body false e) i x (omega arith) (plain i (c .flags) (c .counts) 0 (c .phases)) refl refl h (refl, x .at-rest)
+
+    module _ {v : Term} (y : Rests s (i + 1 + size (prog u)) v) (b : Spells t (secondAt t i) (prog v)) where
+      none₂ : i + 1 + size (prog u) + size (prog v) ≤ nodes t → secondZero t s i ≡ true
+          → bytesAt s (i + 1 + size (prog u)) (size (prog v)) ≡ blank (size (prog v))
+      none₂ h e =
+          none (i + 1 + size (prog u)) (size (prog v)) h (rw (written t (secondAt t i) (prog v) b, written t (i + 1) (prog u) a) at e)
+
+      -- a Par, by its flags
+      joined : (α β : Flag) → Owns s i (flagged (code α + 4 * code β)) → i + (1 + size (prog u) + size (prog v)) ≤ nodes t
+          → AtRest (Term.par α β u v)
+          → TermAt s i (Par (prog u) (prog v))
+      unfolding size prog below
+      joined α β o h r =
+          let e : 1 + size (prog u) + size (prog v) ≡ 1 + (size (prog u) + size (prog v)) = omega arith in
+          let w = both-parts s (i + 1) (size (prog u)) (size (prog v)) ∙ ap₂ _++_ (x .bytes) (y .bytes) in
+          stand (Term.par α β u v) (rw e (node i (size (prog u) + size (prog v)) (omega arith) (flagged (code α + 4 * code β)) o ∙ rw w)) r
+
+      of-two : {p : Program} → Two p (prog u) (prog v) → i + size p ≤ nodes t → Active t s i (kind p) → TermAt s i p
+      unfolding size kind prog AtRest phaseRests countRests flagsRest
+      of-two (seq q r) h c =
+          let own = plain i (c .flags) (c .counts) in
+          either-true _ _ (c .phases)
+          (λ e. let (ph, z) = both e in around (seq-first r) i x (omega arith) (own 0 ph) refl (none₂ (omega arith) z) h (x .at-rest))
+          (λ e. let (ph, z) = both e in around (seq-second q) i y refl (own 2 ph) (none₁ (omega arith) z) refl h (y .at-rest))
+      of-two (par q r) h c =
+          let own : (n : ℕ) → eqb (flagsAt s i) n ≡ true → Owns s i (flagged n) =
+          λ n e. (eqb-true _ 0 (c .phases), eqb-true _ n e, eqb-true _ 0 (c .counts)) in
+          either-true _ _ (c .flags)
+          (λ e. joined SUSP SUSP (own 0 e) h (tt, tt, tt, x .at-rest, y .at-rest))
+          (λ e′. either-true _ _ e′
+          (λ e. let (f, d) = both e in joined TERM SUSP (own 2 f) h (tt, phase-3 x d, tt, x .at-rest, y .at-rest))
+          (λ e.
+          let (f, d) = both e in
+          joined SUSP TERM (own 8 f) h (tt, tt, phase-3 y (rw (second-is t i q a) at d), x .at-rest, y .at-rest)))
+      of-two (when k q r) h c =
+          let own = plain i (c .flags) (c .counts) in
+          let n : 1 + size q + size r ≡ 1 + (size q + size r) = omega arith in
+          either-true _ _ (c .phases)
+          (λ e.
+          let (ph, zs) = both e in
+          let (z₁, z₂) = both zs in
+          let w = ap₂ _++_ (none₁ (omega arith) z₁) (none₂ (omega arith) z₂) ∙ blank-both (size q) (size r) in
+          at-start (When k q r) i (size q + size r) n h (own 0 ph) (both-parts s (i + 1) (size q) (size r) ∙ w))
+          (λ e′. either-true _ _ e′
+          (λ e. let (ph, z) = both e in around (when-first k r) i x (omega arith) (own 1 ph) refl (none₂ (omega arith) z) h (x .at-rest))
+          (λ e. let (ph, z) = both e in around (when-second k q) i y refl (own 2 ph) (none₁ (omega arith) z) refl h (y .at-rest)))
+      of-two (until k q r) h c =
+          let own = plain i (c .flags) (c .counts) in
+          either-true _ _ (c .phases)
+          (λ e. let (ph, z) = both e in around (until-first k r) i x (omega arith) (own 0 ph) refl (none₂ (omega arith) z) h (x .at-rest))
+          (λ e. let (ph, z) = both e in around (until-second k q) i y refl (own 2 ph) (none₁ (omega arith) z) refl h (y .at-rest))
+
+  find : {p : Program} → Parts p → (i : ℕ) → Spells t i p → i + size p ≤ nodes t → TermAt s i p
+  find {p} (no-part f) i sp h = split p i sp h (λ c. at-start p i 0 (of-none f .size-is) h (of-leaf i f c) refl)
+  find {p} (one-part f v) i sp h =
+      let a = spells-one t i f sp in
+      let x = find v (i + 1) a (omega (arith, Table.of-one f .size-is)) in
+      split p i sp h (of-one i (x .rests-so) (rw (x .of-program) a) (rw (x .of-program) f) sp h)
+  find {p} (two-parts {q = q} {r = r} f v w) i sp h =
+      let (a, b) = spells-two t i f sp in
+      let x = find v (i + 1) a (omega (arith, Table.of-two f .size-is)) in
+      let y = find w (i + 1 + size q) (second t i q r a b) (omega (arith, Table.of-two f .size-is)) in
+      let y-rests : Rests s (i + 1 + size (prog (x .term))) (y .term) = rw (x .of-program) (y .rests-so) in
+      split p i sp h (of-two i (x .rests-so) (rw (x .of-program) a) y-rests (rw (y .of-program) b) (rw (x .of-program, y .of-program) f) h)
 
 pub standing : (t s : List ℕ) → Placed t 0 (treeOf t) → ((i : ℕ) → getD s i 0 < 256) → 4 * nodes t ≤ length s → blamed t s ≡ nodes t
     → (x : Term) × (prog x ≡ treeOf t) × (take (4 * nodes t) s ≡ stateBytes x) × AtRest x
 standing t s p b h r =
     let none : (i : ℕ) → i < nodes t → rests t s i ≡ true =
     λ i l. not-false _ (before-lowest (nodes t) (λ j. not (rests t s j)) i (rw r l)) in
-    let f = find t s b h none (treeOf t) 0 (p .spelled) (p .inside) in
+    let f = find t s b h none (parts (treeOf t)) 0 (p .spelled) (p .inside) in
     let e : size (treeOf t) ≡ nodes t = all-nodes p in
-    (f .term, f .of-program, ap (λ n. take (4 * n) s) (sym e) ∙ f .bytes, f .at-rest)
+    (f .term, f .of-program, rw (f .of-program, e) at (f .rests-so .bytes), f .rests-so .at-rest)

@@ -8,37 +8,36 @@ use native.Mathlib.Nat.{add-zero, zero-add, suc-add}
 use native.Mathlib.Decide.{ℕ-discrete}
 use borrow.Author.Tests.{eqb-true}
 use Rattle.table.proofs.Laid.{both}
+use Rattle.state.specs.StateBytes.{Own, in-phase}
 use Rattle.state.specs.Resting.{phaseAt, flagsAt, countAt, zeroNode, zeroNodes}
 
 -- a node's own bytes as one number
 abbrev pub own : List ℕ → ℕ → ℕ
 own s i = phaseAt s i * 16777216 + flagsAt s i * 65536 + countAt s i
 
--- what a node's own bytes are, each
-pub record Bytes (s : List ℕ) (i phase flags count : ℕ) : Type 0 where
-  pub phase-is : phaseAt s i ≡ phase
-  pub flags-are : flagsAt s i ≡ flags
-  pub count-is : countAt s i ≡ count
+-- they are o
+abbrev pub Owns : List ℕ → ℕ → Own → Type 0
+Owns s i o = (phaseAt s i ≡ o .phase) × (flagsAt s i ≡ o .flags) × (countAt s i ≡ o .count)
 
-pub zero-node : {s : List ℕ} {i : ℕ} → Bytes s i 0 0 0 → zeroNode s i ≡ true
+zero-node : (s : List ℕ) (i : ℕ) → Owns s i (in-phase 0) → zeroNode s i ≡ true
 unfolding zeroNode
-zero-node b = rw (b .phase-is, b .flags-are, b .count-is)
+zero-node s i o = rw (o .0, o .1, o .2)
 
-pub zero-bytes : (s : List ℕ) (i : ℕ) → zeroNode s i ≡ true → Bytes s i 0 0 0
+pub zero-owns : (s : List ℕ) (i : ℕ) → zeroNode s i ≡ true → Owns s i (in-phase 0)
 unfolding zeroNode
-zero-bytes s i z =
-    let h = both z in
-    let k = both (h .1) in
-    record { phase-is = eqb-true _ _ (h .0); flags-are = eqb-true _ _ (k .0); count-is = eqb-true _ _ (k .1) }
+zero-owns s i z =
+    let (a, h) = both z in
+    let (b, c) = both h in
+    (eqb-true _ _ a, eqb-true _ _ b, eqb-true _ _ c)
 
 pub own-zero : (s : List ℕ) (i : ℕ) → own s i ≡ 0 → zeroNode s i ≡ true
-own-zero s i e = zero-node (record { phase-is = omega arith; flags-are = omega arith; count-is = omega arith })
+own-zero s i e = zero-node s i (omega arith, omega arith, omega arith)
 
 pub own-not-zero : (s : List ℕ) (i : ℕ) → (own s i ≡ 0 → ⊥) → zeroNode s i ≡ false
 own-not-zero s i e = go (zeroNode s i) refl
   where
     go : (b : Bool) → zeroNode s i ≡ b → b ≡ false
-    go true z = let b = zero-bytes s i z in absurd (e (rw (b .phase-is, b .flags-are, b .count-is)))
+    go true z = let (a, b, c) = zero-owns s i z in absurd (e (rw (a, b, c)))
     go false z = refl
 
 -- the first of some nodes, and the rest

@@ -19,7 +19,7 @@ use Rattle.table.proofs.Tree.{size-pos}
 use Rattle.table.proofs.Loaded.{size-of, in-table}
 use Rattle.state.specs.StateBytes.{Own, head, below, stateBytes}
 use Rattle.state.proofs.Parts.{blank, len-bytes, own-of, own-below, part-is, put-is}
-use Rattle.state.proofs.Frames.{Frame}
+use Rattle.state.proofs.Frames.{Frame, size-in, spells-in}
 use Rattle.steps.specs.Running.{Ready, Ran, Live, Runs, Any}
 
 module _ {skip : ℕ} {table : List ℕ} {i : ℕ} {state words row tally : List ℕ} {t : Term}
@@ -98,17 +98,17 @@ module _ {own : Own} {ahead behind : ℕ} {f : Term → Term} (o : Frame own ahe
   child-placed =
       record {
         loaded = h .placed .loaded;
-        spelled = o .spells table i x (h .placed .spelled);
-        inside = omega (arith, o .size-is x, h .placed .inside);
+        spelled = spells-in o x table i (h .placed .spelled);
+        inside = omega (arith, size-in o x, h .placed .inside);
       }
 
   -- the record behind the node's own can be read
   pub next-in-table : 6 * (i + 1) + 5 < length table
-  next-in-table = in-table (h .placed) 1 (omega (arith, o .size-is x, size-pos (prog x)))
+  next-in-table = in-table (h .placed) 1 (omega (arith, size-in o x, size-pos (prog x)))
 
   module _ {a e : ℕ} (u : Cut ahead x a e) where
     pub till-in : e ≤ length state
-    till-in = omega (arith, u .from, u .till, h .long, o .size-is x)
+    till-in = omega (arith, u .from, u .till, h .long, size-in o x)
 
     split : skip ≤ 4 → state ≡ own-of state (blank ahead) ++ (stateBytes x ++ blank behind)
     split low = own-and-below h low ∙ ap (own-of state) (o .below-is x)
@@ -145,7 +145,7 @@ module _ {own : Own} {ahead behind : ℕ} {f : Term → Term} (o : Frame own ahe
         → 64 * length words₁ ≡ places
         → Going (marks words₁) x
         → (falling table j 3 < m) × Live 0 Any table j (midOf a (e - a) state) words₁ row tally
-    asks low rank z at-j w g = asks-for h rank z (child low at-j w g) (omega (arith, o .size-is x))
+    asks low rank z at-j w g = asks-for h rank z (child low at-j w g) (omega (arith, size-in o x))
 
     -- so it ran
     pub child-ran : skip ≤ 4 → {j : ℕ} → j ≡ i + 1 + ahead → {words₁ s words′ row′ tally′ : List ℕ} {α : Flag}
@@ -187,7 +187,7 @@ module _ {skip : ℕ} {table : List ℕ} {i : ℕ} {state words row tally : List
       → {n : ℕ}
       → n ≡ ahead
       → Cut ahead x (4 + 4 * n) (length state)
-  second-cut o {n} e = record { from = omega arith; till = omega (arith, h .long, o .size-is x) }
+  second-cut o {n} e = record { from = omega arith; till = omega (arith, h .long, size-in o x) }
 
   pub only-cut : {own : Own} → Frame own 0 0 f → Cut 0 x 4 (length state)
-  only-cut o = record { from = refl; till = omega (arith, h .long, o .size-is x) }
+  only-cut o = record { from = refl; till = omega (arith, h .long, size-in o x) }

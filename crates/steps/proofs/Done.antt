@@ -21,7 +21,7 @@ use Rattle.junior.proofs.Going.{Going}
 use Rattle.junior.proofs.Figures.{pot, rest, spends, cost-A}
 use Rattle.state.specs.StateBytes.{Own, before, in-phase, zeros}
 use Rattle.state.proofs.Parts.{blank, blank-below, blank-both, len-bytes}
-use Rattle.state.proofs.Frames.{Frame}
+use Rattle.state.proofs.Frames.{Frame, size-in}
 use Rattle.steps.specs.Running.{Bytes, Ready, Wrote, SameLengths, Ran, left, envOf, atoms-done, phaseAfter}
 use Rattle.steps.proofs.Children.{Cut, byte-is, own-in, put-back}
 
@@ -136,7 +136,7 @@ left-around o SUSP x = rw (o .head-is x, o .below-is x)
 left-around o STOP x = rw (o .head-is x, o .below-is x)
 left-around {ahead = ahead} {behind = behind} o TERM x =
     let e : 1 + ahead + size (prog x) + behind ≡ 1 + (ahead + (size (prog x) + behind)) = omega arith in
-    simp (blank-both, blank-below, o .size-is x) (ap blank e)
+    simp (blank-both, blank-below, size-in o x) (ap blank e)
 
 module _ {words row tally : List ℕ} {P : Place} {t : Term} where
   -- a node that runs no part
@@ -231,7 +231,7 @@ module _ {own : Own} {ahead behind : ℕ} {f : Term → Term} (o : Frame own ahe
   pub back-long : skip ≤ 4 → length s ≡ 4 * size (prog x) → length (putMid a (e - a) state s) ≡ length state
   back-long z n =
       ap length (put-back o h u z s)
-      ∙ simp (length-append, length-replicate {A = ℕ}) (omega (arith, h .long, o .size-is x))
+      ∙ simp (length-append, length-replicate {A = ℕ}) (omega (arith, h .long, size-in o x))
 
   -- the node's own bytes are still there
   pub back-in : skip ≤ 4 → length s ≡ 4 * size (prog x) → (k : ℕ) → k < 4 → k < length (putMid a (e - a) state s)

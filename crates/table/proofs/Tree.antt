@@ -4,7 +4,7 @@ use mathlib.Core.Path.{_≡_, ap, _∙_}
 use mathlib.Core.List.{List}
 use Rattle.junior.specs.Program.{Program, kind, argument, Leaf, One, Two, Parts, no-part, one-part, two-parts, parts}
 use Rattle.junior.specs.Program.{sizeOf, size}
-use Rattle.junior.proofs.Parts.{only-parts, size-by, some-nodes}
+use Rattle.junior.proofs.Parts.{parts-one, parts-two, only-parts, size-by, some-nodes}
 use Rattle.table.specs.Records.{kindAt, sizeAt, secondAt}
 use Rattle.table.specs.Good.{children}
 use Rattle.table.specs.Spells.{Argues, Heads, SpellsParts, Spells}
@@ -60,6 +60,16 @@ spelled (two h v x y) = h
 
 pub sized : {t : List ℕ} {i c : ℕ} {p : Program} → Tree t i c p → sizeAt t i ≡ size p
 sized {t} {i} {p = p} x = written t i p (spelled x)
+
+-- what stands at the children
+module _ (t : List ℕ) (i : ℕ) {p q : Program} where
+  pub spells-one : One p q → Spells t i p → Spells t (i + 1) q
+  unfolding Spells
+  spells-one f h = (rw (parts-one f) at h) .2
+
+  pub spells-two : {r : Program} → Two p q r → Spells t i p → Spells t (i + 1) q × Spells t (secondAt t i) r
+  unfolding Spells
+  spells-two f h = let (own, argument, a, b) = rw (parts-two f) at h in (a, b)
 
 -- a second child stands behind all of the first
 pub second-is : (t : List ℕ) (i : ℕ) (p : Program) → Spells t (i + 1) p → secondAt t i ≡ i + 1 + size p
