@@ -40,10 +40,13 @@ enum { ZAPPER_GENERATIONS = 2, ZAPPER_MOST_ATOMS = 3, ZAPPER_WEIGHT = 4, ZAPPER_
 /* A start's answer. */
 enum { ZAPPER_START_PLACES = 2 };
 
+/* The words of an event set: event e is bit e % 64 of word e / 64. Where an answer names an event, ZAPPER_NO_EVENT says that there is none. */
+enum { ZAPPER_EVENT_WORDS = 4, ZAPPER_NO_EVENT = 64 * ZAPPER_EVENT_WORDS };
+
 /*
- * An instant's answer: how many events are present at its end and which is the lowest (256 if none is), how many atoms were written, whether
- * the program has finished (1 or 0), how many passes there were, and the events present: event e is bit e % 64 of place ZAPPER_EVENTS + e / 64.
- * If the instant is refused these are 0, but the lowest event is 256.
+ * An instant's answer: how many events are present at its end and which is the lowest (ZAPPER_NO_EVENT if none is), how many atoms were written,
+ * whether the program has finished (1 or 0), how many passes there were, and the events present: event e is bit e % 64 of place
+ * ZAPPER_EVENTS + e / 64. If the instant is refused these are 0, but the lowest event is ZAPPER_NO_EVENT.
  */
 enum {
     ZAPPER_COUNT = 2,
@@ -52,11 +55,8 @@ enum {
     ZAPPER_FINISHED = 5,
     ZAPPER_PASSES = 6,
     ZAPPER_EVENTS = 7,
-    ZAPPER_INSTANT_PLACES = 11
+    ZAPPER_INSTANT_PLACES = ZAPPER_EVENTS + ZAPPER_EVENT_WORDS
 };
-
-/* The words of an event set: event e is bit e % 64 of word e / 64. */
-enum { ZAPPER_EVENT_WORDS = 4 };
 
 /* The answer of reading and of printing: how many bytes were written at the start of the room. It is 0 if the text or the table is refused. */
 enum { ZAPPER_LENGTH = 2, ZAPPER_TEXT_PLACES = 3 };

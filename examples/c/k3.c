@@ -22,7 +22,7 @@ static const uint8_t table[] = {
 static void print_events(const uint64_t *words)
 {
     const char *before = " ";
-    for (int e = 0; e < 256; e++)
+    for (int e = 0; e < ZAPPER_NO_EVENT; e++)
         if (words[e / 64] >> (e % 64) & 1) {
             printf("%s%d", before, e);
             before = ",";

@@ -40,7 +40,7 @@ use Rattle.kernel.specs.declared.Outcome.the-variants.{Ran, Table}
 use Rattle.kernel.specs.Answer.{outcomeNumber, outcomeIndex, onAccepted, startOutcome, instantOutcome, startedRoom}
 use Rattle.kernel.specs.Answer.{Started}
 use Rattle.kernel.specs.Bench.{Line, Entry, accepted, refused, not-started, not-run, Checks, Starts, Answers, Follow, Alone}
-use Rattle.kernel.specs.Bench.{word-of, set, turned-down, Shown, All, phases, K1-to-K12, more-of-the-forms, tests}
+use Rattle.kernel.specs.Bench.{word-of, words-of, set, turned-down, Shown, All, phases, K1-to-K12, more-of-the-forms, tests}
 use Rattle.kernel.specs.Bench.{figures, refused-tables, refused-rooms, not-at-rest, bench-list}
 use Rattle.kernel.proofs.Accepted.{admitted}
 use Rattle.kernel.proofs.Outcomes.{start-ran}
@@ -193,7 +193,7 @@ module _ (t : List ℕ) (c : Checked) {n i : ℕ} (h : Checks t c n i 0 0 0) (aw
       starts-by (record { outcome-is = rw (h .verdict-is, away _); room-is = refl }) (h .number-is) (h .index-is)
 
   no-instant : (s : List ℕ) (X : EventSet) (row : List ℕ) → Answers t s (turned-down X row s (Table c) n i)
-  unfolding instantOutcome outcomeNumber outcomeIndex word-of fit
+  unfolding instantOutcome outcomeNumber outcomeIndex word-of words-of fit
   no-instant s X row =
       let nowhere : members (set []) ≡ none = marks-zeros 4 in
       only-answers
@@ -262,7 +262,7 @@ and-all [] m h k = k
 and-all (x ∷ l) m (s, h) k = (s, and-all l m h k)
 
 pub bench : All Shown bench-list
-unfolding computed listed if-accepted if-refused judged told told-by told-alone alone-by ran-or-not signs fit placed word-of phases
+unfolding computed listed if-accepted if-refused judged told told-by told-alone alone-by ran-or-not signs fit placed word-of words-of phases
     verdictOf recordsVerdict nodesVerdict programVerdict lengthGood countsGood distancesGood preorder firstSuch light numberOf indexOf
     figuresOf goodNode laidOut children argumentLimit goodConfiguration goodButHeight heightAtMost parts configurationOf form programOf
     size kind stops figure outcomeNumber outcomeIndex startOutcome startedRoom instantOutcome rests phaseRests flagsRest countRests zeroNode

@@ -210,12 +210,12 @@ length-says h = or-says (le-says 16 (length (h .table))) (le-says (length (h .ta
 counts-says : (h : Handed)
     → Says (ok its-counts h)
     (((nodes (h .table) < 1) ⊎ (4096 < nodes (h .table)))
-    ⊎ ((2048 < configurations (h .table)) ⊎ ((events (h .table) < 1) ⊎ (256 < events (h .table)))))
+    ⊎ ((2048 < configurations (h .table)) ⊎ ((events (h .table) < 1) ⊎ (places < events (h .table)))))
 unfolding countsGood
 counts-says h =
     or-says
     (or-says (le-says 1 (nodes (h .table))) (le-says (nodes (h .table)) 4096))
-    (or-says (le-says (configurations (h .table)) 2048) (or-says (le-says 1 (events (h .table))) (le-says (events (h .table)) 256)))
+    (or-says (le-says (configurations (h .table)) 2048) (or-says (le-says 1 (events (h .table))) (le-says (events (h .table)) places)))
 
 distances-says : (h : Handed)
     → Says (ok its-distances h)

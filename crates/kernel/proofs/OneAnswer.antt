@@ -21,7 +21,7 @@ use Rattle.kernel.specs.declared.Outcome.the-variants.{Ran, Table, State
 use Rattle.kernel.specs.declared.Outcome.the-variants.{AtomRoom}
 use Rattle.kernel.specs.declared.Answer.{Answer}
 use Rattle.kernel.specs.Answer.{startedRoom, ended, Run, Refused, Started, Answered}
-use Rattle.kernel.specs.Exports.{startPlaces, instantPlaces, StartedInPlaces, AnsweredInPlaces}
+use Rattle.kernel.specs.Exports.{instant-length, startPlaces, instantPlaces, StartedInPlaces, AnsweredInPlaces}
 
 pub one-check : (t : List ℕ) (q r : Checked) → q ≡ verdictOf t → r ≡ verdictOf t → q ≡ r
 one-check t q r a b = a ∙ sym b
@@ -102,14 +102,14 @@ one-start-in-places a b =
     let (o, s) = one-start (a .started) (b .started) in
     (a .written ∙ (ap startPlaces o ∙ sym (b .written)), s)
 
-whole-in-places : (p : List ℕ) (a : Answer) → Places 11 p → p ≡ instantPlaces a → Whole (a .events)
+whole-in-places : (p : List ℕ) (a : Answer) → Places instant-length p → p ≡ instantPlaces a → Whole (a .events)
 whole-in-places p a l e =
     record {
       long = let n = sym (ap length e) ∙ l .long in omega arith;
       fits = λ q. let n = suc (suc (suc (suc (suc (suc (suc q)))))) in record { fits = rw (ap (λ z. getD z n 0) e) at (l .fits n) };
     }
 
-pub one-instant-in-places : {t s words row s₁ s₂ row₁ row₂ p₁ p₂ : List ℕ} → Places 11 p₁ → Places 11 p₂
+pub one-instant-in-places : {t s words row s₁ s₂ row₁ row₂ p₁ p₂ : List ℕ} → Places instant-length p₁ → Places instant-length p₂
     → AnsweredInPlaces t s words row s₁ row₁ p₁
     → AnsweredInPlaces t s words row s₂ row₂ p₂
     → (p₁ ≡ p₂) × (s₁ ≡ s₂) × (row₁ ≡ row₂)

@@ -66,7 +66,7 @@ hasRoom t s = leb (4 * nodes t) (length s)
 unfoldable pub startOutcome : List ℕ → List ℕ → Outcome
 startOutcome t s = onAccepted (verdictOf t) (λ a. cond (hasRoom t s) Ran StateRoom)
 
--- 11: the lowest event handed in at or above V; 256 if none is
+-- 11: the lowest event handed in at or above V; `places` if none is
 abbrev pub unlisted : List ℕ → Events → ℕ
 unlisted t X = lowest places (λ e. X e && leb (events t) e)
 
@@ -117,7 +117,7 @@ pub record Run (t s : List ℕ) (X : Events) (row s′ row′ : List ℕ) (r : A
   pub state-is : s′ ≡ stateBytes (result .to) ++ drop (4 * nodes t) s
   pub row-is : row′ ≡ atoms (result .acts) ++ drop (r .atoms) row
 
--- an instant was refused: every other field 0 or false, the set empty, lowest 256
+-- an instant was refused: every other field 0 or false, the set empty, `places` for the lowest
 pub record Refused (r : Answer) : Type 0 where
   pub events-are : members (r .events) ≡ none
   pub count-is : r .count ≡ 0

@@ -1,13 +1,13 @@
 -- The bench list (01, "Bench list"): tables, state rooms and events with what check, start and instant answer to them, one list and one statement
 -- over it, of the very definitions that are their contracts. Beyond K1 to K12 it has an example for each clause of these definitions.
-use Prim.Native.Nat.{ℕ, _+_, _*_, _/_, _%_, _^_}
+use Prim.Native.Nat.{ℕ, zero, suc, _+_, _-_, _*_, _/_, _%_, _^_}
 use mathlib.Core.Bool.{Bool, true, false, cond}
 use mathlib.Core.Path.{_≡_}
 use mathlib.Core.List.{List, [], _∷_, _++_}
 use lib.Dec.{eqb}
 use lib.ListN.{length, replicate}
 use Rattle.events.specs.declared.EventSet.{EventSet}
-use Rattle.events.specs.Members.{members}
+use Rattle.events.specs.Members.{places, members}
 use Rattle.events.proofs.Sets.{Whole}
 use Rattle.table.specs.declared.Checked.{Checked}
 use Rattle.table.specs.declared.Checked.the-variants.{BadLength, BadCounts, BadDistances, BadConfiguration, BadNode}
@@ -79,8 +79,16 @@ unfoldable pub word-of : ℕ → List ℕ → ℕ
 word-of q [] = 0
 word-of q (e ∷ l) = cond (eqb (e / 64) q) (2 ^ (e % 64)) 0 + word-of q l
 
+unfoldable pub words-of : ℕ → ℕ → List ℕ → List ℕ
+words-of zero q l = []
+words-of (suc n) q l = word-of q l ∷ words-of n (suc q) l
+
 abbrev pub set : List ℕ → EventSet
-set l = record { words = word-of 0 l ∷ word-of 1 l ∷ word-of 2 l ∷ word-of 3 l ∷ [] }
+set l = record { words = words-of (places / 64) 0 l }
+
+-- what stands for the lowest event if none is present
+abbrev pub no-event : ℕ
+no-event = places
 
 -- the answer of an instant that ran: its events, how many, the lowest; how many atoms; whether it finished; passes
 abbrev pub ran : List ℕ → ℕ → ℕ → ℕ → Bool → ℕ → Answer
@@ -89,7 +97,7 @@ ran X count lowest atoms finished passes =
 
 -- the answer of one that was refused
 abbrev pub refusal : Outcome → Answer
-refusal o = record { outcome = o; events = set []; count = 0; lowest = 256; atoms = 0; finished = false; passes = 0 }
+refusal o = record { outcome = o; events = set []; count = 0; lowest = no-event; atoms = 0; finished = false; passes = 0 }
 
 -- an instant that ran: the events handed in, the row, the answer, the row after it, the state room after it
 abbrev pub instant-in : List ℕ → List ℕ → Answer → List ℕ → List ℕ → Line
@@ -218,15 +226,15 @@ nots15 c = no (no (no (no (no (no (no (no (no (no (no (no (no (no (no c)))))))))
 abbrev pub K1-to-K12 : List Entry
 K1-to-K12 =
     -- K1: Nothing
-    accepted K1 0 0 1 (instant [] (ran [] 0 256 0 true 1) row9 (room (3 ∷ [])) ∷ [])
+    accepted K1 0 0 1 (instant [] (ran [] 0 no-event 0 true 1) row9 (room (3 ∷ [])) ∷ [])
     -- K2: Stop
     ∷ accepted (table stop [] 1) 0 0 1
-    (instant [] (ran [] 0 256 0 false 1) row9 (room (3 ∷ []))
-    ∷ instant [] (ran [] 0 256 0 true 1) row9 (room (3 ∷ []))
+    (instant [] (ran [] 0 no-event 0 false 1) row9 (room (3 ∷ []))
+    ∷ instant [] (ran [] 0 no-event 0 true 1) row9 (room (3 ∷ []))
     ∷ [])
     -- K3: P, Par(Seq(Await 0, Seq(Atom 7, Generate 1)), Await 1)
     ∷ accepted (table (par (reply 0) (await 1)) (event 0 ++ event 1) 2) 1 1 7
-    (instant [] (ran [] 0 256 0 false 2) row9 (room (0 ∷ 0 ∷ 0 ∷ 0 ∷ 0 ∷ 0 ∷ 0 ∷ []))
+    (instant [] (ran [] 0 no-event 0 false 2) row9 (room (0 ∷ 0 ∷ 0 ∷ 0 ∷ 0 ∷ 0 ∷ 0 ∷ []))
     ∷ instant (0 ∷ []) (ran (0 ∷ 1 ∷ []) 2 0 1 true 1) (7 ∷ 9 ∷ 9 ∷ 9 ∷ []) (room (3 ∷ 0 ∷ 0 ∷ 0 ∷ 0 ∷ 0 ∷ 0 ∷ []))
     ∷ instant (1 ∷ []) (ran (1 ∷ []) 1 1 0 true 1) row9 (room (3 ∷ 0 ∷ 0 ∷ 0 ∷ 0 ∷ 0 ∷ 0 ∷ []))
     ∷ [])
@@ -240,41 +248,41 @@ K1-to-K12 =
     ∷ [])
     -- K6: When(1, Atom 1, Atom 2)
     ∷ accepted (table choice (event 1) 2) 0 1 2
-    (instant [] (ran [] 0 256 0 false 2) row9 (room (2 ∷ 0 ∷ 0 ∷ []))
-    ∷ instant [] (ran [] 0 256 1 true 1) (2 ∷ 9 ∷ 9 ∷ 9 ∷ []) (room (3 ∷ 0 ∷ 0 ∷ []))
+    (instant [] (ran [] 0 no-event 0 false 2) row9 (room (2 ∷ 0 ∷ 0 ∷ []))
+    ∷ instant [] (ran [] 0 no-event 1 true 1) (2 ∷ 9 ∷ 9 ∷ 9 ∷ []) (room (3 ∷ 0 ∷ 0 ∷ []))
     ∷ [])
     -- K7: Until(not 0, Stop, Atom 5)
     ∷ accepted (table (until 0 stop (atom 5)) (no (event 0)) 1) 0 1 3
     (instant (0 ∷ []) (ran (0 ∷ []) 1 0 0 false 1) row9 (room (0 ∷ 3 ∷ 0 ∷ []))
-    ∷ instant [] (ran [] 0 256 0 true 1) row9 (room (3 ∷ 0 ∷ 0 ∷ []))
+    ∷ instant [] (ran [] 0 no-event 0 true 1) row9 (room (3 ∷ 0 ∷ 0 ∷ []))
     ∷ [])
     ∷ accepted (table (until 0 stop (atom 5)) (no (event 0)) 1) 0 1 3
-    (instant [] (ran [] 0 256 0 false 2) row9 (room (2 ∷ 0 ∷ 0 ∷ []))
-    ∷ instant [] (ran [] 0 256 1 true 1) (5 ∷ 9 ∷ 9 ∷ 9 ∷ []) (room (3 ∷ 0 ∷ 0 ∷ []))
+    (instant [] (ran [] 0 no-event 0 false 2) row9 (room (2 ∷ 0 ∷ 0 ∷ []))
+    ∷ instant [] (ran [] 0 no-event 1 true 1) (5 ∷ 9 ∷ 9 ∷ 9 ∷ []) (room (3 ∷ 0 ∷ 0 ∷ []))
     ∷ [])
     -- K8: Loop(Await 0)
     ∷ refused (table (loop (await 0)) (event 0) 1) (EndlessLoop 0) 7 0
     -- Loop(Seq(Await 0, Stop)): once its body has ended it begins again in the same instant
     ∷ accepted (table (loop (seq (await 0) stop)) (event 0) 1) 0 0 7
-    (instant [] (ran [] 0 256 0 false 2) row9 (room (1 ∷ 0 ∷ 0 ∷ 0 ∷ []))
+    (instant [] (ran [] 0 no-event 0 false 2) row9 (room (1 ∷ 0 ∷ 0 ∷ 0 ∷ []))
     ∷ instant (0 ∷ []) (ran (0 ∷ []) 1 0 0 false 1) row9 (room (1 ∷ 2 ∷ 0 ∷ 3 ∷ []))
     ∷ instant (0 ∷ []) (ran (0 ∷ []) 1 0 0 false 1) row9 (room (1 ∷ 2 ∷ 0 ∷ 3 ∷ []))
-    ∷ instant [] (ran [] 0 256 0 false 2) row9 (room (1 ∷ 0 ∷ 0 ∷ 0 ∷ []))
+    ∷ instant [] (ran [] 0 no-event 0 false 2) row9 (room (1 ∷ 0 ∷ 0 ∷ 0 ∷ []))
     ∷ [])
     -- K9: Local(0, Par(Await 0, Generate 0))
     ∷ accepted (table (local 0 (par (await 0) (generate 0))) (event 0) 1) 1 0 4
-    (instant [] (ran [] 0 256 0 true 2) row9 (room (3 ∷ 0 ∷ 0 ∷ 0 ∷ []))
+    (instant [] (ran [] 0 no-event 0 true 2) row9 (room (3 ∷ 0 ∷ 0 ∷ 0 ∷ []))
     ∷ [])
     -- K10: Repeat(3, Atom 4); Repeat(0, Atom 4)
     ∷ accepted (table (repeat 3 (atom 4)) [] 1) 0 3 4
-    (instant [] (ran [] 0 256 3 true 1) (4 ∷ 4 ∷ 4 ∷ 9 ∷ []) (room (3 ∷ 0 ∷ []))
+    (instant [] (ran [] 0 no-event 3 true 1) (4 ∷ 4 ∷ 4 ∷ 9 ∷ []) (room (3 ∷ 0 ∷ []))
     ∷ [])
     ∷ accepted (table (repeat 0 (atom 4)) [] 1) 0 0 1
-    (instant [] (ran [] 0 256 0 true 1) row9 (room (3 ∷ 0 ∷ []))
+    (instant [] (ran [] 0 no-event 0 true 1) row9 (room (3 ∷ 0 ∷ []))
     ∷ [])
     -- K11: Control(0, Generate 1)
     ∷ accepted (table (control 0 (generate 1)) [] 2) 1 0 2
-    (instant [] (ran [] 0 256 0 false 2) row9 (room (0 ∷ 0 ∷ []))
+    (instant [] (ran [] 0 no-event 0 false 2) row9 (room (0 ∷ 0 ∷ []))
     ∷ instant (0 ∷ []) (ran (0 ∷ 1 ∷ []) 2 0 0 true 1) row9 (room (3 ∷ 0 ∷ []))
     ∷ [])
     -- K12: Repeat(4094, Generate 0), and 4095; Repeat(4096, Atom 0), and 4097
@@ -289,30 +297,30 @@ abbrev pub more-of-the-forms : List Entry
 more-of-the-forms =
     -- Seq(Stop, Atom 1): it goes on in its second in the instant in which its first ends
     accepted (table (seq stop (atom 1)) [] 1) 0 1 3
-    (instant [] (ran [] 0 256 0 false 1) row9 (room (0 ∷ 3 ∷ 0 ∷ []))
-    ∷ instant [] (ran [] 0 256 1 true 1) (1 ∷ 9 ∷ 9 ∷ 9 ∷ []) (room (3 ∷ 0 ∷ 0 ∷ []))
+    (instant [] (ran [] 0 no-event 0 false 1) row9 (room (0 ∷ 3 ∷ 0 ∷ []))
+    ∷ instant [] (ran [] 0 no-event 1 true 1) (1 ∷ 9 ∷ 9 ∷ 9 ∷ []) (room (3 ∷ 0 ∷ 0 ∷ []))
     ∷ [])
     -- Seq(Atom 1, Stop)
     ∷ accepted (table (seq (atom 1) stop) [] 1) 0 1 3
-    (instant [] (ran [] 0 256 1 false 1) (1 ∷ 9 ∷ 9 ∷ 9 ∷ []) (room (2 ∷ 0 ∷ 3 ∷ []))
-    ∷ instant [] (ran [] 0 256 0 true 1) row9 (room (3 ∷ 0 ∷ 0 ∷ []))
+    (instant [] (ran [] 0 no-event 1 false 1) (1 ∷ 9 ∷ 9 ∷ 9 ∷ []) (room (2 ∷ 0 ∷ 3 ∷ []))
+    ∷ instant [] (ran [] 0 no-event 0 true 1) row9 (room (3 ∷ 0 ∷ 0 ∷ []))
     ∷ [])
     -- Par(Stop, Stop); Par(Stop, Nothing); Par(Nothing, Stop): a branch that has ended has the flag TERM, 2 for the first, 8 for the second
     ∷ accepted (table (par stop stop) [] 1) 0 0 3
-    (instant [] (ran [] 0 256 0 false 1) row9 (room (0 ∷ 3 ∷ 3 ∷ []))
-    ∷ instant [] (ran [] 0 256 0 true 1) row9 (room (3 ∷ 0 ∷ 0 ∷ []))
+    (instant [] (ran [] 0 no-event 0 false 1) row9 (room (0 ∷ 3 ∷ 3 ∷ []))
+    ∷ instant [] (ran [] 0 no-event 0 true 1) row9 (room (3 ∷ 0 ∷ 0 ∷ []))
     ∷ [])
     ∷ accepted (table (par stop nothing) [] 1) 0 0 3
-    (instant [] (ran [] 0 256 0 false 1) row9 (own 0 8 0 ++ room (3 ∷ 3 ∷ []))
-    ∷ instant [] (ran [] 0 256 0 true 1) row9 (room (3 ∷ 0 ∷ 0 ∷ []))
+    (instant [] (ran [] 0 no-event 0 false 1) row9 (own 0 8 0 ++ room (3 ∷ 3 ∷ []))
+    ∷ instant [] (ran [] 0 no-event 0 true 1) row9 (room (3 ∷ 0 ∷ 0 ∷ []))
     ∷ [])
     ∷ accepted (table (par nothing stop) [] 1) 0 0 3
-    (instant [] (ran [] 0 256 0 false 1) row9 (own 0 2 0 ++ room (3 ∷ 3 ∷ []))
-    ∷ instant [] (ran [] 0 256 0 true 1) row9 (room (3 ∷ 0 ∷ 0 ∷ []))
+    (instant [] (ran [] 0 no-event 0 false 1) row9 (own 0 2 0 ++ room (3 ∷ 3 ∷ []))
+    ∷ instant [] (ran [] 0 no-event 0 true 1) row9 (room (3 ∷ 0 ∷ 0 ∷ []))
     ∷ [])
     -- Par(Await 0, Await 1)
     ∷ accepted (table (par (await 0) (await 1)) (event 0 ++ event 1) 2) 0 0 3
-    (instant [] (ran [] 0 256 0 false 2) row9 (room (0 ∷ 0 ∷ 0 ∷ []))
+    (instant [] (ran [] 0 no-event 0 false 2) row9 (room (0 ∷ 0 ∷ 0 ∷ []))
     ∷ instant (0 ∷ []) (ran (0 ∷ []) 1 0 0 false 2) row9 (own 0 2 0 ++ room (3 ∷ 0 ∷ []))
     ∷ instant (0 ∷ []) (ran (0 ∷ []) 1 0 0 false 2) row9 (own 0 2 0 ++ room (3 ∷ 0 ∷ []))
     ∷ instant (1 ∷ []) (ran (1 ∷ []) 1 1 0 true 1) row9 (room (3 ∷ 0 ∷ 0 ∷ []))
@@ -324,16 +332,16 @@ more-of-the-forms =
     ∷ [])
     -- Par(Seq(Stop, Atom 1), Await 0), and exchanged: a branch that stopped isn't run again in that instant
     ∷ accepted (table (par (seq stop (atom 1)) (await 0)) (event 0) 1) 0 1 5
-    (instant [] (ran [] 0 256 0 false 2) row9 (room (0 ∷ 0 ∷ 3 ∷ 0 ∷ 0 ∷ []))
+    (instant [] (ran [] 0 no-event 0 false 2) row9 (room (0 ∷ 0 ∷ 3 ∷ 0 ∷ 0 ∷ []))
     ∷ instant (0 ∷ []) (ran (0 ∷ []) 1 0 1 true 1) (1 ∷ 9 ∷ 9 ∷ 9 ∷ []) (room (3 ∷ 0 ∷ 0 ∷ 0 ∷ 0 ∷ []))
     ∷ [])
     ∷ accepted (table (par (await 0) (seq stop (atom 1))) (event 0) 1) 0 1 5
-    (instant [] (ran [] 0 256 0 false 2) row9 (room (0 ∷ 0 ∷ 0 ∷ 3 ∷ 0 ∷ []))
+    (instant [] (ran [] 0 no-event 0 false 2) row9 (room (0 ∷ 0 ∷ 0 ∷ 3 ∷ 0 ∷ []))
     ∷ instant (0 ∷ []) (ran (0 ∷ []) 1 0 1 true 1) (1 ∷ 9 ∷ 9 ∷ 9 ∷ []) (room (3 ∷ 0 ∷ 0 ∷ 0 ∷ 0 ∷ []))
     ∷ [])
     -- Par(Atom 1, Atom 2): the first branch first
     ∷ accepted (table (par (atom 1) (atom 2)) [] 1) 0 2 3
-    (instant [] (ran [] 0 256 2 true 1) (1 ∷ 2 ∷ 9 ∷ 9 ∷ []) (room (3 ∷ 0 ∷ 0 ∷ []))
+    (instant [] (ran [] 0 no-event 2 true 1) (1 ∷ 2 ∷ 9 ∷ 9 ∷ []) (room (3 ∷ 0 ∷ 0 ∷ []))
     ∷ [])
     -- Par(Await 1, Generate 0) with event 0 there already: generating it is a move all the same
     ∷ accepted (table (par (await 0) (generate 0)) (event 1) 2) 1 0 3
@@ -341,33 +349,33 @@ more-of-the-forms =
     ∷ [])
     -- Loop(Seq(Atom 1, Stop)): A and W count the body twice
     ∷ accepted (table (loop (seq (atom 1) stop)) [] 1) 0 2 7
-    (instant [] (ran [] 0 256 1 false 1) (1 ∷ 9 ∷ 9 ∷ 9 ∷ []) (room (1 ∷ 2 ∷ 0 ∷ 3 ∷ []))
-    ∷ instant [] (ran [] 0 256 1 false 1) (1 ∷ 9 ∷ 9 ∷ 9 ∷ []) (room (1 ∷ 2 ∷ 0 ∷ 3 ∷ []))
+    (instant [] (ran [] 0 no-event 1 false 1) (1 ∷ 9 ∷ 9 ∷ 9 ∷ []) (room (1 ∷ 2 ∷ 0 ∷ 3 ∷ []))
+    ∷ instant [] (ran [] 0 no-event 1 false 1) (1 ∷ 9 ∷ 9 ∷ 9 ∷ []) (room (1 ∷ 2 ∷ 0 ∷ 3 ∷ []))
     ∷ [])
     -- Repeat(3, Stop): W counts a body that stops at most twice; the count says how many runs are still to begin
     ∷ accepted (table (repeat 3 stop) [] 1) 0 0 3
-    (instant [] (ran [] 0 256 0 false 1) row9 (own 1 0 2 ++ room (3 ∷ []))
-    ∷ instant [] (ran [] 0 256 0 false 1) row9 (own 1 0 1 ++ room (3 ∷ []))
-    ∷ instant [] (ran [] 0 256 0 false 1) row9 (own 1 0 0 ++ room (3 ∷ []))
-    ∷ instant [] (ran [] 0 256 0 true 1) row9 (room (3 ∷ 0 ∷ []))
+    (instant [] (ran [] 0 no-event 0 false 1) row9 (own 1 0 2 ++ room (3 ∷ []))
+    ∷ instant [] (ran [] 0 no-event 0 false 1) row9 (own 1 0 1 ++ room (3 ∷ []))
+    ∷ instant [] (ran [] 0 no-event 0 false 1) row9 (own 1 0 0 ++ room (3 ∷ []))
+    ∷ instant [] (ran [] 0 no-event 0 true 1) row9 (room (3 ∷ 0 ∷ []))
     ∷ [])
     -- Repeat(1, Stop)
     ∷ accepted (table (repeat 1 stop) [] 1) 0 0 2
-    (instant [] (ran [] 0 256 0 false 1) row9 (own 1 0 0 ++ room (3 ∷ []))
-    ∷ instant [] (ran [] 0 256 0 true 1) row9 (room (3 ∷ 0 ∷ []))
+    (instant [] (ran [] 0 no-event 0 false 1) row9 (own 1 0 0 ++ room (3 ∷ []))
+    ∷ instant [] (ran [] 0 no-event 0 true 1) row9 (room (3 ∷ 0 ∷ []))
     ∷ [])
     -- Repeat(600, Stop): 599 is 2, 87
     ∷ accepted (table (repeat 600 stop) [] 1) 0 0 3
-    (instant [] (ran [] 0 256 0 false 1) row9 (1 ∷ 0 ∷ 2 ∷ 87 ∷ room (3 ∷ []))
+    (instant [] (ran [] 0 no-event 0 false 1) row9 (1 ∷ 0 ∷ 2 ∷ 87 ∷ room (3 ∷ []))
     ∷ [])
     -- Repeat(2, Await 0)
     ∷ accepted (table (repeat 2 (await 0)) (event 0) 1) 0 0 3
-    (instant [] (ran [] 0 256 0 false 2) row9 (own 1 0 1 ++ room (0 ∷ []))
+    (instant [] (ran [] 0 no-event 0 false 2) row9 (own 1 0 1 ++ room (0 ∷ []))
     ∷ instant (0 ∷ []) (ran (0 ∷ []) 1 0 0 true 1) row9 (room (3 ∷ 0 ∷ []))
     ∷ [])
     -- When(not 0, Atom 1, Atom 2): late then, early else
     ∷ accepted (table (when 0 (atom 1) (atom 2)) (no (event 0)) 1) 0 1 2
-    (instant [] (ran [] 0 256 0 false 2) row9 (room (1 ∷ 0 ∷ 0 ∷ []))
+    (instant [] (ran [] 0 no-event 0 false 2) row9 (room (1 ∷ 0 ∷ 0 ∷ []))
     ∷ instant (0 ∷ []) (ran (0 ∷ []) 1 0 1 true 1) (1 ∷ 9 ∷ 9 ∷ 9 ∷ []) (room (3 ∷ 0 ∷ 0 ∷ []))
     ∷ [])
     ∷ accepted (table (when 0 (atom 1) (atom 2)) (no (event 0)) 1) 0 1 2
@@ -376,10 +384,10 @@ more-of-the-forms =
     -- When(0, Seq(Stop, Atom 1), Seq(Stop, Atom 2)): the test is read once
     ∷ accepted (table (when 0 (seq stop (atom 1)) (seq stop (atom 2))) (event 0) 1) 0 1 4
     (instant (0 ∷ []) (ran (0 ∷ []) 1 0 0 false 1) row9 (room (1 ∷ 0 ∷ 3 ∷ 0 ∷ 0 ∷ 0 ∷ 0 ∷ []))
-    ∷ instant [] (ran [] 0 256 1 true 1) (1 ∷ 9 ∷ 9 ∷ 9 ∷ []) (room (3 ∷ 0 ∷ 0 ∷ 0 ∷ 0 ∷ 0 ∷ 0 ∷ []))
+    ∷ instant [] (ran [] 0 no-event 1 true 1) (1 ∷ 9 ∷ 9 ∷ 9 ∷ []) (room (3 ∷ 0 ∷ 0 ∷ 0 ∷ 0 ∷ 0 ∷ 0 ∷ []))
     ∷ [])
     ∷ accepted (table (when 0 (seq stop (atom 1)) (seq stop (atom 2))) (event 0) 1) 0 1 4
-    (instant [] (ran [] 0 256 0 false 2) row9 (room (2 ∷ 0 ∷ 0 ∷ 0 ∷ 0 ∷ 0 ∷ 0 ∷ []))
+    (instant [] (ran [] 0 no-event 0 false 2) row9 (room (2 ∷ 0 ∷ 0 ∷ 0 ∷ 0 ∷ 0 ∷ 0 ∷ []))
     ∷ instant (0 ∷ []) (ran (0 ∷ []) 1 0 0 false 1) row9 (room (2 ∷ 0 ∷ 0 ∷ 0 ∷ 0 ∷ 3 ∷ 0 ∷ []))
     ∷ instant (0 ∷ []) (ran (0 ∷ []) 1 0 1 true 1) (2 ∷ 9 ∷ 9 ∷ 9 ∷ []) (room (3 ∷ 0 ∷ 0 ∷ 0 ∷ 0 ∷ 0 ∷ 0 ∷ []))
     ∷ [])
@@ -388,15 +396,15 @@ more-of-the-forms =
     (instant (0 ∷ []) (ran (0 ∷ []) 1 0 1 true 1) (5 ∷ 9 ∷ 9 ∷ 9 ∷ []) (room (3 ∷ 0 ∷ 0 ∷ []))
     ∷ [])
     ∷ accepted (table (until 0 stop (atom 5)) (event 0) 1) 0 1 3
-    (instant [] (ran [] 0 256 0 false 2) row9 (room (0 ∷ 3 ∷ 0 ∷ []))
+    (instant [] (ran [] 0 no-event 0 false 2) row9 (room (0 ∷ 3 ∷ 0 ∷ []))
     ∷ instant (0 ∷ []) (ran (0 ∷ []) 1 0 0 true 1) row9 (room (3 ∷ 0 ∷ 0 ∷ []))
     ∷ [])
     -- Until(0, Await 1, Seq(Stop, Atom 5)): the test is read once the body has stopped; late handler
     ∷ accepted (table (until 0 (await 1) (seq stop (atom 5))) (event 0 ++ event 1) 2) 0 1 5
-    (instant [] (ran [] 0 256 0 false 2) row9 (room (0 ∷ 0 ∷ 0 ∷ 0 ∷ 0 ∷ []))
+    (instant [] (ran [] 0 no-event 0 false 2) row9 (room (0 ∷ 0 ∷ 0 ∷ 0 ∷ 0 ∷ []))
     ∷ instant (0 ∷ []) (ran (0 ∷ []) 1 0 0 false 2) row9 (room (2 ∷ 0 ∷ 0 ∷ 0 ∷ 0 ∷ []))
-    ∷ instant [] (ran [] 0 256 0 false 1) row9 (room (2 ∷ 0 ∷ 0 ∷ 3 ∷ 0 ∷ []))
-    ∷ instant [] (ran [] 0 256 1 true 1) (5 ∷ 9 ∷ 9 ∷ 9 ∷ []) (room (3 ∷ 0 ∷ 0 ∷ 0 ∷ 0 ∷ []))
+    ∷ instant [] (ran [] 0 no-event 0 false 1) row9 (room (2 ∷ 0 ∷ 0 ∷ 3 ∷ 0 ∷ []))
+    ∷ instant [] (ran [] 0 no-event 1 true 1) (5 ∷ 9 ∷ 9 ∷ 9 ∷ []) (room (3 ∷ 0 ∷ 0 ∷ 0 ∷ 0 ∷ []))
     ∷ [])
     -- and its body ends
     ∷ accepted (table (until 0 (await 1) (seq stop (atom 5))) (event 0 ++ event 1) 2) 0 1 5
@@ -409,7 +417,7 @@ more-of-the-forms =
     -- Control(0, Seq(Stop, Atom 3)): without its event the body stands still
     ∷ accepted (table (control 0 (seq stop (atom 3))) [] 1) 0 1 4
     (instant (0 ∷ []) (ran (0 ∷ []) 1 0 0 false 1) row9 (room (0 ∷ 0 ∷ 3 ∷ 0 ∷ []))
-    ∷ instant [] (ran [] 0 256 0 false 2) row9 (room (0 ∷ 0 ∷ 3 ∷ 0 ∷ []))
+    ∷ instant [] (ran [] 0 no-event 0 false 2) row9 (room (0 ∷ 0 ∷ 3 ∷ 0 ∷ []))
     ∷ instant (0 ∷ []) (ran (0 ∷ []) 1 0 1 true 1) (3 ∷ 9 ∷ 9 ∷ 9 ∷ []) (room (3 ∷ 0 ∷ 0 ∷ 0 ∷ []))
     ∷ [])
     -- Par(Control(0, Atom 3), Generate 0)
@@ -418,7 +426,7 @@ more-of-the-forms =
     ∷ [])
     -- Local(0, Generate 0): its event stays in, the one outside stays as it is
     ∷ accepted (table (local 0 (generate 0)) [] 1) 1 0 2
-    (instant [] (ran [] 0 256 0 true 1) row9 (room (3 ∷ 0 ∷ []))
+    (instant [] (ran [] 0 no-event 0 true 1) row9 (room (3 ∷ 0 ∷ []))
     ∷ [])
     ∷ accepted (table (local 0 (generate 0)) [] 1) 1 0 2
     (instant (0 ∷ []) (ran (0 ∷ []) 1 0 0 true 1) row9 (room (3 ∷ 0 ∷ []))
@@ -429,22 +437,22 @@ more-of-the-forms =
     ∷ [])
     -- Local(0, Par(Par(Await 0, Generate 0), Await 1)): present in every later pass of the instant, gone at rest
     ∷ accepted (table (local 0 (par (par (await 0) (generate 0)) (await 1))) (event 0 ++ event 1) 2) 1 0 6
-    (instant [] (ran [] 0 256 0 false 3) row9 (own 0 0 0 ++ (own 0 2 0 ++ room (3 ∷ 0 ∷ 0 ∷ 0 ∷ [])))
+    (instant [] (ran [] 0 no-event 0 false 3) row9 (own 0 0 0 ++ (own 0 2 0 ++ room (3 ∷ 0 ∷ 0 ∷ 0 ∷ [])))
     ∷ instant (1 ∷ []) (ran (1 ∷ []) 1 1 0 true 1) row9 (room (3 ∷ 0 ∷ 0 ∷ 0 ∷ 0 ∷ 0 ∷ []))
     ∷ [])
     -- Local(0, Seq(Generate 0, Seq(Stop, When(0, Atom 1, Atom 2)))): and in the next instant it is absent
     ∷ accepted (table (local 0 (seq (generate 0) (seq stop (when 0 (atom 1) (atom 2))))) (event 0) 1) 1 1 7
-    (instant [] (ran [] 0 256 0 false 1) row9 (room (0 ∷ 2 ∷ 0 ∷ 0 ∷ 3 ∷ 0 ∷ 0 ∷ 0 ∷ []))
-    ∷ instant [] (ran [] 0 256 0 false 2) row9 (room (0 ∷ 2 ∷ 0 ∷ 2 ∷ 0 ∷ 2 ∷ 0 ∷ 0 ∷ []))
-    ∷ instant [] (ran [] 0 256 1 true 1) (2 ∷ 9 ∷ 9 ∷ 9 ∷ []) (room (3 ∷ 0 ∷ 0 ∷ 0 ∷ 0 ∷ 0 ∷ 0 ∷ 0 ∷ []))
+    (instant [] (ran [] 0 no-event 0 false 1) row9 (room (0 ∷ 2 ∷ 0 ∷ 0 ∷ 3 ∷ 0 ∷ 0 ∷ 0 ∷ []))
+    ∷ instant [] (ran [] 0 no-event 0 false 2) row9 (room (0 ∷ 2 ∷ 0 ∷ 2 ∷ 0 ∷ 2 ∷ 0 ∷ 0 ∷ []))
+    ∷ instant [] (ran [] 0 no-event 1 true 1) (2 ∷ 9 ∷ 9 ∷ 9 ∷ []) (room (3 ∷ 0 ∷ 0 ∷ 0 ∷ 0 ∷ 0 ∷ 0 ∷ 0 ∷ []))
     ∷ [])
     -- Local(0, Seq(Generate 1, Stop)): other events go out
     ∷ accepted (table (local 0 (seq (generate 1) stop)) [] 2) 1 0 4
     (instant [] (ran (1 ∷ []) 1 1 0 false 1) row9 (room (0 ∷ 2 ∷ 0 ∷ 3 ∷ []))
     ∷ [])
-    -- Generate 255: an event of each word
-    ∷ accepted (table (generate 255) [] 256) 1 0 1
-    (instant (63 ∷ 64 ∷ 191 ∷ []) (ran (63 ∷ 64 ∷ 191 ∷ 255 ∷ []) 4 63 0 true 1) row9 (room (3 ∷ []))
+    -- Generate of the last event: an event of each word
+    ∷ accepted (table (generate (places - 1)) [] places) 1 0 1
+    (instant (63 ∷ 64 ∷ 191 ∷ []) (ran (63 ∷ 64 ∷ 191 ∷ (places - 1) ∷ []) 4 63 0 true 1) row9 (room (3 ∷ []))
     ∷ [])
     ∷ []
 
@@ -454,12 +462,12 @@ tests =
     -- not 0: early unsat, late sat
     accepted (table (await 0) (no (event 0)) 1) 0 0 1
     (instant (0 ∷ []) (ran (0 ∷ []) 1 0 0 false 1) row9 (room (0 ∷ []))
-    ∷ instant [] (ran [] 0 256 0 false 2) row9 (room (3 ∷ []))
+    ∷ instant [] (ran [] 0 no-event 0 false 2) row9 (room (3 ∷ []))
     ∷ instant (0 ∷ []) (ran (0 ∷ []) 1 0 0 true 1) row9 (room (3 ∷ []))
     ∷ [])
     -- 0 and 1
     ∷ accepted (table (await 0) (both (event 0) (event 1)) 2) 0 0 1
-    (instant [] (ran [] 0 256 0 false 2) row9 (room (0 ∷ []))
+    (instant [] (ran [] 0 no-event 0 false 2) row9 (room (0 ∷ []))
     ∷ instant (0 ∷ []) (ran (0 ∷ []) 1 0 0 false 2) row9 (room (0 ∷ []))
     ∷ instant (1 ∷ []) (ran (1 ∷ []) 1 1 0 false 2) row9 (room (0 ∷ []))
     ∷ instant (0 ∷ 1 ∷ []) (ran (0 ∷ 1 ∷ []) 2 0 0 true 1) row9 (room (3 ∷ []))
@@ -467,7 +475,7 @@ tests =
     -- (not 0) and 1: early unsat by its first part
     ∷ accepted (table (await 0) (both (no (event 0)) (event 1)) 2) 0 0 1
     (instant (0 ∷ []) (ran (0 ∷ []) 1 0 0 false 1) row9 (room (0 ∷ []))
-    ∷ instant [] (ran [] 0 256 0 false 2) row9 (room (0 ∷ []))
+    ∷ instant [] (ran [] 0 no-event 0 false 2) row9 (room (0 ∷ []))
     ∷ instant (1 ∷ []) (ran (1 ∷ []) 1 1 0 false 2) row9 (room (3 ∷ []))
     ∷ [])
     -- 1 and (not 0): by its second
@@ -478,7 +486,7 @@ tests =
     ∷ [])
     -- 0 or 1: early sat by its first part, by its second
     ∷ accepted (table (await 0) (either (event 0) (event 1)) 2) 0 0 1
-    (instant [] (ran [] 0 256 0 false 2) row9 (room (0 ∷ []))
+    (instant [] (ran [] 0 no-event 0 false 2) row9 (room (0 ∷ []))
     ∷ instant (0 ∷ []) (ran (0 ∷ []) 1 0 0 true 1) row9 (room (3 ∷ []))
     ∷ [])
     ∷ accepted (table (await 0) (either (event 0) (event 1)) 2) 0 0 1
@@ -523,7 +531,7 @@ refused-tables =
     ∷ refused (nothing ++ trailer 4097 0 1 6 0) BadCounts 2 0
     ∷ refused (nothing ++ trailer 1 2049 1 6 0) BadCounts 2 0
     ∷ refused (nothing ++ trailer 1 0 0 6 0) BadCounts 2 0
-    ∷ refused (nothing ++ trailer 1 0 257 6 0) BadCounts 2 0
+    ∷ refused (nothing ++ trailer 1 0 (places + 1) 6 0) BadCounts 2 0
     -- 3: the distances, the length
     ∷ refused (nothing ++ trailer 1 0 1 7 0) BadDistances 3 0
     ∷ refused (nothing ++ trailer 1 0 1 6 4) BadDistances 3 0
@@ -578,7 +586,7 @@ refused-rooms =
     (turned-down (set (2 ∷ 5 ∷ 4 ∷ [])) [] (room (0 ∷ 0 ∷ 0 ∷ [])) (UnlistedEvent 4) 11 4
     ∷ turned-down (set (2 ∷ [])) [] (room (0 ∷ 0 ∷ 0 ∷ [])) AtomRoom 12 0
     ∷ instant-in (2 ∷ []) (9 ∷ []) (ran (2 ∷ []) 1 2 0 false 1) (9 ∷ []) (room (0 ∷ 3 ∷ 0 ∷ []))
-    ∷ instant-in [] (9 ∷ []) (ran [] 0 256 1 true 1) (4 ∷ []) (room (3 ∷ 0 ∷ 0 ∷ []))
+    ∷ instant-in [] (9 ∷ []) (ran [] 0 no-event 1 true 1) (4 ∷ []) (room (3 ∷ 0 ∷ 0 ∷ []))
     ∷ [])
     ∷ []
 

@@ -1,9 +1,9 @@
 -- What the calls for C write into the lent places of an answer, as numbers.
-use Prim.Native.Nat.{ℕ}
+use Prim.Native.Nat.{ℕ, _+_, _/_}
 use mathlib.Core.Bool.{cond}
 use mathlib.Core.Path.{_≡_}
 use mathlib.Core.List.{List, [], _∷_, _++_}
-use Rattle.events.specs.Members.{marks}
+use Rattle.events.specs.Members.{places, marks}
 use Rattle.table.specs.declared.Checked.{Checked}
 use Rattle.table.specs.Verdict.{numberOf, indexOf, figuresOf}
 use Rattle.kernel.specs.declared.Outcome.{Outcome}
@@ -23,13 +23,17 @@ abbrev pub instantPlaces : Answer → List ℕ
 instantPlaces a =
     startPlaces (a .outcome) ++ (a .count ∷ a .lowest ∷ a .atoms ∷ cond (a .finished) 1 0 ∷ a .passes ∷ a .events .words)
 
-pub record StartedInPlaces (t s s′ places : List ℕ) : Type 0 where
+-- how many they are
+abbrev pub instant-length : ℕ
+instant-length = 7 + places / 64
+
+pub record StartedInPlaces (t s s′ into : List ℕ) : Type 0 where
   pub outcome : Outcome
   pub started : Started t s s′ outcome
-  pub written : places ≡ startPlaces outcome
+  pub written : into ≡ startPlaces outcome
 
 -- `words` are those of the events handed in
-pub record AnsweredInPlaces (t s words row s′ row′ places : List ℕ) : Type 0 where
+pub record AnsweredInPlaces (t s words row s′ row′ into : List ℕ) : Type 0 where
   pub answer : Answer
   pub answered : Answered t s (marks words) row s′ row′ answer
-  pub written : places ≡ instantPlaces answer
+  pub written : into ≡ instantPlaces answer

@@ -1,14 +1,23 @@
 // The three calls for C: plain numbers and lent places. include/zapper.h says what stands in each place of an answer.
 ghost use mathlib.Core.Path.{_≡_};
+ghost use mathlib.Core.List.{_++_};
+ghost use Prim.Native.Nat.{_+_, _≤_};
+ghost use lib.ListN.{length, take, drop};
 ghost use Rattle.table.specs.Verdict.{verdictOf};
 ghost use Rattle.kernel.specs.Exports.{checkPlaces, StartedInPlaces, AnsweredInPlaces};
 use crate::instant;
 use crate::numbers::refusal_of;
 use crate::start;
 use events::EventSet;
+use events::WORDS;
 use table::Checked;
 use table::check;
 use table::numbers::refusal_of_table;
+
+// An instant's answer has so many places in front of the words of its events, and so many in all.
+const LEADING: usize = 7;
+
+const INSTANT_PLACES: usize = LEADING + WORDS;
 
 #[no_mangle]
 pub extern "C" fn zapper_check(table: &[u8], answer: &mut [u64; 5])
@@ -48,9 +57,9 @@ pub extern "C" fn zapper_start(table: &[u8], state: &mut [u8], answer: &mut [u64
 pub extern "C" fn zapper_instant(
     table: &[u8],
     state: &mut [u8],
-    handed_in: &[u64; 4],
+    handed_in: &[u64; WORDS],
     atoms: &mut [u16],
-    answer: &mut [u64; 11],
+    answer: &mut [u64; INSTANT_PLACES],
 )
     ensures { λ _. ⌜ AnsweredInPlaces (now (table .entry)) (now (state .entry)) (now («handed_in» .entry)) (now (atoms .entry)) (now (state .exit)) (now (atoms .exit)) (now (answer .exit)) ⌝ }
 {
@@ -58,8 +67,7 @@ pub extern "C" fn zapper_instant(
     let a = instant(table, state, EventSet { words }, atoms);
     let outcome = a.outcome;
     let refusal = refusal_of(outcome);
-    let present = a.events.words;
-    *answer = [
+    let leading = [
         refusal.number as u64,
         refusal.index as u64,
         a.count as u64,
@@ -67,9 +75,32 @@ pub extern "C" fn zapper_instant(
         a.atoms as u64,
         a.finished as u64,
         a.passes as u64,
-        present[0],
-        present[1],
-        present[2],
-        present[3],
     ];
+    let present = a.events.words;
+    *answer = places_of(leading, present);
+}
+
+// What stands in front of the words of the events, and these words.
+fn places_of(leading: [u64; LEADING], words: [u64; WORDS]) -> [u64; INSTANT_PLACES]
+    ensures { λ r. ⌜ r ≡ leading ++ words ⌝ }
+{
+    let mut row = [0; INSTANT_PLACES];
+    put_places(&mut row, 0, &leading);
+    put_places(&mut row, LEADING, &words);
+    row
+}
+
+// Numbers go into a row from a place on.
+fn put_places(row: &mut [u64], from: usize, numbers: &[u64])
+    requires { ⌜ from + length (now numbers) ≤ length (now row) ⌝ }
+    ensures { λ _.
+        ⌜ now (row .exit)
+        ≡ take from (now (row .entry))
+        ++ (now (numbers .entry) ++ drop (from + length (now (numbers .entry))) (now (row .entry))) ⌝ }
+{
+    let mut at = 0;
+    while at < numbers.len() {
+        row[from + at] = numbers[at];
+        at += 1;
+    }
 }

@@ -33,7 +33,7 @@ pub enum Outcome {
 // What an instant answers (01, "Rules of a pass").
 pub struct Answer {
     pub outcome: Outcome,
-    // The events present at its end, those handed in included; how many; the lowest, 256 if none.
+    // The events present at its end, those handed in included; how many; the lowest, `PLACES` if none.
     pub events: EventSet,
     pub count: usize,
     pub lowest: usize,

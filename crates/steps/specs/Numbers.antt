@@ -1,6 +1,6 @@
 -- The row of numbers that a pass carries: the event words, then one number each for how many atoms are done, whether something moved, whether
 -- the end is declared, and the byte of the table where the configurations begin. A number more is a place more here.
-use Prim.Native.Nat.{ℕ, _+_, _*_, _<_}
+use Prim.Native.Nat.{ℕ, _+_, _*_, _/_, _<_}
 use mathlib.Core.Bool.{Bool}
 use mathlib.Core.Path.{_≡_}
 use mathlib.Core.List.{List, [], _∷_, _++_}
@@ -8,27 +8,27 @@ use mir.Val.{boolByte}
 use lib.Dec.{eqb}
 use lib.ListN.{length, getD, take, drop, set, replicate}
 use Rattle.events.specs.Events.{put}
-use Rattle.events.specs.Members.{marks}
+use Rattle.events.specs.Members.{places, marks}
 use Rattle.table.specs.Records.{nodes}
 
 -- how many event words there are, and the places behind them
 abbrev pub event-words : ℕ
-event-words = 4
+event-words = places / 64
 
 abbrev pub atoms-at : ℕ
-atoms-at = 4
+atoms-at = event-words
 
 abbrev pub moved-at : ℕ
-moved-at = 5
+moved-at = event-words + 1
 
 abbrev pub ended-at : ℕ
-ended-at = 6
+ended-at = event-words + 2
 
 abbrev pub base-at : ℕ
-base-at = 7
+base-at = event-words + 3
 
 abbrev pub places-of-row : ℕ
-places-of-row = 8
+places-of-row = event-words + 4
 
 -- the event words of a row
 abbrev pub wordsOf : List ℕ → List ℕ

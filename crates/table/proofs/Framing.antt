@@ -8,6 +8,7 @@ use lib.ListN.{length}
 use lib.Dec.{eqb, leb}
 use borrow.Author.Tests.{eqb-true, leb-true, le-leb, lt-ltb, le-ltb}
 use Rattle.events.specs.Events.{lowest}
+use Rattle.events.specs.Members.{places}
 use Rattle.table.specs.declared.Checked.{Checked}
 use Rattle.table.specs.declared.Checked.the-variants.{BadLength, BadCounts, BadDistances, BadConfiguration}
 use Rattle.table.specs.declared.frame.Frame.{Frame}
@@ -24,7 +25,7 @@ unfolding lengthGood
 length-is t h k = rw (le-leb 16 (length t) h, le-leb (length t) 32778 k)
 
 pub counts : (t : List ℕ) (n m v : ℕ) → n ≡ nodes t → m ≡ configurations t → v ≡ events t
-    → countsGood t ≡ ((leb 1 n && leb n 4096) && (leb m 2048 && (leb 1 v && leb v 256)))
+    → countsGood t ≡ ((leb 1 n && leb n 4096) && (leb m 2048 && (leb 1 v && leb v places)))
 unfolding countsGood
 counts t n m v e f g = rw (e, f, g)
 

@@ -4,6 +4,7 @@ use mathlib.Core.Bool.{true}
 use mathlib.Core.Path.{_≡_}
 use mathlib.Core.List.{List}
 use lib.ListN.{length}
+use Rattle.events.specs.Members.{places}
 use Rattle.junior.specs.Program.{Program, size}
 use Rattle.table.specs.Records.{nodes, configurations, events, configurationAt}
 use Rattle.table.specs.Good.{goodConfiguration, goodNode}
@@ -23,7 +24,7 @@ pub record Framed (t : List ℕ) (n m v : ℕ) : Type 0 where
   pub n-most : n ≤ 4096
   pub m-most : m ≤ 2048
   pub v-least : 1 ≤ v
-  pub v-most : v ≤ 256
+  pub v-most : v ≤ places
 
 -- past 4
 abbrev pub ConfigurationsGood : List ℕ → Type 0

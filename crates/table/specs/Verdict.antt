@@ -5,6 +5,7 @@ use mathlib.Core.List.{List, [], _∷_, _++_}
 use lib.ListN.{length}
 use lib.Dec.{eqb, leb, ltb}
 use Rattle.events.specs.Events.{lowest}
+use Rattle.events.specs.Members.{places}
 use Rattle.junior.specs.Program.{Program, kind, Parts, no-part, one-part, two-parts, parts, size}
 use Rattle.junior.specs.Figures.{stops, G, A, W}
 use Rattle.table.specs.declared.Checked.{Checked}
@@ -65,7 +66,7 @@ lengthGood t = leb 16 (length t) && leb (length t) 32778
 unfoldable pub countsGood : List ℕ → Bool
 countsGood t =
     (leb 1 (nodes t) && leb (nodes t) 4096)
-    && (leb (configurations t) 2048 && (leb 1 (events t) && leb (events t) 256))
+    && (leb (configurations t) 2048 && (leb 1 (events t) && leb (events t) places))
 
 -- 3: the distances, and the length by N and M
 unfoldable pub distancesGood : List ℕ → Bool

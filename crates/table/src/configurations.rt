@@ -4,6 +4,7 @@ ghost use mathlib.Core.Bool.{true, not, cond, _&&_};
 ghost use Prim.Native.Nat.{ℕ, _+_, _*_, _≤_, _<_};
 ghost use lib.Dec.{eqb};
 ghost use Rattle.events.specs.Events.{lowest};
+ghost use Rattle.events.specs.Members.{places};
 ghost use Rattle.table.specs.Records.{configurations, events, partKind};
 ghost use Rattle.table.specs.Good.{parts, goodButHeight, heightAtMost, goodConfiguration};
 ghost use Rattle.table.specs.Inside.{Framed, ConfigurationsGood, Begins, SomeBegins};
@@ -64,7 +65,7 @@ fn closed(way: u32) -> u32
 // The configuration at byte c is a good event.
 fn lone(table: &[u8], v: usize, c: usize) -> bool
     requires { ⌜ SomeBegins (now table) c ⌝ }
-    requires { ⌜ (v ≡ events (now table)) × (v ≤ 256) ⌝ }
+    requires { ⌜ (v ≡ events (now table)) × (v ≤ places) ⌝ }
     ensures { λ r. ⌜ ((j : ℕ) → Begins (now (table .entry)) c j → r ≡ (eqb (partKind (now (table .entry)) c) 0 && goodButHeight (now (table .entry)) j)) ⌝ }
 {
     if word_at(table, c) < v {
@@ -122,7 +123,7 @@ fn lowest_bad(table: &[u8], n: usize, m: usize, v: usize) -> usize
 
 fn good(table: &[u8], v: usize, c: usize) -> bool
     requires { ⌜ SomeBegins (now table) c ⌝ }
-    requires { ⌜ (v ≡ events (now table)) × (v ≤ 256) ⌝ }
+    requires { ⌜ (v ≡ events (now table)) × (v ≤ places) ⌝ }
     ensures { λ r. ⌜ ((j : ℕ) → Begins (now (table .entry)) c j → r ≡ goodConfiguration (now (table .entry)) j) ⌝ }
 {
     if lone(table, v, c) {

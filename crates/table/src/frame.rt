@@ -4,11 +4,13 @@ ghost use Prim.Native.Nat.{_+_, _*_, _≤_, _<_};
 ghost use mathlib.Core.Bool.{_&&_};
 ghost use lib.Dec.{leb};
 ghost use lib.ListN.{length};
+ghost use Rattle.events.specs.Members.{places};
 ghost use Rattle.table.specs.Verdict.{distancesGood};
 ghost use Rattle.table.specs.Records.{nodes, configurations};
 ghost use Rattle.table.specs.Inside.Framing.{frameOf};
 use super::Checked;
 use super::records::word_at;
+use events::EventSet;
 
 // The refusal, or N, M and V.
 pub enum Frame {
@@ -39,7 +41,7 @@ pub fn frame_of(table: &[u8]) -> Frame
 }
 
 fn counts_good(n: usize, m: usize, v: usize) -> bool
-    ensures { λ r. ⌜ r ≡ ((leb 1 n && leb n 4096) && (leb m 2048 && (leb 1 v && leb v 256))) ⌝ }
+    ensures { λ r. ⌜ r ≡ ((leb 1 n && leb n 4096) && (leb m 2048 && (leb 1 v && leb v places))) ⌝ }
 {
     if n < 1 {
         return false;
@@ -53,7 +55,7 @@ fn counts_good(n: usize, m: usize, v: usize) -> bool
     if v < 1 {
         return false;
     }
-    v <= 256
+    v <= EventSet::PLACES
 }
 
 fn distances_good(table: &[u8], n: usize, m: usize) -> bool
