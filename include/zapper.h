@@ -34,6 +34,8 @@ enum { ZAPPER_NUMBER = 0, ZAPPER_INDEX = 1 };
  * most ZAPPER_WEIGHT nodes, a node counted every time that it is run (a Repeat once, its body once a repetition). An instant has at most
  * ZAPPER_GENERATIONS + 2 passes, so it runs at most (ZAPPER_GENERATIONS + 2) * ZAPPER_WEIGHT nodes. Nodes are counted as the rules run them;
  * checking the table and the state, reading a configuration and clearing a preempted body are not counted. All three are 0 if the table is refused.
+ * A Repeat whose body can't end in the instant that begins it counts the body twice at most. What can't is worked out from the tests too: an Await
+ * whose test can't be true before the instant's end, a When or Until whose parts that can be reached before it can't.
  */
 enum { ZAPPER_GENERATIONS = 2, ZAPPER_MOST_ATOMS = 3, ZAPPER_WEIGHT = 4, ZAPPER_CHECK_PLACES = 5 };
 

@@ -46,6 +46,18 @@ impl Config {
     pub fn unsat(&self, e: Env) -> bool {
         self.fixed(e) && !self.eval(e)
     }
+
+    /// The form of the configuration lets it have this value before the end is declared (L2).
+    pub fn early(&self, value: bool) -> bool {
+        match self {
+            Config::Event(_) => value,
+            Config::Not(c) => c.early(!value),
+            Config::And(c1, c2) if value => c1.early(true) && c2.early(true),
+            Config::And(c1, c2) => c1.early(false) || c2.early(false),
+            Config::Or(c1, c2) if value => c1.early(true) || c2.early(true),
+            Config::Or(c1, c2) => c1.early(false) && c2.early(false),
+        }
+    }
 }
 
 #[cfg(test)]

@@ -25,13 +25,16 @@ pub fn load(root: &Node) -> Result<Figures, Refusal> {
     Ok(figures)
 }
 
-/// A node stops if, freshly begun, it can't end in that same instant.
-fn stops(node: &Node) -> bool {
+/// A node stops if, freshly begun, it can't end in that same instant: by L2, whose rule asks of a branch
+/// that a test leads to only where the test can be decided so before the end.
+pub fn stops(node: &Node) -> bool {
     match &node.written {
         Written::Stop | Written::Loop(_) => true,
-        Written::Nothing | Written::Atom(_) | Written::Generate(_) | Written::Await(_) => false,
+        Written::Nothing | Written::Atom(_) | Written::Generate(_) => false,
         Written::Seq(first, second) | Written::Par(first, second) => stops(first) || stops(second),
-        Written::When(_, first, second) | Written::Until(_, first, second) => stops(first) && stops(second),
+        Written::Await(c) => !c.early(true),
+        Written::When(c, then, other) => (!c.early(true) || stops(then)) && (!c.early(false) || stops(other)),
+        Written::Until(c, body, handler) => stops(body) && (!c.early(true) || stops(handler)),
         Written::Control(_, body) | Written::Local(_, body) => stops(body),
         Written::Repeat(count, body) => *count >= 1 && stops(body),
     }

@@ -62,7 +62,7 @@ fn room<'a>(program: &Program, state: &'a mut [u8]) -> Result<&'a mut [u8], Refu
 }
 
 /// Instant(t) of 000, 5.2: the answer, the residual, the present events and the number of passes.
-fn passes(t: Term, handed: Events, actions: &mut Actions) -> (Flag, Term, Events, usize) {
+pub fn passes(t: Term, handed: Events, actions: &mut Actions) -> (Flag, Term, Events, usize) {
     let mut now = t;
     let mut e = Env { present: handed, eoi: false, moved: false };
     let mut passes = 0;

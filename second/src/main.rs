@@ -26,8 +26,8 @@ use std::io::{BufWriter, Read, Result, Write};
 use std::path::Path;
 use std::process::ExitCode;
 
-const USAGE: &str = "usage: second calls | run | make calls CASES SEED | make edges | make texts CASES SEED \
-                     | make text-edges | make listing SEED DIR";
+const USAGE: &str = "usage: second calls | run | make calls CASES SEED | make edges | make loops CASES SEED \
+                     | make texts CASES SEED | make text-edges | make listing SEED DIR";
 
 fn main() -> ExitCode {
     let arguments: Vec<String> = std::env::args().skip(1).collect();
@@ -41,6 +41,10 @@ fn main() -> ExitCode {
             _ => return misused(),
         },
         ["make", "edges"] => print_lines(&mut out, make::edges::lines()),
+        ["make", "loops", cases, seed] => match (cases.parse(), seed.parse()) {
+            (Ok(cases), Ok(seed)) => print_lines(&mut out, make::loops::lines(cases, seed)),
+            _ => return misused(),
+        },
         ["make", "texts", cases, seed] => match (cases.parse(), seed.parse()) {
             (Ok(cases), Ok(seed)) => print_lines(&mut out, make::texts::lines(cases, seed)),
             _ => return misused(),

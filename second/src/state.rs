@@ -25,7 +25,7 @@ fn put(room: &mut [u8], node: &Node, cell: Cell) {
 }
 
 /// The children of a node, the first one first.
-fn below(node: &Node) -> Vec<&Node> {
+pub fn below(node: &Node) -> Vec<&Node> {
     match &node.written {
         Written::Nothing | Written::Stop | Written::Atom(_) | Written::Generate(_) | Written::Await(_) => vec![],
         Written::Loop(body) | Written::Repeat(_, body) | Written::Control(_, body) | Written::Local(_, body) => {

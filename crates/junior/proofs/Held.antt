@@ -1,5 +1,5 @@
 -- What stops can't end in its instant: so a Loop's body that stops never answers TERM in the pass that begins it.
-use mathlib.Core.Bool.{Bool, true, false, _&&_, _||_, and-eq-true-iff, false≢true, or-true}
+use mathlib.Core.Bool.{Bool, true, false, not, _&&_, _||_, and-eq-true-iff, false≢true, or-true}
 use mathlib.Core.Path.{_≡_, refl, ap, ap₂, sym, _∙_, subst}
 use mathlib.Core.Logic.{_≢_}
 use mathlib.Core.List.{List}
@@ -8,7 +8,7 @@ use lib.Dec.{leb}
 use Rattle.junior.specs.declared.Flag.{Flag}
 use Rattle.junior.specs.declared.Flag.the-variants.{SUSP, STOP, TERM}
 use Rattle.junior.specs.Flags.{γ, δ₁, δ₂}
-use Rattle.junior.specs.Configuration.{Env}
+use Rattle.junior.specs.Configuration.{Env, early-true, early-false}
 use Rattle.junior.specs.Program.{Program, Nothing, Stop, Atom, Seq, Par, Loop, Repeat, Generate, Await, When}
 use Rattle.junior.specs.Program.{Until, Control, Local}
 use Rattle.junior.specs.Term.{Term, done, nothing, stop, atom, generate, await, seq0, seq2, par, loop0, loop1}
@@ -21,8 +21,9 @@ use Rattle.junior.specs.Rules.{r13, r4-loop, r5-loop, r14, r15, r4-repea
 use Rattle.junior.specs.Rules.{r19, r19-on, r20, r21, r22, r23, r24, r25, r26, r27, r28, r29, r30, r31, r31-on}
 use Rattle.junior.specs.Rules.{r32, r33, r34, r35-39}
 use Rattle.junior.specs.Instant.{Instant, r47, r48, r49}
-use Rattle.junior.specs.Figures.{stops}
+use Rattle.junior.specs.Figures.{only-if, stops}
 use Rattle.junior.proofs.Kept.{kept}
+use Rattle.junior.proofs.Verdicts.{sat-early, unsat-early}
 
 -- held or not, once the flag is known: who stopped can't end, who ended isn't held
 abbrev pub live : Flag → Bool → Bool
@@ -37,7 +38,7 @@ held nothing = false
 held stop = true
 held (atom a) = false
 held (generate s) = false
-held (await c) = false
+held (await c) = not (early-true c)
 held (seq0 t q) = held t || stops q
 held (seq2 p t) = held t
 held (par α β t u) = live α (held t) || live β (held u)
@@ -45,11 +46,11 @@ held (loop0 p) = true
 held (loop1 t) = true
 held (repeat0 n p) = leb 1 n && stops p
 held (repeat1 n k t) = held t || (leb 1 k && stops (prog t))
-held (when0 c p q) = stops p && stops q
+held (when0 c p q) = only-if (early-true c) (stops p) && only-if (early-false c) (stops q)
 held (when1 c t q) = held t
 held (when2 c p t) = held t
-held (until0 c t q) = held t && stops q
-held (until* c t q) = stops q
+held (until0 c t q) = held t && only-if (early-true c) (stops q)
+held (until* c t q) = only-if (early-true c) (stops q)
 held (until2 c p t) = held t
 held (control s t) = held t
 held (local b s t) = held t
@@ -66,12 +67,12 @@ held-fresh (Repeat n p) = refl
 held-fresh (Generate s) = refl
 held-fresh (Await c) = refl
 held-fresh (When c p q) = refl
-held-fresh (Until c p q) = ap (λ x. x && stops q) (held-fresh p)
+held-fresh (Until c p q) = ap (λ x. x && only-if (early-true c) (stops q)) (held-fresh p)
 held-fresh (Control s p) = held-fresh p
 held-fresh (Local s p) = held-fresh p
 
 -- an either-or, part by part
-either : (a b : Bool) {c d : Bool}
+pub either : (a b : Bool) {c d : Bool}
     → (a ≡ true → c ≡ true)
     → (b ≡ true → d ≡ true)
     → (a || b) ≡ true
@@ -83,6 +84,10 @@ either false b {c} {d} f g h = ap (λ x. c || x) (g h) ∙ or-true c
 or-else : (a b : Bool) → (a ≡ true → false ≡ true) → (a || b) ≡ true → b ≡ true
 or-else true b f h = absurd (false≢true (f refl))
 or-else false b f h = h
+
+-- what is needed only if possible, where it is possible
+needed : {a b : Bool} → a ≡ true → only-if a b ≡ true → b ≡ true
+needed e h = rw e at h
 
 -- how `live` goes with the shapes of the rules' answers
 live-leave : (α : Flag) (t : Term) → live α (held (leave α t)) ≡ live α (held t)
@@ -163,26 +168,26 @@ stays-held (r4-repeat {n = n} {k = k} {t = t} d e) h =
 stays-held (r5-repeat {k = k} {t = t} {r = r} d n) h =
     simp (live-leave, kept d) (live-or (r .flag) (held t) (held (r .to)) (leb 1 k && stops (prog t)) n (λ x. stays-held d x) h)
 stays-held r16 h = h
-stays-held (r17 {p = p} {q = q} s o d) h =
-    simp live-leave (stays-held d (held-fresh p ∙ and-eq-true-iff (stops p) (stops q) .0 h .0))
+stays-held (r17 {E = E} {c = c} {p = p} s o d) h =
+    simp live-leave (stays-held d (held-fresh p ∙ needed (sat-early c E o s) (and-eq-true-iff (only-if (early-true c) (stops p)) _ .0 h .0)))
 stays-held (r17-on d) h = simp live-leave (stays-held d h)
 stays-held (r18 s o) h = refl
-stays-held (r19 {p = p} {q = q} s o d) h =
-    simp live-leave (stays-held d (held-fresh q ∙ and-eq-true-iff (stops p) (stops q) .0 h .1))
+stays-held (r19 {E = E} {c = c} {p = p} {q = q} s o d) h =
+    simp live-leave (stays-held d (held-fresh q ∙ needed (unsat-early c E o s) (and-eq-true-iff (only-if (early-true c) (stops p)) _ .0 h .1)))
 stays-held (r19-on d) h = simp live-leave (stays-held d h)
 stays-held (r20 s o) h = refl
 stays-held (r21 s) h = h
-stays-held (r22 s o) h = h
+stays-held (r22 {E = E} {c = c} s o) h = rw (sat-early c E o s) at h
 stays-held (r23 s o) h = refl
 stays-held (r24 s) h = refl
 stays-held (r25 s) h = h
 stays-held (r26 s d) h = simp live-leave (stays-held d h)
 stays-held (r27 s) h = refl
 stays-held (r28 s) h = h
-stays-held (r29 {t = t} {q = q} {r = r} d n) h =
-    simp live-leave (live-and (r .flag) (held t) (held (r .to)) (stops q) (λ x. stays-held d x) h)
-stays-held (r30 {t = t} {q = q} d e) h = stays-held e (and-eq-true-iff (held t) (stops q) .0 h .1)
-stays-held (r31 {q = q} s o d) h = simp live-leave (stays-held d (held-fresh q ∙ h))
+stays-held (r29 {c = c} {t = t} {q = q} {r = r} d n) h =
+    simp live-leave (live-and (r .flag) (held t) (held (r .to)) (only-if (early-true c) (stops q)) (λ x. stays-held d x) h)
+stays-held (r30 {c = c} {t = t} {q = q} d e) h = stays-held e (and-eq-true-iff (held t) (only-if (early-true c) (stops q)) .0 h .1)
+stays-held (r31 {E = E} {c = c} {q = q} s o d) h = simp live-leave (stays-held d (held-fresh q ∙ needed (sat-early c E o s) h))
 stays-held (r31-on d) h = simp live-leave (stays-held d h)
 stays-held (r32 s o) h = refl
 stays-held (r33 s) h = refl

@@ -21,3 +21,4 @@ pub mod Counted
 pub mod AsPrinted
 pub mod PrintedOnce
 pub mod Demand3
+pub mod StoppedBefore

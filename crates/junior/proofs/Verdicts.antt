@@ -1,5 +1,6 @@
 -- Reading a configuration: `fixed` and `eval` together are three-valued logic; a verdict once given stays where no event's changes but from
--- unknown, so it holds of every set of events that the instant can still end with; once the end is declared every configuration has one.
+-- unknown, so it holds of every set of events that the instant can still end with; once the end is declared every configuration has one;
+-- before it only one that can be early.
 use Prim.Native.Nat.{ℕ}
 use mathlib.Core.Bool.{Bool, true, false, not, _&&_, _||_, or-true}
 use mathlib.Core.Path.{_≡_, refl, ap, sym, _∙_, subst}
@@ -9,7 +10,7 @@ use Rattle.events.specs.Events.{Events}
 use Rattle.junior.specs.declared.Verdict.{Verdict}
 use Rattle.junior.specs.declared.Verdict.the-variants.{Sat, Unsat, Unknown}
 use Rattle.junior.specs.Configuration.{Env, declared-end, handed-in, Config, Event, Not, And, Or, eval, fixed}
-use Rattle.junior.specs.Configuration.{verdict, test}
+use Rattle.junior.specs.Configuration.{verdict, test, early-true, early-false}
 use Rattle.junior.specs.Course.{_⊆_}
 
 -- the tables of three-valued logic
@@ -221,3 +222,56 @@ known-present s E p h = decided≢Unknown true (rw (test-event s E, p) at h)
 pub present : (s : ℕ) (E : Env) → test (Event s) E ≡ Sat → E .now s ≡ true
 unfolding eval
 present s E v = lasts (Event s) E (E .now) v (as-it-is E)
+
+-- a verdict that a configuration can have early, true and false being possible so
+abbrev Early : Bool → Bool → Verdict → Type 0
+Early can-true can-false Sat = can-true ≡ true
+Early can-true can-false Unsat = can-false ≡ true
+Early can-true can-false Unknown = Unit {0}
+
+early-not : (v : Verdict) (a b : Bool) → Early a b v → Early b a (not₃ v)
+early-not Sat a b h = h
+early-not Unsat a b h = h
+early-not Unknown a b h = tt
+
+early-and : (u v : Verdict) (a b c d : Bool) → Early a b u → Early c d v → Early (a && c) (b || d) (and₃ u v)
+early-and Sat Sat a b c d h k = rw (h, k)
+early-and Sat Unsat a b c d h k = rw k (or-true b)
+early-and Sat Unknown a b c d h k = tt
+early-and Unsat v a b c d h k = rw h
+early-and Unknown Sat a b c d h k = tt
+early-and Unknown Unsat a b c d h k = rw k (or-true b)
+early-and Unknown Unknown a b c d h k = tt
+
+early-or : (u v : Verdict) (a b c d : Bool) → Early a b u → Early c d v → Early (a || c) (b && d) (or₃ u v)
+early-or Sat v a b c d h k = rw h
+early-or Unsat Sat a b c d h k = rw k (or-true a)
+early-or Unsat Unsat a b c d h k = rw (h, k)
+early-or Unsat Unknown a b c d h k = tt
+early-or Unknown Sat a b c d h k = rw k (or-true a)
+early-or Unknown Unsat a b c d h k = tt
+early-or Unknown Unknown a b c d h k = tt
+
+read-early : (c : Config) (E : Env) → E .eoi ≡ false → Early (early-true c) (early-false c) (test c E)
+unfolding early-true early-false
+read-early (Event s) E e = rw (test-event s E, e) (go (E .now s))
+  where
+    go : (b : Bool) → Early true false (verdict (b || false) b)
+    go true = refl
+    go false = tt
+read-early (Not c) E e = rw (test-not c E) (early-not (test c E) (early-true c) (early-false c) (read-early c E e))
+read-early (And c d) E e =
+    rw
+    (test-and c d E)
+    (early-and (test c E) (test d E) (early-true c) (early-false c) (early-true d) (early-false d) (read-early c E e) (read-early d E e))
+read-early (Or c d) E e =
+    rw
+    (test-or c d E)
+    (early-or (test c E) (test d E) (early-true c) (early-false c) (early-true d) (early-false d) (read-early c E e) (read-early d E e))
+
+-- read as sat before the end it can be early true, read as unsat early false
+pub sat-early : (c : Config) (E : Env) → E .eoi ≡ false → test c E ≡ Sat → early-true c ≡ true
+sat-early c E e h = rw h at (read-early c E e)
+
+pub unsat-early : (c : Config) (E : Env) → E .eoi ≡ false → test c E ≡ Unsat → early-false c ≡ true
+unsat-early c E e h = rw h at (read-early c E e)

@@ -70,3 +70,19 @@ unsat c E = test c E ≡ Unsat
 
 abbrev pub unknown : Config → Env → Type 0
 unknown c E = test c E ≡ Unknown
+
+-- Reading a configuration early, before the end is declared (L2): "Say whether a configuration can be true early or false early: an event
+-- early true only; not exchanges the two; and is early true if both can be, early false if either can; or the reverse." This goes by the
+-- form alone: `(0 and (not 0))` can be early false only.
+unfoldable mutual
+  pub early-true : Config → Bool
+  early-true (Event s) = true
+  early-true (Not c) = early-false c
+  early-true (And c d) = early-true c && early-true d
+  early-true (Or c d) = early-true c || early-true d
+
+  pub early-false : Config → Bool
+  early-false (Event s) = false
+  early-false (Not c) = early-true c
+  early-false (And c d) = early-false c || early-false d
+  early-false (Or c d) = early-false c && early-false d

@@ -14,3 +14,4 @@ pub mod Activations
 pub mod Demand3
 pub mod Printed
 pub mod Visits
+pub mod StoppedBefore

@@ -9,7 +9,7 @@ use Rattle.events.specs.declared.EventSet.{EventSet}
 use Rattle.events.specs.Events.{none, put, howMany, lowest}
 use Rattle.events.specs.Members.{marks, members}
 use Rattle.events.proofs.Words.{marks-zeros}
-use Rattle.junior.specs.Configuration.{test, fixed, eval}
+use Rattle.junior.specs.Configuration.{test, fixed, eval, early-true, early-false}
 use Rattle.junior.specs.Program.{size, kind}
 use Rattle.junior.specs.Term.{Term, prog, fresh, leave}
 use Rattle.junior.specs.Trace.{collect}
@@ -41,7 +41,7 @@ use Rattle.kernel.specs.Answer.{outcomeNumber, outcomeIndex, onAccepted,
 use Rattle.kernel.specs.Answer.{Started}
 use Rattle.kernel.specs.Bench.{Line, Entry, accepted, refused, not-started, not-run, Checks, Starts, Answers, Follow, Alone}
 use Rattle.kernel.specs.Bench.{word-of, words-of, set, turned-down, Shown, All, phases, K1-to-K12, more-of-the-forms, tests}
-use Rattle.kernel.specs.Bench.{figures, refused-tables, refused-rooms, not-at-rest, bench-list}
+use Rattle.kernel.specs.Bench.{figures, harmless-loops, refused-tables, refused-rooms, not-at-rest, bench-list}
 use Rattle.kernel.proofs.Accepted.{admitted}
 use Rattle.kernel.proofs.Outcomes.{start-ran}
 use Rattle.kernel.proofs.OneAnswer.{ran-or-not, one-start}
@@ -265,13 +265,14 @@ pub bench : All Shown bench-list
 unfolding computed listed if-accepted if-refused judged told told-by told-alone alone-by ran-or-not signs fit placed word-of words-of phases
     verdictOf recordsVerdict nodesVerdict programVerdict lengthGood countsGood distancesGood preorder firstSuch light numberOf indexOf
     figuresOf goodNode laidOut children argumentLimit goodConfiguration goodButHeight heightAtMost parts configurationOf form programOf
-    size kind stops figure outcomeNumber outcomeIndex startOutcome startedRoom instantOutcome rests phaseRests flagsRest countRests zeroNode
-    zeroNodes lowest howMany marks put test fixed eval prog fresh leave collect below ends ends-within ends-by pass-exists begins goes-by
+    size kind stops early-true early-false figure outcomeNumber outcomeIndex startOutcome startedRoom instantOutcome rests phaseRests flagsRest
+    countRests zeroNode zeroNodes lowest howMany marks put test fixed eval prog fresh leave collect below ends ends-within ends-by pass-exists begins goes-by
     seq0-runs loop0-runs loop1-runs repeat0-runs repeat1-runs again-runs await-runs when0-runs until0-runs until*-runs control-runs
 bench =
     and-all K1-to-K12 _ (all-show K1-to-K12 refl)
     (and-all more-of-the-forms _ (all-show more-of-the-forms refl)
     (and-all tests _ (all-show tests refl)
     (and-all figures _ (all-show figures refl)
+    (and-all harmless-loops _ (all-show harmless-loops refl)
     (and-all refused-tables _ (all-show refused-tables refl)
-    (and-all refused-rooms _ (all-show refused-rooms refl) (all-show not-at-rest refl))))))
+    (and-all refused-rooms _ (all-show refused-rooms refl) (all-show not-at-rest refl)))))))

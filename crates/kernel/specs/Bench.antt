@@ -519,6 +519,56 @@ figures =
     ∷ refused (table (repeat 65535 nothing) [] 1) TooHeavy 8 0
     ∷ []
 
+-- What stops by when its test can be decided early (L2)
+abbrev pub harmless-loops : List Entry
+harmless-loops =
+    -- Loop(When(0, Stop, Nothing)): 0 can be true early only, so the else branch needn't stop; with 0 absent, present, absent
+    accepted (table (loop (when 0 stop nothing)) (event 0) 1) 0 0 5
+    (instant [] (ran [] 0 no-event 0 false 2) row9 (room (1 ∷ 2 ∷ 0 ∷ 0 ∷ []))
+    ∷ instant (0 ∷ []) (ran (0 ∷ []) 1 0 0 false 1) row9 (room (1 ∷ 1 ∷ 3 ∷ 0 ∷ []))
+    ∷ instant [] (ran [] 0 no-event 0 false 2) row9 (room (1 ∷ 2 ∷ 0 ∷ 0 ∷ []))
+    ∷ [])
+    -- Loop(When(not 0, Nothing, Stop)): early false only; Loop(When(not 0, Stop, Nothing)): its else branch doesn't stop
+    ∷ accepted (table (loop (when 0 nothing stop)) (no (event 0)) 1) 0 0 5
+    (instant [] (ran [] 0 no-event 0 false 2) row9 (room (1 ∷ 1 ∷ 0 ∷ 0 ∷ []))
+    ∷ instant (0 ∷ []) (ran (0 ∷ []) 1 0 0 false 1) row9 (room (1 ∷ 2 ∷ 0 ∷ 3 ∷ []))
+    ∷ [])
+    ∷ refused (table (loop (when 0 stop nothing)) (no (event 0)) 1) (EndlessLoop 0) 7 0
+    -- Loop(Await(not 0)), which can't be true early; Loop(Await(not not 0)) can, as Loop(Await 0) can, K8
+    ∷ accepted (table (loop (await 0)) (no (event 0)) 1) 0 0 3
+    (instant [] (ran [] 0 no-event 0 false 2) row9 (room (1 ∷ 3 ∷ []))
+    ∷ instant (0 ∷ []) (ran (0 ∷ []) 1 0 0 false 1) row9 (room (1 ∷ 0 ∷ []))
+    ∷ [])
+    ∷ refused (table (loop (await 0)) (no (no (event 0))) 1) (EndlessLoop 0) 7 0
+    -- the part of another configuration, by itself: Loop(Await 0) beside not 0
+    ∷ refused (table (loop (await 1)) (no (event 0)) 1) (EndlessLoop 0) 7 0
+    -- Loop(Until(not 0, Stop, Nothing)): the handler can't come early; Loop(Until(0, Stop, Nothing)): it can; Loop(Until(not 0, Nothing, Stop)): the body
+    ∷ accepted (table (loop (until 0 stop nothing)) (no (event 0)) 1) 0 0 7
+    (instant [] (ran [] 0 no-event 0 false 2) row9 (room (1 ∷ 2 ∷ 0 ∷ 0 ∷ []))
+    ∷ instant (0 ∷ []) (ran (0 ∷ []) 1 0 0 false 1) row9 (room (1 ∷ 0 ∷ 3 ∷ 0 ∷ []))
+    ∷ [])
+    ∷ refused (table (loop (until 0 stop nothing)) (event 0) 1) (EndlessLoop 0) 7 0
+    ∷ refused (table (loop (until 0 nothing stop)) (no (event 0)) 1) (EndlessLoop 0) 7 0
+    -- an and is early true if both can be: 0 and not 1, 0 and not 0; 0 and 1
+    ∷ accepted (table (loop (await 0)) (both (event 0) (no (event 1))) 2) 0 0 3 []
+    ∷ accepted (table (loop (await 0)) (both (event 0) (no (event 0))) 1) 0 0 3 []
+    ∷ refused (table (loop (await 0)) (both (event 0) (event 1)) 2) (EndlessLoop 0) 7 0
+    -- early false if either can: 0 and 1; 0 and not 1
+    ∷ accepted (table (loop (when 0 stop nothing)) (both (event 0) (event 1)) 2) 0 0 5 []
+    ∷ refused (table (loop (when 0 stop nothing)) (both (event 0) (no (event 1))) 2) (EndlessLoop 0) 7 0
+    -- an or is early true if either can be: not 0 or not 1; 0 or not 1
+    ∷ accepted (table (loop (await 0)) (either (no (event 0)) (no (event 1))) 2) 0 0 3 []
+    ∷ refused (table (loop (await 0)) (either (event 0) (no (event 1))) 2) (EndlessLoop 0) 7 0
+    -- early false if both can: 0 or not 1, 0 or not 0; not 0 or not 1
+    ∷ accepted (table (loop (when 0 stop nothing)) (either (event 0) (no (event 1))) 2) 0 0 5 []
+    ∷ accepted (table (loop (when 0 stop nothing)) (either (event 0) (no (event 0))) 1) 0 0 5 []
+    ∷ refused (table (loop (when 0 stop nothing)) (either (no (event 0)) (no (event 1))) 2) (EndlessLoop 0) 7 0
+    -- Repeat(9, Seq(Generate 0, Await(not 0))): the body stops, so the figures count it twice; Repeat(65535, Await(not 0)) is no longer too heavy
+    ∷ accepted (table (repeat 9 (seq (generate 0) (await 0))) (no (event 0)) 1) 2 0 7 []
+    ∷ accepted (table (repeat 65535 (await 0)) (no (event 0)) 1) 0 0 3 []
+    ∷ refused (table (repeat 65535 (await 0)) (event 0) 1) TooHeavy 8 0
+    ∷ []
+
 -- Refusals 1 to 5 and 7 (6 is run only, 01)
 abbrev pub refused-tables : List Entry
 refused-tables =
@@ -565,7 +615,7 @@ refused-tables =
     ∷ refused (table (seq (loop (seq stop nothing)) (loop (seq nothing (atom 1)))) [] 1) (EndlessLoop 5) 7 5
     ∷ refused (table (seq (loop (par stop nothing)) (seq (loop (par nothing stop)) (loop (par nothing nothing)))) [] 1) (EndlessLoop 10) 7 10
     ∷ refused (table (seq (loop (repeat 1 stop)) (loop (repeat 0 stop))) [] 1) (EndlessLoop 4) 7 4
-    ∷ refused (table (seq (loop (when 0 stop stop)) (loop (when 0 stop nothing))) (event 0) 1) (EndlessLoop 5) 7 5
+    ∷ refused (table (seq (loop (when 0 stop stop)) (loop (when 0 nothing stop))) (event 0) 1) (EndlessLoop 5) 7 5
     ∷ refused (table (seq (loop (until 0 stop stop)) (loop (until 0 nothing stop))) (event 0) 1) (EndlessLoop 5) 7 5
     ∷ refused (table (seq (loop (control 0 stop)) (loop (control 0 nothing))) [] 1) (EndlessLoop 4) 7 4
     ∷ refused (table (seq (loop (local 0 stop)) (loop (local 0 nothing))) [] 1) (EndlessLoop 4) 7 4
@@ -651,4 +701,5 @@ not-at-rest =
 
 abbrev pub bench-list : List Entry
 bench-list =
-    K1-to-K12 ++ (more-of-the-forms ++ (tests ++ (figures ++ (refused-tables ++ (refused-rooms ++ (not-at-rest))))))
+    K1-to-K12
+    ++ (more-of-the-forms ++ (tests ++ (figures ++ (harmless-loops ++ (refused-tables ++ (refused-rooms ++ (not-at-rest)))))))

@@ -1,5 +1,5 @@
 -- What an accepted table has, and what suffices for a table to be judged by its program.
-use Prim.Native.Nat.{ℕ}
+use Prim.Native.Nat.{ℕ, _≤_, _<_}
 use mathlib.Core.Bool.{Bool, true, false, cond, not}
 use mathlib.Core.Path.{_≡_, refl}
 use mathlib.Core.Logic.{_≢_}
@@ -51,29 +51,34 @@ pub passed : {C : Type 0} (P : C → Type 0) (b : Bool) {x y : C} → P (cond b 
 passed P true e n = absurd (n e)
 passed P false e n = (refl, e)
 
-abbrev Accepts : Checked → Type 0
-Accepts c = numberOf c ≡ 0
+-- none of refusals 1 to 5
+abbrev pub Past5 : Checked → Type 0
+Past5 c = 1 ≤ numberOf c → 5 < numberOf c
 
+-- a table past 1 to 5
 pub record Accepted (t : List ℕ) : Type 0 where
   pub loaded : Loaded t
   pub verdict-is : verdictOf t ≡ programVerdict (treeOf t)
 
-pub accepted : (t : List ℕ) → numberOf (verdictOf t) ≡ 0 → Accepted t
+pub past-5 : (t : List ℕ) → Past5 (verdictOf t) → Accepted t
 unfolding verdictOf recordsVerdict nodesVerdict numberOf frameOf
-accepted t h =
-    let l = chosen Accepts (lengthGood t) h (λ e. omega arith) in
-    let c = chosen Accepts (countsGood t) (l .1) (λ e. omega arith) in
-    let d = chosen Accepts (distancesGood t) (c .1) (λ e. omega arith) in
+past-5 t h =
+    let l = chosen Past5 (lengthGood t) h (λ e. omega (arith, e (omega arith))) in
+    let c = chosen Past5 (countsGood t) (l .1) (λ e. omega (arith, e (omega arith))) in
+    let d = chosen Past5 (distancesGood t) (c .1) (λ e. omega (arith, e (omega arith))) in
     let bad-configuration = lowest (configurations t) (λ j. not (goodConfiguration t j)) in
-    let g = passed Accepts (ltb bad-configuration (configurations t)) (d .1) (λ e. omega arith) in
+    let g = passed Past5 (ltb bad-configuration (configurations t)) (d .1) (λ e. omega (arith, e (omega arith))) in
     let bad-node = lowest (nodes t) (λ i. not (goodNode t i)) in
-    let n = passed Accepts (ltb bad-node (nodes t)) (g .1) (λ e. omega arith) in
+    let n = passed Past5 (ltb bad-node (nodes t)) (g .1) (λ e. omega (arith, e (omega arith))) in
     let good = none-bad (goodConfiguration t) (configurations t) bad-configuration refl (ltb-false bad-configuration (configurations t) (g .0)) in
     let all = none-bad (goodNode t) (nodes t) bad-node refl (ltb-false bad-node (nodes t) (n .0)) in
     record {
       loaded = record { framed = frame-counts t _ _ _ (rw (l .0, c .0, d .0)); configurations-good = good; nodes-good = all };
       verdict-is = by-program t (l .0) (c .0) (d .0) good all;
     }
+
+pub accepted : (t : List ℕ) → numberOf (verdictOf t) ≡ 0 → Accepted t
+accepted t h = past-5 t (λ l. absurd (omega arith))
 
 -- the arms of a match on a verdict beside `Accepted`
 pub not-accepted : (c : Checked) → OneOf (0 ∷ 1 ∷ 2 ∷ 3 ∷ 4 ∷ 5 ∷ 6 ∷ 7 ∷ []) (tagOf the-type c) → numberOf c ≢ 0

@@ -24,6 +24,8 @@ pub mod Placing
 pub mod Swept
 pub mod Answers
 pub mod TestParts
+pub mod KnownEarly
 pub mod Loaded
 pub mod Subtrees
 pub mod Accepted
+pub mod HarmlessLoops

@@ -1,19 +1,22 @@
 -- What a program of a kind with no part, one or two is made of: its size, its nodes in order, its figures, whether it stops.
-use Prim.Native.Nat.{ℕ, suc, _+_, _*_, _≤_, max}
+use Prim.Native.Nat.{ℕ, zero, suc, _+_, _*_, _≤_, max}
 use mathlib.Core.Bool.{Bool, true, false, cond, not, _&&_, _||_}
 use mathlib.Core.Path.{_≡_, refl, ap, _∙_}
 use mathlib.Core.List.{List, [], _∷_, _++_}
 use native.Mathlib.Omega.{arith}
-use lib.Dec.{eqb, leb}
+use lib.Dec.{eqb, leb, eqb·suc-zero}
+use borrow.Author.Tests.{le-leb}
+use Rattle.junior.specs.Configuration.{Config, early-true, early-false}
 use Rattle.junior.specs.Program.{Program, Nothing, Stop, Atom, Seq, Par, Loop, Repeat, Generate, Await, When, Until}
 use Rattle.junior.specs.Program.{Control, Local, Argument, no-argument, number, event, configuration, argument, kind}
 use Rattle.junior.specs.Program.{Leaf, nothing, stop, atom, generate, await, One, loop, repeat, control, local}
 use Rattle.junior.specs.Program.{Two, seq, par, when, until, Parts, no-part, one-part, two-parts, parts, sizeOf, size}
-use Rattle.junior.specs.Figures.{stops, figure, times, per}
+use Rattle.junior.specs.Figures.{only-if, stops, figure, times, per}
 use Rattle.junior.proofs.Parts.{parts-none, parts-one, parts-two, only-parts}
 use Rattle.table.specs.Records.{configurations, events}
 use Rattle.table.specs.Good.{children, argumentLimit}
 use Rattle.table.specs.Verdict.{Node, partsInOrder, preorder, endlessParts, endlessLoop}
+use Rattle.table.specs.Inside.Early.{Earliness, Tests}
 use Rattle.table.specs.Inside.Weighing.{Counts, levels, height}
 
 abbrev pub partCount : {p : Program} → Parts p → ℕ
@@ -60,10 +63,10 @@ node d p = record { depth = d; part = p }
 abbrev pub often : ℕ → ℕ → Bool → ℕ
 often k a part-stops = cond (eqb k 5) 2 (cond (eqb k 6) (times a part-stops) 1)
 
--- the figures of each form, and whether it stops, by its kind
-pub record FiguresOfNone (p : Program) : Type 0 where
+-- the figures of each form, and whether it stops, by its kind; e says when its test can be decided early
+pub record FiguresOfNone (e : ℕ) (p : Program) : Type 0 where
   pub figure-is : (k : Program → ℕ) → figure k p ≡ k p
-  pub stops-is : stops p ≡ eqb (kind p) 1
+  pub stops-is : Tests e p → stops p ≡ cond (eqb (kind p) 8) (eqb e 0) (eqb (kind p) 1)
 
 pub record FiguresOfOne (a : ℕ) (p q : Program) : Type 0 where
   pub figure-is : (k : Program → ℕ) → figure k p ≡ k p + often (kind p) a (stops q) * figure k q
@@ -71,20 +74,49 @@ pub record FiguresOfOne (a : ℕ) (p q : Program) : Type 0 where
   pub no-generation : per 7 p ≡ 0
   pub no-atom : per 2 p ≡ 0
 
-pub record FiguresOfTwo (p q r : Program) : Type 0 where
+pub record FiguresOfTwo (e : ℕ) (p q r : Program) : Type 0 where
   pub figure-is : (k : Program → ℕ)
       → figure k p ≡ k p + cond (eqb (kind p) 9) (max (figure k q) (figure k r)) (figure k q + figure k r)
-  pub stops-is : stops p ≡ cond (eqb (kind p) 9 || eqb (kind p) 10) (stops q && stops r) (stops q || stops r)
+  pub stops-is : Tests e p
+      → stops p
+      ≡ cond
+      (eqb (kind p) 9)
+      ((stops q || eqb e 0) && (stops r || eqb e 2))
+      (cond (eqb (kind p) 10) (stops q && (stops r || eqb e 0)) (stops q || stops r))
   pub no-generation : per 7 p ≡ 0
   pub no-atom : per 2 p ≡ 0
 
-pub figures-of-none : {p : Program} → Leaf p → FiguresOfNone p
+-- never true early, never false early: then that branch needn't stop
+never-true : (e : ℕ) → not (leb 1 e) ≡ eqb e 0
+never-true zero = refl
+never-true (suc e) = rw (le-leb 1 (suc e) (omega arith), eqb·suc-zero e)
+
+spared : (never stops-too : Bool) → (never || stops-too) ≡ (stops-too || never)
+spared true true = refl
+spared true false = refl
+spared false true = refl
+spared false false = refl
+
+never-false : (e : ℕ) → e ≤ 2 → not (leb e 1) ≡ eqb e 2
+never-false zero h = refl
+never-false (suc zero) h = refl
+never-false (suc (suc zero)) h = refl
+never-false (suc (suc (suc e))) h = absurd (omega arith)
+
+then-spared : {e : ℕ} {c : Config} (s : Bool) → Earliness e c → only-if (early-true c) s ≡ (s || eqb e 0)
+then-spared {e} s h = rw (h .true-is, never-true e) (spared (eqb e 0) s)
+
+else-spared : {e : ℕ} {c : Config} (s : Bool) → Earliness e c → only-if (early-false c) s ≡ (s || eqb e 2)
+else-spared {e} s h = rw (h .false-is, never-false e (h .most)) (spared (eqb e 2) s)
+
+pub figures-of-none : {e : ℕ} {p : Program} → Leaf p → FiguresOfNone e p
 unfolding figure stops kind
-figures-of-none nothing = record { figure-is = λ k. refl; stops-is = refl }
-figures-of-none stop = record { figure-is = λ k. refl; stops-is = refl }
-figures-of-none (atom a) = record { figure-is = λ k. refl; stops-is = refl }
-figures-of-none (generate s) = record { figure-is = λ k. refl; stops-is = refl }
-figures-of-none (await c) = record { figure-is = λ k. refl; stops-is = refl }
+figures-of-none nothing = record { figure-is = λ k. refl; stops-is = λ h. refl }
+figures-of-none stop = record { figure-is = λ k. refl; stops-is = λ h. refl }
+figures-of-none (atom a) = record { figure-is = λ k. refl; stops-is = λ h. refl }
+figures-of-none (generate s) = record { figure-is = λ k. refl; stops-is = λ h. refl }
+figures-of-none {e = e} (await c) =
+    record { figure-is = λ k. refl; stops-is = λ h. rw (h .early (omega arith) (omega arith) c refl .true-is) (never-true e) }
 
 pub figures-of-one : {a : ℕ} {p q : Program} → One p q → Counts a p → FiguresOfOne a p q
 unfolding figure stops kind
@@ -93,12 +125,24 @@ figures-of-one (repeat n p) e = rw (e .same n refl) (record { figure-is = λ k. 
 figures-of-one (control s p) e = record { figure-is = λ k. omega arith; stops-is = refl; no-generation = refl; no-atom = refl }
 figures-of-one (local s p) e = record { figure-is = λ k. omega arith; stops-is = refl; no-generation = refl; no-atom = refl }
 
-pub figures-of-two : {p q r : Program} → Two p q r → FiguresOfTwo p q r
+pub figures-of-two : {e : ℕ} {p q r : Program} → Two p q r → FiguresOfTwo e p q r
 unfolding figure stops kind
-figures-of-two (seq p q) = record { figure-is = λ k. refl; stops-is = refl; no-generation = refl; no-atom = refl }
-figures-of-two (par p q) = record { figure-is = λ k. refl; stops-is = refl; no-generation = refl; no-atom = refl }
-figures-of-two (when c p q) = record { figure-is = λ k. refl; stops-is = refl; no-generation = refl; no-atom = refl }
-figures-of-two (until c p q) = record { figure-is = λ k. refl; stops-is = refl; no-generation = refl; no-atom = refl }
+figures-of-two (seq p q) = record { figure-is = λ k. refl; stops-is = λ h. refl; no-generation = refl; no-atom = refl }
+figures-of-two (par p q) = record { figure-is = λ k. refl; stops-is = λ h. refl; no-generation = refl; no-atom = refl }
+figures-of-two (when c p q) =
+    record {
+      figure-is = λ k. refl;
+      stops-is = λ h. let w = h .early (omega arith) (omega arith) c refl in rw (then-spared (stops p) w, else-spared (stops q) w);
+      no-generation = refl;
+      no-atom = refl;
+    }
+figures-of-two (until c p q) =
+    record {
+      figure-is = λ k. refl;
+      stops-is = λ h. let w = h .early (omega arith) (omega arith) c refl in rw (then-spared (stops q) w);
+      no-generation = refl;
+      no-atom = refl;
+    }
 
 -- what goes by the parts alone
 pub record OfNone (p : Program) : Type 0 where

@@ -1,22 +1,23 @@
 -- Placing a good node: what it needs of the row, and what the row is afterwards.
 use Prim.Native.Nat.{ℕ, _+_, _-_, _≤_, _<_}
 use mathlib.Core.Bool.{Bool, true, false, cond, not, _&&_}
-use mathlib.Core.Path.{_≡_, refl, sym, _∙_}
+use mathlib.Core.Path.{_≡_, refl, sym, ap, _∙_}
 use mathlib.Core.List.{List}
 use native.Mathlib.Omega.{arith}
 use lib.Dec.{eqb}
 use lib.ListN.{length, getD, set, length-set}
 use Rattle.junior.specs.Program.{Program, kind, Leaf, One, Two}
 use Rattle.junior.specs.Figures.{stops}
-use Rattle.table.specs.Records.{nodes, kindAt, argumentAt, sizeAt, secondAt}
-use Rattle.table.specs.Good.{children, goodNode}
+use Rattle.table.specs.Records.{nodes, configurations, kindAt, argumentAt, sizeAt, secondAt}
+use Rattle.table.specs.Good.{children, argumentLimit, goodNode}
 use Rattle.table.specs.declared.weights.Weight.{Weight}
+use Rattle.table.specs.Inside.Early.{Tests, TestsAt}
 use Rattle.table.specs.Inside.Weighing.{Counts, Weighs, Small, weightAt, put, Row, treeAt, OfKind}
 use Rattle.table.specs.Inside.Weighing.{Ready, Placed, bit}
-use Rattle.table.proofs.Grown.{spells-from}
+use Rattle.table.proofs.Grown.{fine, spells-from}
 use Rattle.table.proofs.Here.{Here, no-part, one-part, two-parts, here, kind-here, argued-here}
 use Rattle.table.proofs.Little.{below-or}
-use Rattle.table.proofs.Parts.{of-none, of-one, of-two}
+use Rattle.table.proofs.Parts.{limitOf, by-kind, of-none, of-one, of-two}
 use Rattle.table.proofs.Rows.{height-most, row-more}
 use Rattle.table.proofs.Waits.{Topmost, topmost, waits-more, waiting-row, waiting-kept, length-put, put-last}
 use Rattle.table.proofs.Waits.{last-apart, last-here}
@@ -60,6 +61,19 @@ module _ {t w : List ℕ} {n i k limit count top : ℕ} (R : Ready t w n i top) 
   count-is =
       record { same = λ n e. rw e at (argued-here t (R .configurations-good) i good-from i (omega arith) here-below) }
 
+  -- when its test, if it has one, can be decided early
+  early-here : (e : ℕ) → TestsAt t i k e → Tests e (treeAt t i)
+  early-here e d =
+      record {
+        early = λ a b c h.
+            let there = rw h at (argued-here t (R .configurations-good) i good-from i (omega arith) here-below) in
+            let same = kind-here t (R .configurations-good) i good-from i (omega arith) here-below in
+            let limit : argumentLimit t (kindAt t i) ≡ configurations t =
+            rw same (by-kind (treeAt t i) .limit-is t ∙ ap (limitOf t) h) in
+            let below = rw limit at (fine t i (kindAt t i) refl good .argument-below) in
+            d .early (rw (← kind-is) at a) (rw (← kind-is) at b) below c there;
+      }
+
   small-here : (x : Weight) (j : ℕ) → i ≤ j → j < nodes t → Weighs x (treeAt t j) → Small x
   small-here x j h l y =
       let G = spells-from t (R .configurations-good) i good-from j h l in
@@ -80,16 +94,16 @@ module _ {t w : List ℕ} {n i k limit count top : ℕ} (R : Ready t w n i top) 
       go : Here t i 0 → Row t 65 i
       go (no-part s v) = row-more t 64 i here-below (rw (s, ← e) (waiting-row t w top (i + 1) (R .waits)))
 
-  pub leaf-placed : count ≡ 0 → top < 64 → (x : Weight)
-      → ((p : Program) → Leaf p → k ≡ kind p → Weighs x p) → Placed t w (put w top x) i (top + 1)
-  leaf-placed c h x f = go (rw c at at-node)
+  pub leaf-placed : count ≡ 0 → top < 64 → (e : ℕ) → TestsAt t i k e → (x : Weight)
+      → ((p : Program) → Leaf p → k ≡ kind p → Tests e p → Weighs x p) → Placed t w (put w top x) i (top + 1)
+  leaf-placed c h e d x f = go (rw c at at-node)
     where
       go : Here t i 0 → Placed t w (put w top x) i (top + 1)
       go (no-part s v) =
           record {
             good = good;
             long-row = length-put w top x ∙ R .long-row;
-            waits = waits-more t w top i x (R .long-row) h here-below (f _ v kind-is) (rw s (R .waits));
+            waits = waits-more t w top i x (R .long-row) h here-below (f _ v kind-is (early-here e d)) (rw s (R .waits));
             room = omega arith;
             endless = put-last w top x h ∙ rw (of-none v .endless-is);
           }
@@ -134,10 +148,10 @@ module _ {t w : List ℕ} {n i k limit count top : ℕ} (R : Ready t w n i top) 
     rw second-place at (small-here _ (secondAt t i) (omega arith) (second-below c) (second-taken c .weighs)),
   )
 
-  pub pair-placed : count ≡ 2 → (z : Weight)
-      → ((p q r : Program) → Two p q r → k ≡ kind p → Weighs (weightAt w (top - 2 + 1)) q
+  pub pair-placed : count ≡ 2 → (e : ℕ) → TestsAt t i k e → (z : Weight)
+      → ((p q r : Program) → Two p q r → k ≡ kind p → Tests e p → Weighs (weightAt w (top - 2 + 1)) q
       → Weighs (weightAt w (top - 2)) r → Weighs z p) → Placed t w (put w (top - 2) z) i (top - 2 + 1)
-  pair-placed c z f = go (rw c at at-node)
+  pair-placed c e d z f = go (rw c at at-node)
     where
       go : Here t i 2 → Placed t w (put w (top - 2) z) i (top - 2 + 1)
       go (two-parts m m′ s v) =
@@ -151,7 +165,7 @@ module _ {t w : List ℕ} {n i k limit count top : ℕ} (R : Ready t w n i top) 
             long-row = length-put w (top - 2) z ∙ R .long-row;
             waits =
                 waits-more t w (top - 2) i z (R .long-row) (omega arith) here-below
-                (f _ _ _ v kind-is (rw (first-place c) at (a .weighs)) (rw second-place at (b .weighs)))
+                (f _ _ _ v kind-is (early-here e d) (rw (first-place c) at (a .weighs)) (rw second-place at (b .weighs)))
                 (rw (g, second-place) at (b .rest));
             room = omega arith;
             endless = put-last w (top - 2) z (omega arith) ∙ rw (of-two v .endless-is);

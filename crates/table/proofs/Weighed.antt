@@ -1,6 +1,6 @@
 -- What a program weighs by what its parts weigh: the law of figures, once over the own weights, and each kind's case.
 use Prim.Native.Nat.{ℕ, zero, suc, _+_, _*_, _≤_, _<_, min, max}
-use mathlib.Core.Bool.{Bool, true, false, _&&_, _||_}
+use mathlib.Core.Bool.{Bool, true, false, cond, _&&_, _||_}
 use mathlib.Core.Path.{_≡_, refl, ap, sym, _∙_}
 use native.Mathlib.Nat.{zero-mul, suc-mul, mul-le-mul}
 use native.Mathlib.Omega.{arith}
@@ -10,6 +10,7 @@ use borrow.Author.Tests.{eq-eqb, ne-eqb, le-leb}
 use Rattle.junior.specs.Program.{Program, kind, Leaf, One, Two}
 use Rattle.junior.specs.Figures.{stops, figure, times}
 use Rattle.table.specs.declared.weights.Weight.{Weight}
+use Rattle.table.specs.Inside.Early.{Tests}
 use Rattle.table.specs.Inside.Weighing.{Counts, Figure, Weighs, height, bit, counted, repeatedly}
 use Rattle.table.specs.Inside.Weighing.{together}
 use Rattle.table.proofs.Little.{below-or}
@@ -37,7 +38,7 @@ module _ {k : Program → ℕ} where
   pub alone : {p : Program} → Leaf p → (x : ℕ) → x ≡ k p → x ≤ 1 → Figure k p x
   alone v x e l =
       let s = of-none v .size-is in
-      record { exact = rw (figures-of-none v .figure-is k, e); small = omega arith }
+      record { exact = rw (figures-of-none {e = 0} v .figure-is k, e); small = omega arith }
 
   pub under : {a : ℕ} {p q : Program} → One p q → FiguresOfOne a p q → often (kind p) a (stops q) ≡ 1 → (x z : ℕ)
       → k p ≤ 1 → z ≡ x + k p → Figure k q x → Figure k p z
@@ -62,7 +63,7 @@ module _ {k : Program → ℕ} where
       let a′ = f .small in
       let b = g .exact in
       let b′ = g .small in
-      record { exact = rw (figures-of-two v .figure-is k, o) (omega arith); small = omega arith }
+      record { exact = rw (figures-of-two {e = 0} v .figure-is k, o) (omega arith); small = omega arith }
 
   pub larger : {p q r : Program} → Two p q r → eqb (kind p) 9 ≡ true → (x y z : ℕ) → k p ≤ 1 → z ≡ max x y + k p
       → Figure k q x → Figure k r y → Figure k p z
@@ -71,7 +72,7 @@ module _ {k : Program → ℕ} where
       let a = larger-exact x y (figure k q) (figure k r) (f .exact) (g .exact) in
       let b = f .small in
       let c = g .small in
-      record { exact = rw (figures-of-two v .figure-is k, o) (omega arith); small = omega arith }
+      record { exact = rw (figures-of-two {e = 0} v .figure-is k, o) (omega arith); small = omega arith }
 
 -- the product that counts
 pub product-fits : (c y : ℕ) → c < 65536 → y ≤ 65536 → c * y < 4294967296
@@ -80,11 +81,12 @@ product-fits c y h l =
     let m = mul-le-mul b l in
     omega arith
 
-pub single-weighs : (k : ℕ) {p : Program} → Leaf p → k ≡ kind p
-    → Weighs
-    (record { generations = bit (eqb k 7); atoms = bit (eqb k 2); nodes = 1; height = 1; stops = bit (eqb k 1) })
-    p
-single-weighs k {p} v e =
+pub single-stops : (k e : ℕ) {p : Program} → Leaf p → k ≡ kind p → Tests e p → bit (cond (eqb k 8) (eqb e 0) (eqb k 1)) ≡ bit (stops p)
+single-stops k e v same h = rw (same, figures-of-none v .stops-is h)
+
+pub single-weighs : (k s : ℕ) {p : Program} → Leaf p → k ≡ kind p → s ≡ bit (stops p)
+    → Weighs (record { generations = bit (eqb k 7); atoms = bit (eqb k 2); nodes = 1; height = 1; stops = s }) p
+single-weighs k s {p} v e h =
     rw
     e
     (record {
@@ -92,7 +94,7 @@ single-weighs k {p} v e =
       atoms-are = alone v _ refl (bit-small (eqb (kind p) 2));
       nodes-are = alone v _ refl (omega arith);
       height-is = sym (of-none v .height-is);
-      stops-is = rw (figures-of-none v .stops-is);
+      stops-is = h;
     })
   where
     bit-small : (b : Bool) → bit b ≤ 1
@@ -177,24 +179,27 @@ module _ {x : Weight} {a : ℕ} {p q : Program} (v : One p q) (n : Counts a p) w
         stops-is = rw (o .stops-is, ne-eqb (kind p) 5 e, ne-eqb (kind p) 6 f) (w .stops-is);
       }
 
-both-stop : {x y : Weight} {q r : Program} (b : Bool) → b ≡ (stops q && stops r) → Weighs x q → Weighs y r
-    → bitAnd (x .stops) (y .stops) ≡ bit b
-both-stop {q = q} {r = r} b e w u = rw (w .stops-is, u .stops-is, e) (bits-and (stops q) (stops r))
+-- the stops of When and Until from those of their parts, and from when their test can be decided early
+when-stops : (a b c d : Bool) → bitAnd (bitOr (bit a) (bit b)) (bitOr (bit c) (bit d)) ≡ bit ((a || b) && (c || d))
+when-stops a b c d = rw (bits-or a b, bits-or c d) (bits-and (a || b) (c || d))
+
+until-stops : (a b c : Bool) → bitAnd (bit a) (bitOr (bit b) (bit c)) ≡ bit (a && (b || c))
+until-stops a b c = rw (bits-or b c) (bits-and a (b || c))
 
 module _ {x y : Weight} {p q r : Program} where
-  pub larger-weighs : Two p q r → kind p ≡ 9 → Weighs x q → Weighs y r
+  pub larger-weighs : {e : ℕ} → Two p q r → kind p ≡ 9 → Tests e p → Weighs x q → Weighs y r
       → Weighs
       (record {
         generations = max (x .generations) (y .generations);
         atoms = max (x .atoms) (y .atoms);
         nodes = max (x .nodes) (y .nodes) + 1;
         height = max (x .height) (y .height) + 1;
-        stops = bitAnd (x .stops) (y .stops);
+        stops = bitAnd (bitOr (x .stops) (bit (eqb e 0))) (bitOr (y .stops) (bit (eqb e 2)));
       })
       p
-  larger-weighs v e w u =
-      let o = figures-of-two v in
-      let n = eq-eqb (kind p) 9 e in
+  larger-weighs {e} v k t w u =
+      let o = figures-of-two {e = e} v in
+      let n = eq-eqb (kind p) 9 k in
       let g = o .no-generation in
       let b = o .no-atom in
       let h = of-two v .height-is in
@@ -207,14 +212,14 @@ module _ {x y : Weight} {p q r : Program} where
         atoms-are = larger v n (x .atoms) (y .atoms) _ (omega arith) (omega arith) (w .atoms-are) (u .atoms-are);
         nodes-are = larger v n (x .nodes) (y .nodes) _ (omega arith) refl (w .nodes-are) (u .nodes-are);
         height-is = omega arith;
-        stops-is = both-stop (stops p) (rw e at (o .stops-is)) w u;
+        stops-is = rw (w .stops-is, u .stops-is, o .stops-is t, k) (when-stops (stops q) (eqb e 0) (stops r) (eqb e 2));
       }
 
   together-weighs : Two p q r → (kind p ≡ 9 → ⊥) → (s : ℕ) → s ≡ bit (stops p) → Weighs x q → Weighs y r
       → Weighs (together x y s) p
-  together-weighs v e s t w u =
-      let o = figures-of-two v in
-      let n = ne-eqb (kind p) 9 e in
+  together-weighs v k s t w u =
+      let o = figures-of-two {e = 0} v in
+      let n = ne-eqb (kind p) 9 k in
       let g = o .no-generation in
       let b = o .no-atom in
       let h = of-two v .height-is in
@@ -230,20 +235,26 @@ module _ {x y : Weight} {p q r : Program} where
         stops-is = t;
       }
 
-  pub until-weighs : Two p q r → kind p ≡ 10 → Weighs x q → Weighs y r
-      → Weighs (together x y (bitAnd (x .stops) (y .stops))) p
-  until-weighs v e w u =
-      together-weighs v (λ z. omega arith) _ (both-stop (stops p) (rw e at (figures-of-two v .stops-is)) w u) w u
-
-  pub sum-weighs : Two p q r → (kind p ≡ 9 → ⊥) → (kind p ≡ 10 → ⊥) → Weighs x q → Weighs y r
-      → Weighs (together x y (bitOr (x .stops) (y .stops))) p
-  sum-weighs v e f w u =
+  pub until-weighs : {e : ℕ} → Two p q r → kind p ≡ 10 → Tests e p → Weighs x q → Weighs y r
+      → Weighs (together x y (bitAnd (x .stops) (bitOr (y .stops) (bit (eqb e 0))))) p
+  until-weighs {e} v k t w u =
       together-weighs
       v
-      e
+      (λ z. omega arith)
+      _
+      (rw (w .stops-is, u .stops-is, figures-of-two v .stops-is t, k) (until-stops (stops q) (stops r) (eqb e 0)))
+      w
+      u
+
+  pub sum-weighs : {e : ℕ} → Two p q r → (kind p ≡ 9 → ⊥) → (kind p ≡ 10 → ⊥) → Tests e p → Weighs x q → Weighs y r
+      → Weighs (together x y (bitOr (x .stops) (y .stops))) p
+  sum-weighs v k l t w u =
+      together-weighs
+      v
+      k
       _
       (rw
-      (w .stops-is, u .stops-is, figures-of-two v .stops-is, ne-eqb (kind p) 9 e, ne-eqb (kind p) 10 f)
+      (w .stops-is, u .stops-is, figures-of-two v .stops-is t, ne-eqb (kind p) 9 k, ne-eqb (kind p) 10 l)
       (bits-or (stops q) (stops r)))
       w
       u

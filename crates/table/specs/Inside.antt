@@ -9,6 +9,7 @@ use Rattle.junior.specs.Program.{Program, size}
 use Rattle.table.specs.Records.{nodes, configurations, events, configurationAt}
 use Rattle.table.specs.Good.{goodConfiguration, goodNode}
 use Rattle.table.specs.Spells.{Spells}
+pub mod Early
 pub mod Framing
 pub mod Ranks
 pub mod Ways

@@ -6,3 +6,4 @@ pub mod Reading
 pub mod Verdict
 pub mod Inside
 pub mod Bytes
+pub mod HarmlessLoops

@@ -5,6 +5,7 @@ use configurations::first_bad;
 use frame::Frame;
 
 mod configurations;
+mod early;
 mod frame;
 pub mod nodes;
 pub mod numbers;

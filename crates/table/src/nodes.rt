@@ -12,8 +12,11 @@ ghost use Rattle.table.specs.Records.{nodes, configurations, events, kin
 ghost use Rattle.table.specs.Good.{children, argumentLimit, laidOut, goodNode};
 ghost use Rattle.table.specs.Verdict.{nodesVerdict, preorder, firstSuch, deep};
 ghost use Rattle.table.specs.Inside.{Framed, ConfigurationsGood};
+ghost use Rattle.table.specs.Inside.Early.{KnownFrom, TestsAt};
 ghost use Rattle.table.specs.Inside.Weighing.{treeAt, height, Whole, Within, OfKind, AllGood, Ready, Places};
 use super::Checked;
+use super::early::early_of;
+use super::early::find_early;
 use super::records::argument_at;
 use super::records::kind_at;
 use super::records::second_at;
@@ -37,9 +40,25 @@ pub fn check_nodes(table: &[u8], n: usize, m: usize, v: usize) -> Checked
     Checked::BadNode(0)
 }
 
-// Record 0 has size N.
+// Record 0 has size N. A row for few configurations is cleared in less time than one for all that a table can have.
 fn check_whole(table: &[u8], n: usize, m: usize, v: usize) -> Checked
     requires { ⌜ Whole (now table) n m v ⌝ }
+    ensures { λ r. ⌜ r ≡ nodesVerdict (now (table .entry)) ⌝ }
+{
+    if m <= 64 {
+        let mut few = [0u8; 64];
+        find_early(table, n, m, &mut few);
+        return check_tests_known(table, n, m, v, &few);
+    }
+    let mut many = [0u8; 2048];
+    find_early(table, n, m, &mut many);
+    check_tests_known(table, n, m, v, &many)
+}
+
+// The row has when each configuration can be decided early.
+fn check_tests_known(table: &[u8], n: usize, m: usize, v: usize, early: &[u8]) -> Checked
+    requires { ⌜ Whole (now table) n m v ⌝ }
+    requires { ⌜ KnownFrom (now table) (now early) 0 ⌝ }
     ensures { λ r. ⌜ r ≡ nodesVerdict (now (table .entry)) ⌝ }
 {
     let mut waiting = [0u32; 321];
@@ -48,7 +67,7 @@ fn check_whole(table: &[u8], n: usize, m: usize, v: usize) -> Checked
     let mut top = 0;
     while i > 0 {
         i -= 1;
-        top = place(table, n, m, v, i, &mut waiting, top);
+        top = place(table, n, m, v, i, early, &mut waiting, top);
         if top == 0 {
             return refused(table, n, m, v);
         }
@@ -92,51 +111,55 @@ fn place(
     m: usize,
     v: usize,
     i: usize,
+    early: &[u8],
     waiting: &mut [u32; 321],
     top: usize,
 ) -> usize
     requires { ⌜ Framed (now table) n m v ⌝ }
     requires { ⌜ Ready (now table) (now waiting) n i top ⌝ }
+    requires { ⌜ KnownFrom (now table) (now early) 0 ⌝ }
     ensures { λ r. ⌜ Places (now (table .entry)) (now (waiting .entry)) (now (waiting .exit)) i r ⌝ }
 {
     let k = kind_at(table, i);
     match k {
-        0 => leaf(table, n, i, 0, 1, waiting, top),
-        1 => leaf(table, n, i, 1, 1, waiting, top),
-        2 => leaf(table, n, i, 2, 65536, waiting, top),
-        3 => pair(table, n, i, 3, 1, waiting, top),
-        4 => pair(table, n, i, 4, 1, waiting, top),
+        0 => leaf(table, n, i, 0, 1, 0, waiting, top),
+        1 => leaf(table, n, i, 1, 1, 0, waiting, top),
+        2 => leaf(table, n, i, 2, 65536, 0, waiting, top),
+        3 => pair(table, n, i, 3, 1, 0, waiting, top),
+        4 => pair(table, n, i, 4, 1, 0, waiting, top),
         5 => body(table, n, i, 5, 1, waiting, top),
         6 => body(table, n, i, 6, 65536, waiting, top),
-        7 => leaf(table, n, i, 7, v, waiting, top),
-        8 => leaf(table, n, i, 8, m, waiting, top),
-        9 => pair(table, n, i, 9, m, waiting, top),
-        10 => pair(table, n, i, 10, m, waiting, top),
+        7 => leaf(table, n, i, 7, v, 0, waiting, top),
+        8 => leaf(table, n, i, 8, m, early_of(table, i, early), waiting, top),
+        9 => pair(table, n, i, 9, m, early_of(table, i, early), waiting, top),
+        10 => pair(table, n, i, 10, m, early_of(table, i, early), waiting, top),
         11 => body(table, n, i, 11, v, waiting, top),
         12 => body(table, n, i, 12, v, waiting, top),
         _ => 0,
     }
 }
 
-// A node of kind k without parts, its argument below the limit.
+// A node of kind k without parts, its argument below the limit; its test, if it has one, is decided early as e says.
 fn leaf(
     table: &[u8],
     n: usize,
     i: usize,
     k: usize,
     limit: usize,
+    e: usize,
     waiting: &mut [u32; 321],
     top: usize,
 ) -> usize
     requires { ⌜ Ready (now table) (now waiting) n i top ⌝ }
     requires { ⌜ OfKind (now table) i k limit 0 ⌝ }
+    requires { ⌜ TestsAt (now table) i k e ⌝ }
     ensures { λ r. ⌜ Places (now (table .entry)) (now (waiting .entry)) (now (waiting .exit)) i r ⌝ }
 {
     if good_as(table, n, i, limit, 0) {
         if top == 64 {
             return 0;
         }
-        put_weight(waiting, top, single(k));
+        put_weight(waiting, top, single(k, e));
         return top + 1;
     }
     0
@@ -173,18 +196,20 @@ fn pair(
     i: usize,
     k: usize,
     limit: usize,
+    e: usize,
     waiting: &mut [u32; 321],
     top: usize,
 ) -> usize
     requires { ⌜ Ready (now table) (now waiting) n i top ⌝ }
     requires { ⌜ OfKind (now table) i k limit 2 ⌝ }
+    requires { ⌜ TestsAt (now table) i k e ⌝ }
     ensures { λ r. ⌜ Places (now (table .entry)) (now (waiting .entry)) (now (waiting .exit)) i r ⌝ }
 {
     if good_as(table, n, i, limit, 2) {
         let at = top - 2;
         let x = weight_at(waiting, at + 1);
         let y = weight_at(waiting, at);
-        put_weight(waiting, at, joined(k, x, y));
+        put_weight(waiting, at, joined(k, e, x, y));
         return at + 1;
     }
     0

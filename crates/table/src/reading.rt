@@ -71,7 +71,8 @@ fn absent_rank(ended: bool) -> usize
     1
 }
 
-fn joined_rank(kind: usize, first: usize, second: usize) -> usize
+// Of an and (kind 2) or an or (3), by its parts' ranks.
+pub fn joined_rank(kind: usize, first: usize, second: usize) -> usize
     ensures { λ r. ⌜ r ≡ joinedRank kind first second ⌝ }
 {
     if kind == 2 {

@@ -4,8 +4,9 @@ ghost use mathlib.Core.Bool.{cond};
 ghost use Prim.Native.Nat.{_≤_, _<_, min, max};
 ghost use lib.Dec.{eqb};
 ghost use Rattle.junior.specs.Program.{Program, kind, Leaf, One, Two};
-ghost use Rattle.junior.specs.Figures.{times};
-ghost use Rattle.table.specs.Inside.Weighing.{Counts, Weighs, Small, counted, repeatedly, together, weightAt, put};
+ghost use Rattle.junior.specs.Figures.{stops, times};
+ghost use Rattle.table.specs.Inside.Early.{Tests};
+ghost use Rattle.table.specs.Inside.Weighing.{bit, Counts, Weighs, Small, counted, repeatedly, together, weightAt, put};
 
 // What a program weighs: its figures, exact below 65,536; its height; and 1 if it stops.
 pub struct Weight {
@@ -43,16 +44,26 @@ fn one_if(kind: usize, wanted: usize) -> u32
     0
 }
 
+// 1 if a program of kind k without parts stops, its test being decided early as e says.
+fn stops_alone(k: usize, e: usize) -> u32
+    ensures { λ r. ⌜ ((p : Program) → Leaf p → k ≡ kind p → Tests e p → r ≡ bit (stops p)) ⌝ }
+{
+    if k == 8 {
+        return one_if(e, 0);
+    }
+    one_if(k, 1)
+}
+
 // What a program of kind k without parts weighs.
-pub fn single(k: usize) -> Weight
-    ensures { λ r. ⌜ ((p : Program) → Leaf p → k ≡ kind p → Weighs r p) ⌝ }
+pub fn single(k: usize, e: usize) -> Weight
+    ensures { λ r. ⌜ ((p : Program) → Leaf p → k ≡ kind p → Tests e p → Weighs r p) ⌝ }
 {
     Weight {
         generations: one_if(k, 7),
         atoms: one_if(k, 2),
         nodes: 1,
         height: 1,
-        stops: one_if(k, 1),
+        stops: stops_alone(k, e),
     }
 }
 
@@ -126,10 +137,10 @@ fn sum(x: Weight, y: Weight, stops: u32) -> Weight
     }
 }
 
-// What a program of kind k weighs whose parts weigh x and y.
-pub fn joined(k: usize, x: Weight, y: Weight) -> Weight
+// What a program of kind k weighs whose parts weigh x and y, its test being decided early as e says: 0 never true, 2 never false.
+pub fn joined(k: usize, e: usize, x: Weight, y: Weight) -> Weight
     requires { ⌜ Small x × Small y ⌝ }
-    ensures { λ r. ⌜ ((p q s : Program) → Two p q s → k ≡ kind p → Weighs x q → Weighs y s → Weighs r p) ⌝ }
+    ensures { λ r. ⌜ ((p q s : Program) → Two p q s → k ≡ kind p → Tests e p → Weighs x q → Weighs y s → Weighs r p) ⌝ }
 {
     if k == 9 {
         return Weight {
@@ -137,11 +148,11 @@ pub fn joined(k: usize, x: Weight, y: Weight) -> Weight
             atoms: larger(x.atoms, y.atoms),
             nodes: larger(x.nodes, y.nodes) + 1,
             height: larger(x.height, y.height) + 1,
-            stops: x.stops & y.stops,
+            stops: (x.stops | one_if(e, 0)) & (y.stops | one_if(e, 2)),
         };
     }
     if k == 10 {
-        return sum(x, y, x.stops & y.stops);
+        return sum(x, y, x.stops & (y.stops | one_if(e, 0)));
     }
     sum(x, y, x.stops | y.stops)
 }

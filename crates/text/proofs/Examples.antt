@@ -10,7 +10,7 @@ use Rattle.events.specs.Events.{lowest}
 use Rattle.junior.specs.Figures.{stops, figure}
 use Rattle.letters.specs.Decimal.{decimal}
 use Rattle.letters.specs.Text.{bytes}
-use Rattle.junior.specs.Configuration.{Event, Not, And}
+use Rattle.junior.specs.Configuration.{Event, Not, And, early-true, early-false}
 use Rattle.junior.specs.Program.{Program, Nothing, Stop, Atom, Seq, Par, Loop, Generate, Await, When, Local, size}
 use Rattle.junior.specs.Program.{kind}
 use Rattle.table.specs.declared.Checked.{Checked}
@@ -111,7 +111,7 @@ pub examples : All examples-list
 unfolding run reach decimal spell spellTest tableOf trailer nodesFrom testsOf testRecords named namedIn tests size kind weight
     verdictOf recordsVerdict nodesVerdict programVerdict light lengthGood countsGood distancesGood goodConfiguration
     goodButHeight heightAtMost parts goodNode laidOut children argumentLimit lowest configurationOf form programOf preorder
-    firstSuch stops figure numberOf
+    firstSuch stops early-true early-false figure numberOf
 examples =
     more (fails-here _ [] refl)
     (more (fails-here _ [] refl)

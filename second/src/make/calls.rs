@@ -11,11 +11,26 @@ use crate::table::{self, Program};
 
 /// As many lines as asked for, the same for the same seed.
 pub fn lines(cases: usize, seed: u64) -> impl Iterator<Item = String> {
-    let mut maker = Maker { r: Random::new(seed), talk: None };
+    of(Sort { weights: [6, 12, 4, 7, 65, 3, 3], program: grow::program, limit: limits::near }, cases, seed)
+}
+
+/// What random calls are made from.
+pub struct Sort {
+    /// How often each way of `Maker::line` is taken.
+    pub weights: [usize; 7],
+    pub program: fn(&mut Random) -> Records,
+    /// Tables at a limit.
+    pub limit: fn(&mut Random) -> Records,
+}
+
+/// As many lines of a sort as asked for, the same for the same seed.
+pub fn of(sort: Sort, cases: usize, seed: u64) -> impl Iterator<Item = String> {
+    let mut maker = Maker { sort, r: Random::new(seed), talk: None };
     (0..cases).map(move |_| maker.line())
 }
 
 struct Maker {
+    sort: Sort,
     r: Random,
     talk: Option<Talk>,
 }
@@ -30,10 +45,10 @@ struct Talk {
 
 impl Maker {
     fn line(&mut self) -> String {
-        match self.r.weigh(&[6, 12, 4, 7, 65, 3, 3]) {
-            0 => print(&Call::Check { table: grow::program(&mut self.r).bytes() }),
+        match self.r.weigh(&self.sort.weights) {
+            0 => print(&Call::Check { table: self.program().bytes() }),
             1 => print(&Call::Check { table: self.damaged_table() }),
-            2 => print(&Call::Check { table: limits::near(&mut self.r).bytes() }),
+            2 => print(&Call::Check { table: (self.sort.limit)(&mut self.r).bytes() }),
             3 => self.start(),
             4 => print(&self.instant()),
             5 => self.damaged_instant(),
@@ -41,13 +56,17 @@ impl Maker {
         }
     }
 
+    fn program(&mut self) -> Records {
+        (self.sort.program)(&mut self.r)
+    }
+
     fn damaged_table(&mut self) -> Vec<u8> {
-        let records = grow::program(&mut self.r);
+        let records = self.program();
         harm::damaged(&mut self.r, records)
     }
 
     fn start(&mut self) -> String {
-        let table = if self.r.chance(80) { grow::program(&mut self.r).bytes() } else { self.damaged_table() };
+        let table = if self.r.chance(80) { self.program().bytes() } else { self.damaged_table() };
         let nodes = table::read(&table).map_or(3, |program| program.root.size);
         let length = match self.r.weigh(&[40, 30, 20, 10]) {
             0 => 4 * nodes,
@@ -105,7 +124,7 @@ impl Maker {
     /// A conversation over a random program that is accepted and writes few atoms.
     fn begin(&mut self) -> Talk {
         loop {
-            let table = grow::program(&mut self.r).bytes();
+            let table = self.program().bytes();
             if let (Ok(program), Ok(figures)) = (table::read(&table), instant::check(&table)) {
                 if figures.a <= 60 || self.r.chance(2) {
                     let state = vec![0; 4 * program.root.size];
@@ -133,7 +152,7 @@ impl Maker {
 
     /// An instant of a damaged table, in rooms that would do for the sound one.
     fn damaged_instant(&mut self) -> String {
-        let records: Records = grow::program(&mut self.r);
+        let records = self.program();
         let state = vec![0; 4 * records.nodes.len()];
         let row = vec![0; self.r.below(30)];
         let events = self.events(usize::from(records.events));

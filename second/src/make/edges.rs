@@ -3,6 +3,7 @@
 use super::draft::short::*;
 use super::draft::{Cond, Draft, Records};
 use super::limits::{broad, filled, nots, weighing, wrapped};
+use super::loop_edges;
 use crate::env::Events;
 use crate::instant;
 use crate::lines::{print, Call};
@@ -32,6 +33,7 @@ pub fn lines() -> Vec<String> {
     edges.tests();
     edges.scopes();
     edges.nests();
+    loop_edges::add(&mut edges);
     let mut met = HashSet::new();
     edges.0.retain(|line| met.insert(line.clone()));
     edges.0
@@ -57,14 +59,15 @@ fn set(events: &[u8]) -> Events {
     events.iter().copied().collect()
 }
 
-struct Edges(Vec<String>);
+/// Lines found so far.
+pub struct Edges(Vec<String>);
 
 impl Edges {
     fn add(&mut self, call: Call) {
         self.0.push(print(&call));
     }
 
-    fn check(&mut self, table: &[u8]) {
+    pub fn check(&mut self, table: &[u8]) {
         self.add(Call::Check { table: table.to_vec() });
     }
 
@@ -78,7 +81,7 @@ impl Edges {
     }
 
     /// The same table in all three calls, in rooms that would do for 16 nodes.
-    fn all_calls(&mut self, table: &[u8]) {
+    pub fn all_calls(&mut self, table: &[u8]) {
         self.check(table);
         self.start(table, vec![OTHER; 64]);
         self.instant(table, &[0; 64], &[], 4);
@@ -97,7 +100,7 @@ impl Edges {
     }
 
     /// Instants one after the other from fresh on.
-    fn play(&mut self, events: u16, program: &Draft, instants: &[&[u8]]) {
+    pub fn play(&mut self, events: u16, program: &Draft, instants: &[&[u8]]) {
         let records = Records::new(events, program);
         self.go_on(&records, vec![0; 4 * records.nodes.len()], instants);
     }

@@ -130,11 +130,11 @@ impl Ground<'_> {
     /// A program that can't end in the instant in which it is begun.
     fn stopping(&mut self, nodes: usize) -> Draft {
         if nodes <= 1 {
-            return stop();
+            return if self.r.chance(75) { stop() } else { wait(self.late()) };
         }
         let one = nodes - 1;
         let (two, rest) = self.split(one);
-        match self.r.weigh(&[24, 14, 14, 8, 7, 7, 7, 7, 7, 5]) {
+        match self.r.weigh(&[24, 14, 14, 8, 7, 7, 7, 7, 7, 5, 5, 5]) {
             0 => seq(self.draft(two), self.stopping(rest)),
             1 => seq(self.stopping(two), self.draft(rest)),
             2 => par(self.draft(two), self.stopping(rest)),
@@ -144,7 +144,19 @@ impl Ground<'_> {
             6 => when(self.test(), self.stopping(two), self.stopping(rest)),
             7 => until(self.test(), self.stopping(two), self.stopping(rest)),
             8 => control(self.event(), self.stopping(one)),
-            _ => local(self.event(), self.stopping(one)),
+            9 => local(self.event(), self.stopping(one)),
+            10 => when(self.late(), self.draft(two), self.stopping(rest)),
+            _ => until(self.late(), self.stopping(two), self.draft(rest)),
+        }
+    }
+
+    /// A test that isn't true before the end: an event's absence, perhaps and something more.
+    fn late(&mut self) -> Cond {
+        let absent = not(event(self.event() as u8));
+        if self.r.chance(60) {
+            absent
+        } else {
+            and(self.test(), absent)
         }
     }
 

@@ -100,13 +100,18 @@ fn tall(r: &mut Random) -> Records {
     records
 }
 
-/// A table with a figure near its limit.
-fn heavy(r: &mut Random) -> Records {
-    let (leaf, limit) = match r.below(3) {
+/// A leaf that weighs in one of the figures, and the figure's limit.
+pub fn heavy_leaf(r: &mut Random) -> (Draft, usize) {
+    match r.below(3) {
         0 => (generate(0), 4_094),
         1 => (atom(1), 4_096),
         _ => (nothing(), 65_535),
-    };
+    }
+}
+
+/// A table with a figure near its limit.
+fn heavy(r: &mut Random) -> Records {
+    let (leaf, limit) = heavy_leaf(r);
     let count = r.between(limit / 2 - 2, limit / 2 + 2) as u16;
     let half = repeat(count, leaf.clone());
     let whole = repeat((limit - 2 + r.below(4)) as u16, leaf.clone());

@@ -7,6 +7,8 @@ mod grow;
 mod harm;
 mod limits;
 pub mod listings;
+mod loop_edges;
+pub mod loops;
 mod print_edges;
 mod random;
 mod rest;

@@ -2,6 +2,7 @@
 //! over random calls.
 
 mod bench;
+mod early;
 mod laws;
 mod listings;
 mod readings;

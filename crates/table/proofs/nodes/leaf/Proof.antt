@@ -11,14 +11,14 @@ use Rattle.table.proofs.Placing.{leaf-full, leaf-placed}
 good-as-requires : tie.Need-good-as-requires
 good-as-requires c κs =
     let start = c .before in
-    (start .pre .0 .within, own-kind (start .pre .1))
+    (start .pre .0 .within, own-kind (start .pre .1 .0))
 
 -- return 0;
 returns : tie.Need-returns
 returns c =
     let start = c .before .before .before .before in
     let if2 = c .if2 in
-    (λ z. absurd (omega arith), λ z g. leaf-full (start .pre .0) (start .pre .1) g refl (if2 .taken))
+    (λ z. absurd (omega arith), λ z g. leaf-full (start .pre .0) (start .pre .1 .0) g refl (if2 .taken))
 
 -- return top + 1;
 returns-2 : tie.Need-returns-2
@@ -33,7 +33,7 @@ returns-2 c =
     let h = R .room in
     let e = if2 .left in
     let good = sym (good-as .ensures) ∙ if1 .taken in
-    let placed = leaf-placed R (start .pre .1) good refl (omega arith) _ (single .ensures) in
+    let placed = leaf-placed R (start .pre .1 .0) good refl (omega arith) _ (start .pre .1 .1) _ (single .ensures) in
     (λ z. rw (put-weight .ensures) placed, λ z g. absurd (omega arith))
 
 -- fn leaf
@@ -48,7 +48,7 @@ leaf-spec =
     tie.close (tie.spec
     good-as-requires
     returns
-    (λ c κs. search needs)  -- single-requires: put_weight(waiting, top, single(k));
+    (λ c κs. search needs)  -- single-requires: put_weight(waiting, top, single(k, e));
     (λ c κs. search needs)  -- put-weight-requires
     (λ c. search needs)  -- add-result: return top + 1;
     returns-2

@@ -11,7 +11,7 @@ use Rattle.table.proofs.Placing.{two-wait, both-small, pair-placed}
 good-as-requires : tie.Need-good-as-requires
 good-as-requires c κs =
     let start = c .before in
-    (start .pre .0 .within, own-kind (start .pre .1))
+    (start .pre .0 .within, own-kind (start .pre .1 .0))
 
 -- let at = top - 2;
 sub-at : tie.Need-sub-at
@@ -19,9 +19,9 @@ sub-at c =
     let start = c .before .before .before in
     let good-as = c .before .good-as in
     let if1 = c .if1 in
-    two-wait (start .pre .0) (start .pre .1) (sym (good-as .ensures) ∙ if1 .taken) refl
+    two-wait (start .pre .0) (start .pre .1 .0) (sym (good-as .ensures) ∙ if1 .taken) refl
 
--- put_weight(waiting, at, joined(k, x, y));
+-- put_weight(waiting, at, joined(k, e, x, y));
 joined-requires : tie.Need-joined-requires
 joined-requires c κs =
     let start = c .before .before .before .before .before .before .before .before in
@@ -30,7 +30,7 @@ joined-requires c κs =
     let weight-at = c .before .before .before .weight-at in
     let weight-at2 = c .before .weight-at2 in
     let good = sym (good-as .ensures) ∙ if1 .taken in
-    rw (weight-at .ensures, weight-at2 .ensures) (both-small (start .pre .0) (start .pre .1) good refl)
+    rw (weight-at .ensures, weight-at2 .ensures) (both-small (start .pre .0) (start .pre .1 .0) good refl)
 
 -- return at + 1;
 returns : tie.Need-returns
@@ -44,7 +44,7 @@ returns c =
     let put-weight = c .put-weight in
     let good = sym (good-as .ensures) ∙ if1 .taken in
     let weighs = rw (weight-at .ensures, weight-at2 .ensures) at (joined .ensures) in
-    let placed = pair-placed (start .pre .0) (start .pre .1) good refl _ weighs in
+    let placed = pair-placed (start .pre .0) (start .pre .1 .0) good refl _ (start .pre .1 .1) _ weighs in
     (λ z. rw (put-weight .ensures) placed, λ z g. absurd (omega arith))
 
 -- fn pair

@@ -4,6 +4,7 @@ use native.Mathlib.Omega.{arith}
 use borrow.Author.Needs.{needs}
 use Rattle.table.specs.Good.{children, argumentLimit}
 use Rattle.table.proofs.Judged.{as-kind, bad-kind}
+use Rattle.table.proofs.KnownEarly.{no-test, test-here}
 use Rattle.table.proofs.Little.{none-of}
 use Rattle.table.proofs.nodes.place.Statement.{statement}
 use Rattle.table.proofs.nodes.place.Tie as tie
@@ -21,71 +22,80 @@ place-spec =
     tie.close
     (tie.spec
     (λ c κs. search needs)  -- kind-at-requires: let k = kind_at(table, i);
-    -- leaf-requires: 0 => leaf(table, n, i, 0, 1, waiting, top),
+    -- leaf-requires: 0 => leaf(table, n, i, 0, 1, 0, waiting, top),
     (λ c κs.
-    let start = c .before .before .before .before in
+    let start = c .before .before .before .before .before in
     let kind-at = c .before .before .kind-at in
-    (start .pre .1, as-kind (kind-at .ensures .0) 0 (c .before .match .keys1) refl refl refl))
-    -- leaf-requires-2: 1 => leaf(table, n, i, 1, 1, waiting, top),
+    (start .pre .1 .0, (as-kind (kind-at .ensures .0) 0 (c .before .match .keys1) refl refl refl, no-test (omega arith))))
+    -- leaf-requires-2: 1 => leaf(table, n, i, 1, 1, 0, waiting, top),
     (λ c κs.
-    let start = c .before .before .before .before in
+    let start = c .before .before .before .before .before in
     let kind-at = c .before .before .kind-at in
-    (start .pre .1, as-kind (kind-at .ensures .0) 1 (c .before .match .keys2) refl refl refl))
-    -- leaf-requires-3: 2 => leaf(table, n, i, 2, 65536, waiting, top),
+    (start .pre .1 .0, (as-kind (kind-at .ensures .0) 1 (c .before .match .keys2) refl refl refl, no-test (omega arith))))
+    -- leaf-requires-3: 2 => leaf(table, n, i, 2, 65536, 0, waiting, top),
     (λ c κs.
-    let start = c .before .before .before .before in
+    let start = c .before .before .before .before .before in
     let kind-at = c .before .before .kind-at in
-    (start .pre .1, as-kind (kind-at .ensures .0) 2 (c .before .match .keys3) refl refl refl))
-    -- pair-requires: 3 => pair(table, n, i, 3, 1, waiting, top),
+    (start .pre .1 .0, (as-kind (kind-at .ensures .0) 2 (c .before .match .keys3) refl refl refl, no-test (omega arith))))
+    -- pair-requires: 3 => pair(table, n, i, 3, 1, 0, waiting, top),
     (λ c κs.
-    let start = c .before .before .before .before in
+    let start = c .before .before .before .before .before in
     let kind-at = c .before .before .kind-at in
-    (start .pre .1, as-kind (kind-at .ensures .0) 3 (c .before .match .keys4) refl refl refl))
-    -- pair-requires-2: 4 => pair(table, n, i, 4, 1, waiting, top),
+    (start .pre .1 .0, (as-kind (kind-at .ensures .0) 3 (c .before .match .keys4) refl refl refl, no-test (omega arith))))
+    -- pair-requires-2: 4 => pair(table, n, i, 4, 1, 0, waiting, top),
     (λ c κs.
-    let start = c .before .before .before .before in
+    let start = c .before .before .before .before .before in
     let kind-at = c .before .before .kind-at in
-    (start .pre .1, as-kind (kind-at .ensures .0) 4 (c .before .match .keys5) refl refl refl))
+    (start .pre .1 .0, (as-kind (kind-at .ensures .0) 4 (c .before .match .keys5) refl refl refl, no-test (omega arith))))
     -- body-requires: 5 => body(table, n, i, 5, 1, waiting, top),
     (λ c κs.
-    let start = c .before .before .before .before in
+    let start = c .before .before .before .before .before in
     let kind-at = c .before .before .kind-at in
-    (start .pre .1, as-kind (kind-at .ensures .0) 5 (c .before .match .keys6) refl refl refl))
+    (start .pre .1 .0, as-kind (kind-at .ensures .0) 5 (c .before .match .keys6) refl refl refl))
     -- body-requires-2: 6 => body(table, n, i, 6, 65536, waiting, top),
     (λ c κs.
-    let start = c .before .before .before .before in
+    let start = c .before .before .before .before .before in
     let kind-at = c .before .before .kind-at in
-    (start .pre .1, as-kind (kind-at .ensures .0) 6 (c .before .match .keys7) refl refl refl))
-    -- leaf-requires-4: 7 => leaf(table, n, i, 7, v, waiting, top),
+    (start .pre .1 .0, as-kind (kind-at .ensures .0) 6 (c .before .match .keys7) refl refl refl))
+    -- leaf-requires-4: 7 => leaf(table, n, i, 7, v, 0, waiting, top),
     (λ c κs.
-    let start = c .before .before .before .before in
+    let start = c .before .before .before .before .before in
     let kind-at = c .before .before .kind-at in
-    (start .pre .1, as-kind (kind-at .ensures .0) 7 (c .before .match .keys8) refl (sym (start .pre .0 .v-is)) refl))
-    -- leaf-requires-5: 8 => leaf(table, n, i, 8, m, waiting, top),
+    (start .pre .1 .0, (as-kind (kind-at .ensures .0) 7 (c .before .match .keys8) refl (sym (start .pre .0 .v-is)) refl, no-test (omega arith))))
+    (λ c κs. search needs)  -- early-of-requires
+    -- leaf-requires-5: 8 => leaf(table, n, i, 8, m, early_of(table, i, early), waiting, top),
     (λ c κs.
-    let start = c .before .before .before .before in
-    let kind-at = c .before .before .kind-at in
-    (start .pre .1, as-kind (kind-at .ensures .0) 8 (c .before .match .keys9) refl (sym (start .pre .0 .m-is)) refl))
-    -- pair-requires-3: 9 => pair(table, n, i, 9, m, waiting, top),
+    let start = c .before .before .before .before .before .before in
+    let kind-at = c .before .before .before .kind-at in
+    let early-of = c .before .early-of in
+    let kind-is = as-kind (kind-at .ensures .0) 8 (c .before .before .match .keys9) refl (sym (start .pre .0 .m-is)) refl in
+    (start .pre .1 .0, (kind-is, test-here (start .args .early .now) (start .pre .1 .1) (early-of .ensures))))
+    (λ c κs. search needs)  -- early-of-requires-2
+    -- pair-requires-3: 9 => pair(table, n, i, 9, m, early_of(table, i, early), waiting, top),
     (λ c κs.
-    let start = c .before .before .before .before in
-    let kind-at = c .before .before .kind-at in
-    (start .pre .1, as-kind (kind-at .ensures .0) 9 (c .before .match .keys10) refl (sym (start .pre .0 .m-is)) refl))
-    -- pair-requires-4: 10 => pair(table, n, i, 10, m, waiting, top),
+    let start = c .before .before .before .before .before .before in
+    let kind-at = c .before .before .before .kind-at in
+    let early-of2 = c .before .early-of2 in
+    let kind-is = as-kind (kind-at .ensures .0) 9 (c .before .before .match .keys10) refl (sym (start .pre .0 .m-is)) refl in
+    (start .pre .1 .0, (kind-is, test-here (start .args .early .now) (start .pre .1 .1) (early-of2 .ensures))))
+    (λ c κs. search needs)  -- early-of-requires-3
+    -- pair-requires-4: 10 => pair(table, n, i, 10, m, early_of(table, i, early), waiting, top),
     (λ c κs.
-    let start = c .before .before .before .before in
-    let kind-at = c .before .before .kind-at in
-    (start .pre .1, as-kind (kind-at .ensures .0) 10 (c .before .match .keys11) refl (sym (start .pre .0 .m-is)) refl))
+    let start = c .before .before .before .before .before .before in
+    let kind-at = c .before .before .before .kind-at in
+    let early-of3 = c .before .early-of3 in
+    let kind-is = as-kind (kind-at .ensures .0) 10 (c .before .before .match .keys11) refl (sym (start .pre .0 .m-is)) refl in
+    (start .pre .1 .0, (kind-is, test-here (start .args .early .now) (start .pre .1 .1) (early-of3 .ensures))))
     -- body-requires-3: 11 => body(table, n, i, 11, v, waiting, top),
     (λ c κs.
-    let start = c .before .before .before .before in
+    let start = c .before .before .before .before .before in
     let kind-at = c .before .before .kind-at in
-    (start .pre .1, as-kind (kind-at .ensures .0) 11 (c .before .match .keys12) refl (sym (start .pre .0 .v-is)) refl))
+    (start .pre .1 .0, as-kind (kind-at .ensures .0) 11 (c .before .match .keys12) refl (sym (start .pre .0 .v-is)) refl))
     -- body-requires-4: 12 => body(table, n, i, 12, v, waiting, top),
     (λ c κs.
-    let start = c .before .before .before .before in
+    let start = c .before .before .before .before .before in
     let kind-at = c .before .before .kind-at in
-    (start .pre .1, as-kind (kind-at .ensures .0) 12 (c .before .match .keys13) refl (sym (start .pre .0 .v-is)) refl))
+    (start .pre .1 .0, as-kind (kind-at .ensures .0) 12 (c .before .match .keys13) refl (sym (start .pre .0 .v-is)) refl))
     (λ c. c .leaf .ensures)  -- returns
     (λ c. c .leaf2 .ensures)  -- returns-2
     (λ c. c .leaf3 .ensures)  -- returns-3
