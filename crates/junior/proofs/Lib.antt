@@ -22,3 +22,4 @@ pub mod AsPrinted
 pub mod PrintedOnce
 pub mod Demand3
 pub mod StoppedBefore
+pub mod NeverRoundTwice

@@ -15,3 +15,4 @@ pub mod Demand3
 pub mod Printed
 pub mod Visits
 pub mod StoppedBefore
+pub mod NeverRoundTwice

@@ -10,8 +10,9 @@ use Rattle.events.specs.Events.{none, put, howMany, lowest}
 use Rattle.events.specs.Members.{marks, members}
 use Rattle.events.proofs.Words.{marks-zeros}
 use Rattle.junior.specs.Configuration.{test, fixed, eval, early-true, early-false}
-use Rattle.junior.specs.Program.{size, kind}
-use Rattle.junior.specs.Term.{Term, prog, fresh, leave}
+use Rattle.junior.specs.declared.Flag.the-variants.{SUSP}
+use Rattle.junior.specs.Program.{Stop, size, kind}
+use Rattle.junior.specs.Term.{Term, atom, par, loop1, done, prog, fresh, leave}
 use Rattle.junior.specs.Trace.{collect}
 use Rattle.junior.specs.Rules.{left-first}
 use Rattle.junior.specs.Figures.{stops, LoopsStop, figure}
@@ -39,9 +40,10 @@ use Rattle.kernel.specs.declared.Outcome.{Outcome}
 use Rattle.kernel.specs.declared.Outcome.the-variants.{Ran, Table}
 use Rattle.kernel.specs.Answer.{outcomeNumber, outcomeIndex, onAccepted, startOutcome, instantOutcome, startedRoom}
 use Rattle.kernel.specs.Answer.{Started}
-use Rattle.kernel.specs.Bench.{Line, Entry, accepted, refused, not-started, not-run, Checks, Starts, Answers, Follow, Alone}
-use Rattle.kernel.specs.Bench.{word-of, words-of, set, turned-down, Shown, All, phases, K1-to-K12, more-of-the-forms, tests}
-use Rattle.kernel.specs.Bench.{figures, harmless-loops, refused-tables, refused-rooms, not-at-rest, bench-list}
+use Rattle.kernel.specs.Bench.{Line, Entry, accepted, refused, not-started, not-run, resumed, Checks, Starts, Answers}
+use Rattle.kernel.specs.Bench.{Follow, Alone, word-of, words-of, set, turned-down, Shown, All, phases, K1-to-K12}
+use Rattle.kernel.specs.Bench.{more-of-the-forms, loops, resumed-rooms, tests, figures, harmless-loops, refused-tables}
+use Rattle.kernel.specs.Bench.{refused-rooms, not-at-rest, bench-list}
 use Rattle.kernel.proofs.Accepted.{admitted}
 use Rattle.kernel.proofs.Outcomes.{start-ran}
 use Rattle.kernel.proofs.OneAnswer.{ran-or-not, one-start}
@@ -95,8 +97,8 @@ starts-by : {t s s′ : List ℕ} {o : Outcome} {n i : ℕ} → Started t s s′
 starts-by a n i = record { started = a; only = λ q. one-start q a; number-is = n; index-is = i }
 
 -- the program of an accepted table, fresh
-loops : (t : List ℕ) {g a w : ℕ} → verdictOf t ≡ Accepted g a w → LoopsStop (prog (fresh (treeOf t)))
-loops t v = loops-fresh (treeOf t) (admitted t v .loops)
+fresh-loops : (t : List ℕ) {g a w : ℕ} → verdictOf t ≡ Accepted g a w → LoopsStop (prog (fresh (treeOf t)))
+fresh-loops t v = loops-fresh (treeOf t) (admitted t v .loops)
 
 starts : (t : List ℕ) {g a w : ℕ} → verdictOf t ≡ Accepted g a w
     → Starts t (replicate (4 * nodes t + 1) 255) Ran 0 0 (replicate (4 * nodes t) 0 ++ (255 ∷ []))
@@ -163,14 +165,14 @@ data View : Type 0 where
 -- by its table's verdict, where it must be accepted and where it must not; else there is nothing to see
 if-accepted : (t : List ℕ) → List Line → Accepts (verdictOf t) ⊎ Refuses (verdictOf t) → View
 if-accepted t l (inl (g, a, w, v)) =
-    of-accepted (Accepted g a w) (told t a (255 ∷ []) (fresh (treeOf t)) (loops t v) (fresh-at-rest (treeOf t)) l)
+    of-accepted (Accepted g a w) (told t a (255 ∷ []) (fresh (treeOf t)) (fresh-loops t v) (fresh-at-rest (treeOf t)) l)
 if-accepted t l (inr e) = of-alone []
 
 if-refused : (c : Checked) → Accepts c ⊎ Refuses c → View
 if-refused c (inl e) = of-alone []
 if-refused c (inr e) = of-refused c (numberOf c) (indexOf c) (figuresOf c)
 
--- an entry as it computes, and as the list has it
+-- an entry as it computes, and as the list has it; of one from a given room nothing is to be seen without the term that stands there
 computed : Entry → View
 computed (accepted t g a w l) = if-accepted t l (judged (verdictOf t))
 computed (refused t c n i) = if-refused (verdictOf t) (judged (verdictOf t))
@@ -178,12 +180,14 @@ computed (not-started t s o n i) =
     let q = startOutcome t s in
     of-start q (outcomeNumber q) (outcomeIndex q) (startedRoom q t s)
 computed (not-run t l) = of-alone (told-alone t l)
+computed (resumed t s l) = of-alone []
 
 listed : Entry → View
 listed (accepted t g a w l) = of-accepted (Accepted g a w) (map seen l)
 listed (refused t c n i) = of-refused c n i no-figures
 listed (not-started t s o n i) = of-start o n i s
 listed (not-run t l) = of-alone (map seen l)
+listed (resumed t s l) = of-start Ran 0 0 s
 
 -- on a refused table
 module _ (t : List ℕ) (c : Checked) {n i : ℕ} (h : Checks t c n i 0 0 0) (away : Refuses c) where
@@ -216,12 +220,12 @@ show-accepted : (t : List ℕ) (g a w : ℕ) (l : List Line) (c : Accepts (verdi
 unfolding if-accepted Shown numberOf indexOf figuresOf
 show-accepted t g a w l (inl (g′, a′, w′, v)) e =
     let p = treeOf t in
-    let lines : told t a′ (255 ∷ []) (fresh p) (loops t v) (fresh-at-rest p) l ≡ map seen l = cc in
+    let lines : told t a′ (255 ∷ []) (fresh p) (fresh-loops t v) (fresh-at-rest p) l ≡ map seen l = cc in
     let zero-bytes : stateBytes (fresh p) ≡ replicate (4 * nodes t) 0 = fresh-zeros p ∙ ap (λ n. replicate (4 * n) 0) (admitted t v .whole) in (
       record { verdict-is = v ∙ cc; number-is = refl; index-is = refl; figures-are = refl },
       starts t v,
       subst (λ z. Follow t (z ++ (255 ∷ [])) l) zero-bytes
-          (follows t v (255 ∷ []) (fresh p) (prog-fresh p) (loops t v) (fresh-at-rest p) l lines),
+          (follows t v (255 ∷ []) (fresh p) (prog-fresh p) (fresh-loops t v) (fresh-at-rest p) l lines),
     )
 show-accepted t g a w l (inr r) e = absurd (let z : _≡_ {A = ℕ} 0 1 = cc in omega arith)
 
@@ -250,6 +254,15 @@ shows (not-started t s o n i) e =
     let room : startedRoom (startOutcome t s) t s ≡ s = cc in
     starts-by (record { outcome-is = sym outcome; room-is = sym (rw outcome at room) }) (rw outcome at number) (rw outcome at index)
 shows (not-run t l) e = stand-alone t l cc
+shows (resumed t s l) e = absurd (let z : _≡_ {A = ℕ} 0 1 = cc in omega arith)
+
+-- one from a given room, by the term x that stands there
+resumes : (t : List ℕ) {g a w : ℕ} → verdictOf t ≡ Accepted g a w → (x : Term) → prog x ≡ treeOf t
+    → (o : LoopsStop (prog x)) (r : AtRest x) (l : List Line)
+    → told t a (255 ∷ []) x o r l ≡ map seen l
+    → All Shown (resumed t (stateBytes x ++ (255 ∷ [])) l ∷ [])
+unfolding All Shown
+resumes t v x e o r l h = (follows t v (255 ∷ []) x e o r l h, tt)
 
 all-show : (l : List Entry) → map computed l ≡ map listed l → All Shown l
 unfolding All
@@ -268,11 +281,18 @@ unfolding computed listed if-accepted if-refused judged told told-by told-alone 
     size kind stops early-true early-false figure outcomeNumber outcomeIndex startOutcome startedRoom instantOutcome rests phaseRests flagsRest
     countRests zeroNode zeroNodes lowest howMany marks put test fixed eval prog fresh leave collect below ends ends-within ends-by pass-exists begins goes-by
     seq0-runs loop0-runs loop1-runs repeat0-runs repeat1-runs again-runs await-runs when0-runs until0-runs until*-runs control-runs
+    LoopsStop AtRest
 bench =
     and-all K1-to-K12 _ (all-show K1-to-K12 refl)
     (and-all more-of-the-forms _ (all-show more-of-the-forms refl)
+    (and-all loops _ (all-show loops refl)
+    (and-all resumed-rooms _ resumed-shown
     (and-all tests _ (all-show tests refl)
     (and-all figures _ (all-show figures refl)
     (and-all harmless-loops _ (all-show harmless-loops refl)
     (and-all refused-tables _ (all-show refused-tables refl)
-    (and-all refused-rooms _ (all-show refused-rooms refl) (all-show not-at-rest refl)))))))
+    (and-all refused-rooms _ (all-show refused-rooms refl) (all-show not-at-rest refl)))))))))
+  where
+    resumed-shown : All Shown resumed-rooms
+    resumed-shown =
+        resumes _ refl (loop1 (par SUSP SUSP (atom 1) (done Stop))) refl (refl, (tt, tt)) (tt, tt, tt, tt, tt) _ refl

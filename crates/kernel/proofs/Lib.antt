@@ -8,6 +8,7 @@ pub mod Checks
 pub mod Demand1
 pub mod Demand2
 pub mod Demand3
+pub mod NeverRoundTwice
 pub mod Bounds
 pub mod OneAnswer
 pub mod Lines

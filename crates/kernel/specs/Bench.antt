@@ -42,6 +42,8 @@ pub data Entry : Type 0 where
   not-started : List ℕ → List ℕ → Outcome → ℕ → ℕ → Entry
   -- each of these instants is refused, in the room that it leaves as it was
   not-run : List ℕ → List Line → Entry
+  -- these instants follow one another from this room, which no run need leave so
+  resumed : List ℕ → List ℕ → List Line → Entry
 
 -- check answers exactly this (its contract: the answer is `verdictOf` the bytes)
 pub record Checks (t : List ℕ) (c : Checked) (number index g a w : ℕ) : Type 0 where
@@ -119,6 +121,7 @@ Shown (refused t c n i) =
     × ((s : List ℕ) (X : EventSet) (row : List ℕ) → Answers t s (turned-down X row s (Table c) n i))
 Shown (not-started t s o n i) = Starts t s o n i s
 Shown (not-run t l) = Alone t l
+Shown (resumed t s l) = Follow t s l
 
 -- each of a list
 unfoldable pub All : (Entry → Type 0) → List Entry → Type 0
@@ -456,6 +459,47 @@ more-of-the-forms =
     ∷ [])
     ∷ []
 
+-- Loops (L5): a body that ends begins again in that pass, and doesn't end in it: rules 4 and 12, never 13
+abbrev pub loops : List Entry
+loops =
+    -- Loop(Stop)
+    accepted (table (loop stop) [] 1) 0 0 3
+    (instant [] (ran [] 0 no-event 0 false 1) row9 (room (1 ∷ 3 ∷ []))
+    ∷ instant [] (ran [] 0 no-event 0 false 1) row9 (room (1 ∷ 3 ∷ []))
+    ∷ [])
+    -- Loop(Par(Atom 1, Stop)): A is 2
+    ∷ accepted (table (loop (par (atom 1) stop)) [] 1) 0 2 7
+    (instant [] (ran [] 0 no-event 1 false 1) (1 ∷ 9 ∷ 9 ∷ 9 ∷ []) (own 1 0 0 ++ (own 0 2 0 ++ room (3 ∷ 3 ∷ [])))
+    ∷ instant [] (ran [] 0 no-event 1 false 1) (1 ∷ 9 ∷ 9 ∷ 9 ∷ []) (own 1 0 0 ++ (own 0 2 0 ++ room (3 ∷ 3 ∷ [])))
+    ∷ [])
+    -- Loop(Loop(Stop)): the inner Loop never ends, so the outer one never begins again
+    ∷ accepted (table (loop (loop stop)) [] 1) 0 0 7
+    (instant [] (ran [] 0 no-event 0 false 1) row9 (room (1 ∷ 1 ∷ 3 ∷ []))
+    ∷ instant [] (ran [] 0 no-event 0 false 1) row9 (room (1 ∷ 1 ∷ 3 ∷ []))
+    ∷ [])
+    -- Loop(Seq(Await 0, Stop)): in the last instant the fresh body waits
+    ∷ accepted (table (loop (seq (await 0) stop)) (event 0) 1) 0 0 7
+    (instant (0 ∷ []) (ran (0 ∷ []) 1 0 0 false 1) row9 (room (1 ∷ 2 ∷ 0 ∷ 3 ∷ []))
+    ∷ instant (0 ∷ []) (ran (0 ∷ []) 1 0 0 false 1) row9 (room (1 ∷ 2 ∷ 0 ∷ 3 ∷ []))
+    ∷ instant [] (ran [] 0 no-event 0 false 2) row9 (room (1 ∷ 0 ∷ 0 ∷ 0 ∷ []))
+    ∷ [])
+    -- Loop(Repeat(2, Stop)): the Loop begins the Repeat again with count 1
+    ∷ accepted (table (loop (repeat 2 stop)) [] 1) 0 0 7
+    (instant [] (ran [] 0 no-event 0 false 1) row9 (own 1 0 0 ++ (own 1 0 1 ++ room (3 ∷ [])))
+    ∷ instant [] (ran [] 0 no-event 0 false 1) row9 (room (1 ∷ 1 ∷ 3 ∷ []))
+    ∷ instant [] (ran [] 0 no-event 0 false 1) row9 (own 1 0 0 ++ (own 1 0 1 ++ room (3 ∷ [])))
+    ∷ [])
+    ∷ []
+
+-- Instants from rooms that no run leaves so
+abbrev pub resumed-rooms : List Entry
+resumed-rooms =
+    -- Loop(Par(Atom 1, Stop)), begun, its Atom fresh and its Stop ended: the rest does its atom and ends, the fresh body does one more, as many as A
+    resumed (table (loop (par (atom 1) stop)) [] 1) (room (1 ∷ 0 ∷ 0 ∷ 3 ∷ []))
+    (instant-in [] (9 ∷ 9 ∷ []) (ran [] 0 no-event 2 false 1) (1 ∷ 1 ∷ []) (own 1 0 0 ++ (own 0 2 0 ++ room (3 ∷ 3 ∷ [])))
+    ∷ [])
+    ∷ []
+
 -- Tests, read by an Await
 abbrev pub tests : List Entry
 tests =
@@ -702,4 +746,4 @@ not-at-rest =
 abbrev pub bench-list : List Entry
 bench-list =
     K1-to-K12
-    ++ (more-of-the-forms ++ (tests ++ (figures ++ (harmless-loops ++ (refused-tables ++ (refused-rooms ++ (not-at-rest)))))))
+    ++ (more-of-the-forms ++ (loops ++ (resumed-rooms ++ (tests ++ (figures ++ (harmless-loops ++ (refused-tables ++ (refused-rooms ++ not-at-rest))))))))

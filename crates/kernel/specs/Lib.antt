@@ -3,6 +3,7 @@ pub mod Passes
 pub mod Demand1
 pub mod Demand2
 pub mod Demand3
+pub mod NeverRoundTwice
 pub mod Bounds
 pub mod Bench
 pub mod Exports

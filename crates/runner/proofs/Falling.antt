@@ -19,7 +19,7 @@ other-rank = 3
 abbrev pub form-rank : ℕ
 form-rank = 2
 
--- of what goes on at a node in one of its forms, and of what then runs a child and nothing else at the node
+-- of an Until*, which goes over into its handler, and of what runs a child and nothing else at the node
 abbrev pub stage-rank : ℕ
 stage-rank = 1
 

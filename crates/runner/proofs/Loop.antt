@@ -1,4 +1,4 @@
--- A Loop, rules 12, 4 and 5. Rule 13 never comes about: the body of a Loop stops, so begun it does not end in the same instant.
+-- A Loop, rules 12, 4 and 5. Rule 13 never comes about (L5).
 use Prim.Native.Nat.{ℕ, _+_, _-_, _≤_, _<_}
 use mathlib.Core.Bool.{true}
 use mathlib.Core.Path.{_≡_, refl, ap, sym, _∙_}
@@ -15,7 +15,8 @@ use Rattle.junior.specs.Trace.{Place, first}
 use Rattle.junior.specs.Rules.{r12, r4-loop, r5-loop}
 use Rattle.junior.specs.Figures.{LoopsStop, stops, per}
 use Rattle.junior.proofs.Kept.{prog-fresh}
-use Rattle.junior.proofs.Held.{held-fresh, begun, ends-unheld}
+use Rattle.junior.proofs.Held.{held-fresh, ends-unheld}
+use Rattle.junior.proofs.NeverRoundTwice.{never-round-twice}
 use Rattle.junior.proofs.Going.{Going, rest-going, fresh-at-rest}
 use Rattle.junior.proofs.Figures.{pot, pot-fresh}
 use Rattle.state.specs.StateBytes.{below}
@@ -69,9 +70,9 @@ module _ {table : List ℕ} {i : ℕ} {state words row tally : List ℕ} where
         let b = in-body p h in only-ran loop-body b (omega arith) (b .wide) (b .going) run (first P) (first-at at)
 
     -- it doesn't end
-    pub goes-on : {t : Term} → Begins t → Ready 1 table i state words row tally t → α ≢ TERM
-    unfolding prog LoopsStop
-    goes-on (begins p) h = begun p (body-ran p h (at-node i) refl .rewrites) (h .loops .0)
+    goes-on : (p : Program) → Ready 1 table i state words row tally (loop0 p) → α ≢ TERM
+    unfolding prog
+    goes-on p h = never-round-twice .body p (h .loops) (body-ran p h (at-node i) refl .rewrites)
 
     pub begin-writes : {t : Term} → Begins t → Ready 1 table i state words row tally t → 0 < length (putMid 4 (length state - 4) state s)
     begin-writes (begins p) h =
@@ -83,7 +84,7 @@ module _ {table : List ℕ} {i : ℕ} {state words row tally : List ℕ} where
     begin-ran (begins p) h P at =
         let b = in-body p h in
         let g = body-ran p h P at in
-        let w = goes-on (begins p) h in
+        let w = goes-on p h in
         ran-phase loop-body b (only-cut b loop-body) g (g .lengths) (omega arith) refl loop-body (own-stays α w) (r12 (g .rewrites) w) refl
 
 -- a Loop in the rest of its body

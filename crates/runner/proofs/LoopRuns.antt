@@ -19,9 +19,9 @@ use Rattle.steps.proofs.Row.{kept-then, still}
 use Rattle.steps.proofs.FlagNumbers.{is-term, not-term}
 use Rattle.steps.proofs.Dispatch.{phase-is, to-kind}
 use Rattle.steps.proofs.ChildContext.{child-stands}
-use Rattle.runner.proofs.Loop.{Begins, begins-by, begin-asks, goes-on, begin-writes, begin-ran}
+use Rattle.runner.proofs.Loop.{Begins, begins-by, begin-asks, begin-writes, begin-ran}
 use Rattle.runner.proofs.Loop.{Loops, loops-by, loop-asks, loop-waits, anew-asks, loop-again}
-use Rattle.runner.proofs.Falling.{weigh, child-rank, form-rank, stage-rank, smaller-by}
+use Rattle.runner.proofs.Falling.{weigh, child-rank, form-rank, last-rank, smaller-by}
 
 -- the body begins
 module _ {table : List ℕ} {i : ℕ} {state m row before part behind : List ℕ}
@@ -42,9 +42,6 @@ module _ {table : List ℕ} {i : ℕ} {state m row before part behind : List ℕ
     pub begun-went : Went 0 Any (lent table state m row) (i + 1) (before ++ take 4 part) (midOf 4 (length part - 4) part)
         (drop (length part - 4) (drop 4 part) ++ behind) (lent table state₁ m₁ row₁) f
     begun-went = run _ _ _ begun-stands
-
-    pub never-ends : f ≢ 2
-    never-ends e = goes-on (begun-went .runs) the-begun (o .live .2) (is-term e)
 
     abbrev pub part-begun : List ℕ
     part-begun = putMid 4 (length part - 4) part (begun-went .part′)
@@ -88,7 +85,7 @@ module _ {table : List ℕ} {i : ℕ} {state m row : List ℕ} (on : getD state 
       record { around = o .around; numbers = o .numbers; live = (t, begins-at on fresh (o .around) t w h, unseen h 1) }
 
   pub to-begin : CanRun 0 (OfKind loop-kind) (lent table state m row) i → {k : ℕ} → weigh table i form-rank ≡ k
-      → (weigh table i stage-rank < k) × CanRun 1 Beginning (lent table state m row) i
+      → (weigh table i last-rank < k) × CanRun 1 Beginning (lent table state m row) i
   to-begin (before, part, behind, o) e = (omega arith, (before, part, behind, begin-stands o))
 
   pub by-begin : {L′ : Lent} {r : ℕ} → HasRun 1 Beginning (lent table state m row) i L′ r
@@ -167,14 +164,11 @@ module _ {table : List ℕ} {i : ℕ} {state : List ℕ} (begun : getD state (4 
 
 -- in the words of the needs
 module _ {table : List ℕ} {i : ℕ} {state m row : List ℕ} where
-  pub begin-body : CanRun 1 Beginning (lent table state m row) i → {k : ℕ} → weigh table i stage-rank ≡ k
+  pub begin-body : CanRun 1 Beginning (lent table state m row) i → {k : ℕ} → weigh table i last-rank ≡ k
       → (weigh table (i + 1) child-rank < k) × CanRun 0 Any (lent table state m row) (i + 1)
   begin-body (before, part, behind, o) e = (omega (arith, begun-smaller o), (_, _, _, begun-stands o))
 
   module _ {state₁ m₁ row₁ : List ℕ} {f : ℕ} (run : HasRun 0 Any (lent table state m row) (i + 1) (lent table state₁ m₁ row₁) f) where
-    pub body-goes-on : CanRun 1 Beginning (lent table state m row) i → f ≢ 2
-    body-goes-on (before, part, behind, o) = never-ends o run
-
     pub begin-writes-in : CanRun 1 Beginning (lent table state m row) i → 4 * i < length state₁
     begin-writes-in (before, part, behind, o) = begun-writes o run
 
@@ -197,7 +191,7 @@ module _ {table : List ℕ} {i : ℕ} {state m row : List ℕ} where
       loop-stays n before part behind o = loop-went begun o run n
 
       pub loop-anew : f ≡ 2 → CanRun 0 (OfKind loop-kind) (lent table state m row) i → {k : ℕ} → weigh table i form-rank ≡ k
-          → (weigh table i stage-rank < k) × CanRun 1 Beginning (lent table state₁ m₁ row₁) i
+          → (weigh table i last-rank < k) × CanRun 1 Beginning (lent table state₁ m₁ row₁) i
       loop-anew z (before, part, behind, o) e = (omega arith, (_, _, _, anew-stands begun o run z))
 
       pub loop-goes-on : {L′ : Lent} {r : ℕ} → f ≡ 2 → HasRun 1 Beginning (lent table state₁ m₁ row₁) i L′ r

@@ -265,7 +265,7 @@ fn run_loop(
     begin_loop(table, i, state, numbers, atoms)
 }
 
-// Rules 12 and 13: the body runs from its start. It can't end in the same pass.
+// Rule 12: the body runs from its start. It stops, so it doesn't end in this pass, and 000's rule 13 is never met (L5).
 fn begin_loop(
     table: &&[u8],
     i: usize,
@@ -280,11 +280,8 @@ fn begin_loop(
     ensures { λ r. ⌜ Named (now (state .entry)) (now (state .exit)) (now (atoms .entry)) (now (atoms .exit)) ⌝ }
 {
     let f = run_child(table, i + 1, state, numbers, atoms);
-    if f != TERM {
-        state[4 * i] = BEGUN;
-        return f;
-    }
-    begin_loop(table, i, state, numbers, atoms)
+    state[4 * i] = BEGUN;
+    f
 }
 
 // Rules 14 and 15 when it begins, 4 and 5 in the rest of a run of its body.

@@ -5,6 +5,7 @@ mod bench;
 mod early;
 mod laws;
 mod listings;
+mod loops;
 mod readings;
 mod rules;
 mod text_laws;

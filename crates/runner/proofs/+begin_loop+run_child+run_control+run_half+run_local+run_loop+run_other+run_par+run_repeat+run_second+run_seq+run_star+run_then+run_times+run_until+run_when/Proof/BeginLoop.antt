@@ -5,15 +5,13 @@ use proofs.+begin_loop+run_child+run_control+run_half+run_local+run_loop+run_oth
 use borrow.Fn.Kinds.{In, Out}
 use Prim.Native.Nat.{ℕ}
 use borrow.Author.Needs.{needs}
-use proofs.LoopRuns.{begin-body, body-goes-on, begin-writes-in, loop-begun}
+use proofs.LoopRuns.{begin-body, begin-writes-in, loop-begun}
 
 module _ (t : ℕ) where
   abbrev given : lts.Claims
   given = (
     smaller proofs.run_child.Kinds.ps μ-run-child proofs.run_child.Reads.Pre t,
     proofs.run_child.Reads.Post,
-    smaller proofs.begin_loop.Kinds.ps μ-begin-loop proofs.begin_loop.Reads.Pre t,
-    proofs.begin_loop.Reads.Post,
   )
 
   abbrev Of : (lts.Claims → In 7 lts.ps → Out 7 lts.ps lts.r → Type 0) → Type 0
@@ -28,25 +26,9 @@ module _ (t : ℕ) where
   -- state[4 * i] = BEGUN;
   index-1-state : Of lts.Need-index-1-state
   index-1-state c =
-      let start = c .before .before .before .before .before in
-      let run-child = c .before .run-child in
+      let start = c .before .before .before .before in
+      let run-child = c .run-child in
       begin-writes-in (run-child .ensures .0) (start .pre .1)
-
-  -- begin_loop(table, i, state, numbers, atoms)
-  begin-loop-requires : Of lts.Need-begin-loop-requires
-  begin-loop-requires c κs =
-      let start = c .before .before .before .before .before .before .before .before in
-      let run-child = c .before .before .before .before .run-child in
-      let if1 = c .before .before .before .if1 in
-      absurd (body-goes-on (run-child .ensures .0) (start .pre .1) (if1 .left))
-
-  -- fn begin_loop
-  returns-2 : Of lts.Need-returns-2
-  returns-2 c =
-      let start = c .before .before .before .before .before .before .before .before .before in
-      let run-child = c .before .before .before .before .before .run-child in
-      let if1 = c .before .before .before .before .if1 in
-      absurd (body-goes-on (run-child .ensures .0) (start .pre .1) (if1 .left))
 
   pub closed : {M : Type 1} → lts.Closed given (exactly lts.ps μ-begin-loop Pre t) Post M
   closed = lts.spec given (exactly lts.ps μ-begin-loop Pre t) Post
@@ -54,6 +36,4 @@ module _ (t : ℕ) where
       run-child-requires
       (λ c. search needs)  -- mul-state: state[4 * i] = BEGUN;
       index-1-state
-      (λ c. (loop-begun (c .before .run-child .ensures .0), search needs))  -- returns: return f;
-      begin-loop-requires
-      returns-2
+      (λ c. (loop-begun (c .run-child .ensures .0), search needs))  -- returns: f

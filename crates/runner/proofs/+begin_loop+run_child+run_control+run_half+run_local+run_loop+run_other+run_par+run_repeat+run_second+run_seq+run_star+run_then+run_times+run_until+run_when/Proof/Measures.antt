@@ -12,7 +12,7 @@ abbrev pub smaller : {n : ℕ} (ps : List (PK n)) → Measures n ps ℕ → In n
 smaller {n} ps μ Pre t = and n ps (falls n ps _<_ μ t) Pre
 
 abbrev pub μ-begin-loop : Measures 7 proofs.begin_loop.Kinds.ps ℕ
-μ-begin-loop κs a = weigh (a .0 .now .now) (a .1 .0) stage-rank
+μ-begin-loop κs a = weigh (a .0 .now .now) (a .1 .0) last-rank
 
 abbrev pub μ-run-child : Measures 7 proofs.run_child.Kinds.ps ℕ
 μ-run-child κs a = weigh (a .0 .now .now) (a .1 .0) child-rank

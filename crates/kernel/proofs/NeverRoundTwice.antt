@@ -1,0 +1,24 @@
+-- L5, of every answer: by the contract of `instant` and L5 of the definitions; an accepted table's Loops have bodies that stop.
+use Prim.Native.Nat.{ℕ}
+use mathlib.Core.Path.{sym, _∙_}
+use mathlib.Core.List.{List}
+use Rattle.events.specs.Events.{Events}
+use Rattle.junior.proofs.NeverRoundTwice.{never-round-twice as by-the-rules}
+use Rattle.kernel.specs.declared.Answer.{Answer}
+use Rattle.kernel.specs.Answer.{Answered}
+use Rattle.kernel.specs.Demand2.{Premises}
+use Rattle.kernel.specs.NeverRoundTwice.{NeverRoundTwice}
+use Rattle.kernel.proofs.Accepted.{admitted}
+use Rattle.kernel.proofs.Demand2.{runs, stands, gives}
+
+pub never-round-twice : {t s : List ℕ} {X : Events} {row s′ row′ : List ℕ} {a : Answer} → Premises t s X row → Answered t s X row s′ row′ a
+    → NeverRoundTwice t s X row s′ row′ a
+never-round-twice {t} p o =
+    let r = o .ran (o .outcome-is ∙ sym (runs p)) in
+    record {
+      term = r .term;
+      stands = stands r;
+      result = r .result;
+      instant = by-the-rules .instant (rw (r .program) (admitted t (p .accepted) .loops)) (r .instant);
+      gives = gives p r;
+    }
