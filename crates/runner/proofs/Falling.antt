@@ -6,9 +6,12 @@ use native.Mathlib.Omega.{arith}
 use Rattle.table.specs.Records.{sizeAt}
 use Rattle.steps.proofs.Children.{falling}
 
--- A node's falling number: its size first, then a rank at the node, run_child's being the highest.
+-- A node's falling number: its size first, then a rank at the node, that of a Repeat's turn at its body being the highest.
 abbrev pub weigh : List ℕ → ℕ → ℕ → ℕ
 weigh table i rank = 8 * sizeAt table i + rank
+
+abbrev pub turn-rank : ℕ
+turn-rank = 5
 
 abbrev pub child-rank : ℕ
 child-rank = 4

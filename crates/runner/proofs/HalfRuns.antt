@@ -20,7 +20,7 @@ use Rattle.steps.proofs.FlagNumbers.{code-of}
 use Rattle.steps.proofs.Dispatch.{run-at, phase-is, flags-are}
 use Rattle.steps.proofs.ChildContext.{child-stands, par-end-around}
 use Rattle.runner.proofs.Par.{Left, Right, par-by, left-by, right-by, par-reads, par-fits, left-flag, right-flag, first-asks}
-use Rattle.runner.proofs.Par.{left-end-asks, left-ran, right-asks, right-end-asks, right-ran}
+use Rattle.runner.proofs.Par.{left-end-asks, left-keeps, left-ran, right-asks, right-end-asks, right-ran}
 use Rattle.runner.proofs.Falling.{weigh, child-rank, lighter, smaller-by}
 
 -- a Par that doesn't read as Nothing is in phase 0
@@ -90,6 +90,15 @@ module _ {table : List ℕ} {i : ℕ} {state : List ℕ} (on : getD state (4 * i
       pub left-joins : (f < 3) × (getD state (4 * i + 1) 0 / 4 < 3) × (4 * i + 4 < length state′) × (4 * secondAt table i < length state′)
       left-joins =
           (left-went .below, left-flag-in, byte-in left-around 4 (left-long .0), rw second-there at (byte-in left-around (4 + 4 * n) (left-long .1)))
+
+      pub left-kept : (getD state′ (4 * i + 1) 0 ≡ 4 * (getD state (4 * i + 1) 0 / 4))
+          × (getD state (4 * i + 1) 0 / 4 ≡ 2 → getD state′ (4 * secondAt table i) 0 ≡ 3)
+      left-kept =
+          let (flags, ended) = left-keeps refl (left-went .runs) the-left (o .live .2) in
+          let was = flags-in on (o .around) (o .live .1) (o .live .2) in (
+            byte-at left-around 1 (omega (arith, left-long .0)) ∙ rw was flags,
+            λ e. rw second-there at (byte-at left-around (4 + 4 * n) (left-long .1)) ∙ ended (rw was at e),
+          )
 
       pub half-went-left : {state″ : List ℕ} {r : ℕ} → ParEnds f (getD state (4 * i + 1) 0 / 4) (4 * i) (4 * secondAt table i) state′ state″ r
           → Went 0 NotBoth (lent table state m row) i before part behind (lent table state″ m′ row′) r
@@ -174,6 +183,11 @@ module _ {table : List ℕ} {i : ℕ} {state m row : List ℕ} (on : getD state 
       pub half-left-joins : CanRun 0 NotBoth (lent table state m row) i
           → (f < 3) × (getD state (4 * i + 1) 0 / 4 < 3) × (4 * i + 4 < length state′) × (4 * second < length state′)
       half-left-joins (before, part, behind, o) = rw is (left-joins on o suspended run)
+
+      pub half-left-keeps : CanRun 0 NotBoth (lent table state m row) i
+          → (getD state′ (4 * i + 1) 0 ≡ 4 * (getD state (4 * i + 1) 0 / 4))
+          × (getD state (4 * i + 1) 0 / 4 ≡ 2 → getD state′ (4 * second) 0 ≡ 3)
+      half-left-keeps (before, part, behind, o) = rw is (left-kept on o suspended run)
 
       pub half-left-done : {state″ : List ℕ} {r : ℕ} → ParEnds f (getD state (4 * i + 1) 0 / 4) (4 * i) (4 * second) state′ state″ r
           → HasRun 0 NotBoth (lent table state m row) i (lent table state″ m′ row′) r

@@ -1,12 +1,12 @@
 -- A Par's bytes: the parts that its branches are lent, and what par_end makes of them when both have answered.
 use Prim.Native.Nat.{ℕ, suc, _+_, _-_, _*_, _<_}
 use mathlib.Core.Bool.{cond}
-use mathlib.Core.Path.{_≡_, refl, ap, ap₂, sym, _∙_}
+use mathlib.Core.Path.{_≡_, refl, ap, ap₂, sym, subst, _∙_}
 use mathlib.Core.Logic.{_≢_}
 use mathlib.Core.List.{List, [], _∷_, _++_, append-nil}
 use native.Mathlib.Omega.{arith}
-use lib.ListN.{length, set, replicate, length-append, length-set}
-use lib.Seq.{set-at}
+use lib.ListN.{length, getD, set, replicate, length-append, length-set}
+use lib.Seq.{set-at, getD-append-add}
 use Rattle.events.specs.Events.{Events}
 use Rattle.events.specs.Members.{marks}
 use Rattle.junior.specs.declared.Flag.{Flag}
@@ -18,7 +18,7 @@ use Rattle.junior.specs.Trace.{Place}
 use Rattle.junior.specs.AtRest.{Over}
 use Rattle.junior.proofs.Going.{Going, Stand, stands}
 use Rattle.table.proofs.Tree.{size-pos}
-use Rattle.state.specs.StateBytes.{code, zeros, below, stateBytes}
+use Rattle.state.specs.StateBytes.{code, head, zeros, below, stateBytes}
 use Rattle.state.proofs.Parts.{first-of, with-first, rest-of, with-rest, blank-two, part-is, put-is}
 use Rattle.steps.specs.Running.{Ran}
 use Rattle.steps.specs.Running.{left, gone, ended, isTERM, parEnd}
@@ -59,9 +59,14 @@ module _ {state : List ℕ} {flags n : ℕ} {a b : List ℕ} (o : Two state flag
         first-long = o .first-long;
       }
 
--- flags of zero are as they were
-pub unchanged : {state : List ℕ} {n : ℕ} {a b : List ℕ} → Two state 0 n a b → state ≡ set state 1 0
-unchanged o = o .state-is ∙ sym (ap (λ l. set l 1 0) (o .state-is))
+  -- the flags, and the second branch's phase
+  pub flags-at : getD state 1 0 ≡ flags
+  flags-at = ap (λ l. getD l 1 0) (o .state-is)
+
+  pub second-at : getD state (4 + 4 * n) 0 ≡ getD b 0 0
+  second-at =
+      let there : length (0 ∷ flags ∷ 0 ∷ 0 ∷ a) + 0 ≡ 4 + 4 * n = omega (arith, o .first-long) in
+      rw (o .state-is, ← there) (getD-append-add (0 ∷ flags ∷ 0 ∷ 0 ∷ a) b 0 0)
 
 -- par_end writes the first byte of each branch
 pub end-asks : {state : List ℕ} {flags n : ℕ} {a b : List ℕ} → Two state flags n a b → 0 < n → 0 < length b
@@ -77,6 +82,10 @@ Branch TERM t a = (t ≡ done (prog t)) × ((ph : ℕ) × (a ≡ ph ∷ replicat
 over : (t : Term) → Over TERM t → t ≡ done (prog t)
 unfolding prog
 over t (p, e) = e ∙ ap done (sym (ap prog e))
+
+-- a branch that stands with TERM is in phase 3
+pub stood-ended : (X : Events) (α : Flag) (t : Term) → α ≡ TERM → Stand α X t → getD (stateBytes t) 0 0 ≡ 3
+stood-ended X α t e s = let (p, is) = subst (λ f. Stand f X t) e s in ap (λ x. head x .phase) is
 
 zeros-cons : (p : Program) → zeros p ≡ 0 ∷ replicate (4 * size p - 1) 0
 zeros-cons p = let e : 4 * size p ≡ suc (4 * size p - 1) = omega (arith, size-pos p) in ap (λ k. replicate k 0) e

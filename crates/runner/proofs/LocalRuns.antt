@@ -130,8 +130,8 @@ module _ {table : List ℕ} {i : ℕ} {state m row : List ℕ} (on : getD state 
     local-body (before, part, behind, o) = (body-smaller on o names q, (_, _, _, body-stands on o names q))
 
     module _ {state₁ m₂ row₁ : List ℕ} {f : ℕ} (run : HasRun 0 Any (lent table state m₁ row) (i + 1) (lent table state₁ m₂ row₁) f) where
-      pub local-leaves : CanRun 0 (OfKind local-kind) (lent table state m row) i → length m₂ ≡ places-of-row
-      local-leaves (before, part, behind, o) = row-long on o names q run
+      pub local-leaves : CanRun 0 (OfKind local-kind) (lent table state m row) i → (length m₂ ≡ places-of-row) × (e < places)
+      local-leaves (before, part, behind, o) = (row-long on o names q run, omega (arith, local-event on o))
 
       pub local-flag : CanRun 0 (OfKind local-kind) (lent table state m row) i → f < 3
       local-flag (before, part, behind, o) = body-went on o names q run .below

@@ -28,11 +28,11 @@ use Rattle.state.proofs.Parts.{first-of, with-first, rest-of, with-rest, len-by
 use Rattle.state.proofs.Shape.{Shape, is-done, is-par, shape-by}
 use Rattle.steps.specs.Running.{envOf, Ready, Wrote, SameLengths, Ran, Live, Runs, Any, Kind, LeftSuspended}
 use Rattle.steps.specs.Running.{RightSuspended, parEnd, atoms-done}
-use Rattle.steps.proofs.FlagTables.{code-same, code-below, both-are}
+use Rattle.steps.proofs.FlagTables.{code-same, code-below}
 use Rattle.steps.proofs.Children.{asks-for, at-node, falling, first-at, second-at, byte-is}
 use Rattle.steps.proofs.Done.{same-lengths, lengths-then, few, ran-flag, ran-long, room-after, wrote-as, wrote-then}
-use Rattle.runner.proofs.Joined.{Two, first-part, put-first, ends, second-part, put-second}
-use Rattle.runner.proofs.Joined.{end-asks, unchanged}
+use Rattle.runner.proofs.Joined.{Two, flags-at, second-at as two-at, stood-ended, first-part, put-first, ends, second-part, put-second}
+use Rattle.runner.proofs.Joined.{end-asks}
 use Rattle.runner.proofs.Joined.{Branch, branch-stood, branch-ran, par-ended}
 
 -- a Par, and which of its branches run
@@ -108,12 +108,6 @@ module _ {table : List ℕ} {i : ℕ} {state words row tally : List ℕ} {t : Te
 
   pub both-by : Kind 4 t → getD state 1 0 ≡ 0 → First SUSP t
   both-by w e = both-of (par-by w h) (sym flags-are ∙ e)
-
-  pub to-left : Kind 4 t → getD state 1 0 ≢ 0 → getD state 1 0 % 4 ≡ 0 → LeftSuspended t
-  to-left w z e = (w, rw flags-are at e, λ y. z (flags-are ∙ y))
-
-  pub to-right : Kind 4 t → getD state 1 0 % 4 ≢ 0 → RightSuspended t
-  to-right w e = (w, rw flags-are at e)
 
 -- the children in the table
 module _ {table : List ℕ} {i : ℕ} {p q : Program} (h : Placed table i (Par p q)) where
@@ -254,6 +248,19 @@ module _ {table : List ℕ} {i : ℕ} {state words row tally : List ℕ} {n : �
         end-asks (first-back h) (omega (arith, size-pos (prog t), first-size (h .placed) m))
         (omega (arith, size-pos (prog u), len-bytes u))
 
+    -- the flags are still those of a suspended branch and of one that isn't run, which is in phase 3 if it has ended
+    pub left-keeps : {t : Term} → Left t → Ready 0 table i state words row tally t
+        → (getD (with-first state n s) 1 0 ≡ 4 * (getD state 1 0 / 4))
+        × (getD state 1 0 / 4 ≡ 2 → getD (with-first state n s) (4 + 4 * n) 0 ≡ 3)
+    unfolding Going
+    left-keeps (β, k, first-runs t u) h =
+        let flags = byte-is h 1 (omega arith) in (
+          omega (arith, flags, flags-at (first-back h), code-below β),
+          λ e.
+              two-at (first-back h)
+              ∙ stood-ended (marks words) β u (code-same β TERM (omega (arith, flags, code-below β))) (h .going .2),
+        )
+
     pub left-ran : {t : Term} → Left t → Ready 0 table i state words row tally t
         → (g : Flag)
         → code g ≡ getD state 1 0 / 4
@@ -325,15 +332,6 @@ module _ {table : List ℕ} {i : ℕ} {state words row tally : List ℕ} {n : �
           par-ran α β (d .to) (e .to) (r8 (d .rewrites) (e .rewrites)) w
           (lengths-then (d .lengths) (e .lengths)) (both-back h) (branch-ran d (h .going .1))
           (branch-ran e (both-second h .going)) q
-
-      -- nothing is to be written where both are suspended
-      pub both-wait : {t : Term} → First SUSP t → Ready 0 table i state words row tally t → code α + code β ≡ 0
-          → (P : Place)
-          → P .node ≡ i
-          → Ran P t words row tally (with-rest (with-first state n s) n s₂) words″ row″ tally″ SUSP
-      both-wait (first-runs t u) h e =
-          let (a, b) = both-are α β e in
-          both-ran (first-runs t u) h (rw (a, b) (refl, unchanged (both-back h)))
 
   -- rule 11: the second branch alone
   module _ {α : Flag} {t u : Term} (h : Ready 0 table i state words row tally (par α SUSP t u)) where

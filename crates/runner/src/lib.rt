@@ -1,9 +1,10 @@
 // A pass: one function a form; a child is run by `run_child`. A node that answers TERM leaves its subtree's bytes all zero; whoever keeps it in
-// sight marks it as phase 3. A form runs a nested node of its own form by itself: so the compiler keeps each form apart, and a leaf
-// doesn't pay for the registers of the largest form.
+// sight marks it as phase 3. A form runs a nested node of its own form by itself, and `run_other` and `run_await` are called from two places: so
+// the compiler keeps each of them apart, and a leaf doesn't pay for the registers of the largest form.
 ghost use mathlib.Core.Path.{_≡_};
 ghost use Prim.Native.Nat.{_+_, _*_};
 ghost use lib.ListN.{getD};
+ghost use Rattle.table.specs.Records.{kindAt};
 ghost use Rattle.steps.specs.Running.{Any, Times};
 ghost use Rattle.steps.specs.Kinds.{all-seen, phase-unseen, own-unseen, OfKind, BothSuspended, NotBoth};
 ghost use Rattle.steps.specs.Kinds.{Others, InSecond, InThen, Beginning, Starred};
@@ -14,22 +15,24 @@ use steps::flags::STOP;
 use steps::flags::SUSP;
 use steps::flags::TERM;
 use steps::flags::both_ran;
+use steps::flags::first_ran;
 use steps::flags::par_end;
 use steps::flags::phase_after;
 use steps::flags::sign_after;
 use steps::kinds;
 use steps::leaves::UNKNOWN;
 use steps::leaves::UNSAT;
+use steps::leaves::lone_event;
 use steps::leaves::run_atom;
 use steps::leaves::run_await;
 use steps::leaves::run_generate;
+use steps::leaves::run_lone;
 use steps::leaves::run_nothing;
 use steps::leaves::run_stop;
 use steps::leaves::test_rank;
 use steps::numbers::ENDED;
 use steps::numbers::NUMBERS;
-use steps::numbers::enter_scope;
-use steps::numbers::leave_scope;
+use steps::numbers::exchange_event;
 use steps::phases::BEGUN;
 use steps::phases::COUNT;
 use steps::phases::FLAGS;
@@ -49,7 +52,7 @@ use table::records::argument_at;
 use table::records::kind_at;
 use table::records::second_at;
 
-// Runs node i once. The most frequent kinds are told apart first.
+// Runs node i once. The most frequent kinds are told apart first, and an Await of a lone event costs no call.
 pub fn run_child(
     table: &&[u8],
     i: usize,
@@ -71,6 +74,9 @@ pub fn run_child(
         return run_half(table, i, state, numbers, atoms);
     }
     if kind == kinds::AWAIT {
+        if lone_event(*table, i, state[4 * i], numbers) {
+            return run_lone(table, i, state, numbers, atoms);
+        }
         return run_await(table, i, state, numbers, atoms);
     }
     if kind == kinds::SEQ {
@@ -160,7 +166,7 @@ fn run_half(
     if f == SUSP {
         let g = flags / 4;
         let f = run_child(table, i + 1, state, numbers, atoms);
-        return par_end(*state, 4 * i, 4 * second, f, g);
+        return first_ran(*state, 4 * i, 4 * second, f, g);
     }
     if half_par(
         kind_at(*table, second),
@@ -206,7 +212,9 @@ fn run_seq(
         state[4 * i] = phase_after(g, SECOND);
         return g;
     }
-    run_second(table, i, state, numbers, atoms)
+    let g = run_child(table, second, state, numbers, atoms);
+    state[4 * i] = phase_after(g, SECOND);
+    g
 }
 
 // A Seq, When or Until that has gone over, or now goes over, into its second child: phase 2 until that ends.
@@ -224,6 +232,11 @@ fn run_second(
     ensures { λ r. ⌜ Named (now (state .entry)) (now (state .exit)) (now (atoms .entry)) (now (atoms .exit)) ⌝ }
 {
     let second = second_at(*table, i);
+    if state[4 * second] == SECOND {
+        let f = run_second(table, second, state, numbers, atoms);
+        state[4 * i] = phase_after(f, SECOND);
+        return f;
+    }
     let f = run_child(table, second, state, numbers, atoms);
     state[4 * i] = phase_after(f, SECOND);
     f
@@ -344,9 +357,10 @@ fn run_times(
         (held (table .exit) (state .exit) (numbers .exit) (atoms .exit)) r ⌝ }
     ensures { λ r. ⌜ Named (now (state .entry)) (now (state .exit)) (now (atoms .entry)) (now (atoms .exit)) ⌝ }
 {
+    let kind = kind_at(*table, i + 1);
     let mut left = k;
     loop {
-        let f = run_child(table, i + 1, state, numbers, atoms);
+        let f = run_turn(table, i + 1, state, numbers, atoms, kind);
         if f != TERM {
             begin_turn(*state, 4 * i, left);
             return f;
@@ -357,6 +371,37 @@ fn run_times(
         }
         left -= 1;
     }
+}
+
+// Runs node i, the body of a Repeat, once. Its kind is read once for all turns, and a Nothing costs no call.
+fn run_turn(
+    table: &&[u8],
+    i: usize,
+    state: &mut &mut [u8],
+    numbers: &mut [u64; NUMBERS],
+    atoms: &mut &mut [u16],
+    kind: usize,
+) -> u8
+    requires { ⌜ CanRun all-seen Any (held table state numbers atoms) i ⌝ }
+    requires { ⌜ kind ≡ kindAt (now (now table)) i ⌝ }
+    ensures { λ r.
+        ⌜ HasRun all-seen Any (held (table .entry) (state .entry) (numbers .entry) (atoms .entry)) i
+        (held (table .exit) (state .exit) (numbers .exit) (atoms .exit)) r ⌝ }
+    ensures { λ r. ⌜ Named (now (state .entry)) (now (state .exit)) (now (atoms .entry)) (now (atoms .exit)) ⌝ }
+{
+    if kind == kinds::NOTHING {
+        return run_nothing(table, i, state, numbers, atoms);
+    }
+    if kind == kinds::PAR {
+        return run_child(table, i, state, numbers, atoms);
+    }
+    if kind == kinds::AWAIT {
+        return run_await(table, i, state, numbers, atoms);
+    }
+    if kind == kinds::SEQ {
+        return run_seq(table, i, state, numbers, atoms);
+    }
+    run_other(table, i, state, numbers, atoms)
 }
 
 // Rules 17 to 21.
@@ -543,15 +588,15 @@ fn run_local(
         return TERM;
     }
     let event = argument_at(*table, i);
-    let outside = enter_scope(numbers, event, phase == PLUS);
+    let outside = exchange_event(numbers, event, phase == PLUS);
     if kind_at(*table, i + 1) == kinds::LOCAL {
         let f = run_local(table, i + 1, state, numbers, atoms);
-        let inside = leave_scope(numbers, event, outside);
+        let inside = exchange_event(numbers, event, outside);
         state[4 * i] = sign_after(f, inside);
         return f;
     }
     let f = run_child(table, i + 1, state, numbers, atoms);
-    let inside = leave_scope(numbers, event, outside);
+    let inside = exchange_event(numbers, event, outside);
     state[4 * i] = sign_after(f, inside);
     f
 }

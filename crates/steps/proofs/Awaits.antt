@@ -1,13 +1,13 @@
 -- An Await, rules 22 to 25, over all that is lent; what reading a node's test comes to.
 use Prim.Native.Nat.{ℕ, zero, suc, _*_, _<_}
-use mathlib.Core.Bool.{Bool, true, false}
+use mathlib.Core.Bool.{Bool, true, false, _||_}
 use mathlib.Core.Path.{_≡_, refl, _∙_}
 use mathlib.Core.Logic.{_≢_}
 use mathlib.Core.List.{List}
 use native.Mathlib.Omega.{arith}
 use lib.Dec.{lit<, ltb}
 use lib.ListN.{getD, set}
-use borrow.Author.Tests.{eqb-true, ne-eqb, not-true}
+use borrow.Author.Tests.{eqb-true, eqb-false, ne-eqb, not-true}
 use Rattle.events.specs.Members.{marks}
 use Rattle.junior.specs.declared.Verdict.the-variants.{Sat, Unsat, Unknown}
 use Rattle.junior.specs.Configuration.{Config, Event, Not, And, Or, test, fixed, eval, verdict}
@@ -21,7 +21,7 @@ use Rattle.steps.proofs.LeafParts.{await-has, await-waits, await-fails,
 use Rattle.steps.proofs.Tally.{not-ended, is-ended}
 use Rattle.steps.specs.Numbers.{ended-at, wordsOf, tallyOf}
 use Rattle.steps.specs.Kinds.{OfKind, await-kind}
-use Rattle.steps.specs.Tests.{CanTest, TestRanked, loneAbsent}
+use Rattle.steps.specs.Tests.{CanTest, TestRanked, loneEvent}
 use Rattle.steps.specs.Flags.{flagOf}
 use Rattle.steps.specs.Lent.{lent, CanRun, HasRun}
 use Rattle.steps.proofs.Context.{put-phase}
@@ -42,20 +42,25 @@ pub ranked-2 : {r : ℕ} → r ≢ 1 → r ≢ 0 → unranked r ≡ Sat
 unfolding unranked
 ranked-2 {r} a b = rw (ne-eqb r 0 b, ne-eqb r 1 a)
 
--- a lone event that is absent is read by whether the end is declared
+-- a lone event is read by its presence and by whether the end is declared
 lone-read : (table : List ℕ) (c : ℕ) (words : List ℕ) (d : Config) → Configured table c d → partKind table c ≡ 0
-    → marks words (partEvent table c) ≡ false → (eoi moved : Bool)
-    → verdict eoi false ≡ test d (record { now = marks words; eoi = eoi; move = moved })
+    → (b : Bool) → marks words (partEvent table c) ≡ b → (eoi moved : Bool)
+    → verdict (b || eoi) b ≡ test d (record { now = marks words; eoi = eoi; move = moved })
 unfolding Configured test fixed eval
-lone-read table c words (Event s) h k a eoi moved = rw (← h .2, a)
-lone-read table c words (Not d) h k a eoi moved = absurd (omega (arith, h .0))
-lone-read table c words (And d e) h k a eoi moved = absurd (omega (arith, h .0))
-lone-read table c words (Or d e) h k a eoi moved = absurd (omega (arith, h .0))
+lone-read table c words (Event s) h k b a eoi moved = rw (← h .2, a)
+lone-read table c words (Not d) h k b a eoi moved = absurd (omega (arith, h .0))
+lone-read table c words (And d e) h k b a eoi moved = absurd (omega (arith, h .0))
+lone-read table c words (Or d e) h k b a eoi moved = absurd (omega (arith, h .0))
 
-lone-ranked : (table : List ℕ) (i : ℕ) (m : List ℕ) → loneAbsent table i m ≡ true
-    → TestRead table i (wordsOf m) (tallyOf m) (verdict (ltb 0 (getD m ended-at 0)) false)
-lone-ranked table i m e d h =
-    let (k, a) = both-true _ _ e in lone-read table (tested table i) (wordsOf m) d h (eqb-true _ _ k) (not-true _ a) _ _
+lone-ranked : (table : List ℕ) (i : ℕ) (m : List ℕ) → partKind table (tested table i) ≡ 0
+    → (b : Bool) → marks (wordsOf m) (partEvent table (tested table i)) ≡ b
+    → TestRead table i (wordsOf m) (tallyOf m) (verdict (b || ltb 0 (getD m ended-at 0)) b)
+lone-ranked table i m k b a d h = lone-read table (tested table i) (wordsOf m) d h k b a _ _
+
+lone-sat : (table : List ℕ) (i : ℕ) (m : List ℕ) → partKind table (tested table i) ≡ 0
+    → marks (wordsOf m) (partEvent table (tested table i)) ≡ true → TestRanked table i m 2
+unfolding unranked
+lone-sat table i m k here = lone-ranked table i m k true here
 
 module _ {table : List ℕ} {i : ℕ} {state m row : List ℕ} (on : getD state (4 * i) 0 ≢ 3) where
   pub await-tests : CanRun 0 (OfKind await-kind) (lent table state m row) i → CanTest table i m
@@ -63,16 +68,16 @@ module _ {table : List ℕ} {i : ℕ} {state m row : List ℕ} (on : getD state 
       let (t, w, h) = o .live in
       record { has = await-has (shape-by t w refl) (λ e. on (phase-is (o .around) h ∙ e)) h; row = o .numbers }
 
-  -- it answers whether the end is declared
-  pub lone-run : loneAbsent table i m ≡ true
+  -- a lone event that is absent: it answers whether the end is declared
+  pub lone-run : partKind table (tested table i) ≡ 0 → marks (wordsOf m) (partEvent table (tested table i)) ≡ false
       → HasRun 0 (OfKind await-kind) (lent table state m row) i (lent table state m row) (getD m ended-at 0)
-  lone-run e before part behind o =
+  lone-run k a before part behind o =
       record {
         part′ = part;
         around = o .around;
         kept = kept-same m;
         below = omega (arith, o .numbers .ended-below);
-        runs = go (getD m ended-at 0) (o .numbers .ended-below) (lone-ranked table i m e);
+        runs = go (getD m ended-at 0) (o .numbers .ended-below) (lone-ranked table i m k false a);
       }
     where
       go : (n : ℕ) → n < 2 → TestRead table i (wordsOf m) (tallyOf m) (verdict (ltb 0 n) false)
@@ -124,3 +129,18 @@ module _ {table : List ℕ} {i : ℕ} {state m row : List ℕ} (on : getD state 
           runs = λ t w h P at.
               await-stops reads (shape-by t w refl) (λ e. on (phase-is (o .around) h ∙ e)) h (ranked-2 a b) (is-ended z);
         }
+
+  -- one that is present
+  module _ (k : partKind table (tested table i) ≡ 0) (here : marks (wordsOf m) (partEvent table (tested table i)) ≡ true) where
+    pub lone-met : getD m ended-at 0 ≡ 0 → HasRun 0 (OfKind await-kind) (lent table state m row) i (lent table state m row) 2
+    lone-met z = await-met (lone-sat table i m k here) (λ e. omega arith) (λ e. omega arith) z
+
+    pub lone-met-late : getD m ended-at 0 ≢ 0
+        → HasRun 0 (OfKind await-kind) (lent table state m row) i (lent table (set state (4 * i) 3) m row) 1
+    lone-met-late z = await-met-late (lone-sat table i m k here) (λ e. omega arith) (λ e. omega arith) z
+
+-- what the test for a lone event says
+pub lone-is : (table : List ℕ) (i phase : ℕ) → loneEvent table i phase ≡ true → (phase ≢ 3) × (partKind table (tested table i) ≡ 0)
+lone-is table i phase e =
+    let (on, k) = both-true _ _ e in
+    (eqb-false phase 3 (not-true _ on), eqb-true _ _ k)

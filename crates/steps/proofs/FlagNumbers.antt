@@ -76,3 +76,16 @@ both-stay {f} {g} {at} {s = s} e z =
     let a : f ≡ 0 = omega arith in
     let b : g ≡ 0 = omega arith in
     rw (a, b) (record { bytes = sym (set-there s (at + 1) 0 z); below = lit< tt; flag = refl })
+
+-- where the first branch stays suspended beside a second that isn't run, what would be written is there already
+first-kept : (g : ℕ) {at second : ℕ} {s : List ℕ} → g < 3 → getD s (at + 1) 0 ≡ 4 * g → (g ≡ 2 → getD s second 0 ≡ 3)
+    → ParEnds 0 g at second s s 0
+first-kept zero {at} {s = s} l z u = record { bytes = sym (set-there s (at + 1) 0 z); below = lit< tt; flag = refl }
+first-kept (suc zero) {at} {s = s} l z u = record { bytes = sym (set-there s (at + 1) 4 z); below = lit< tt; flag = refl }
+first-kept (suc (suc n)) {at} {second} {s} l z u =
+    let flags = set-there s (at + 1) 8 (omega arith) in
+    record { bytes = sym (ap (λ (x : List ℕ). set x second 3) flags ∙ set-there s second 3 (u (omega arith))); below = lit< tt; flag = refl }
+
+pub first-stays : {f g at second : ℕ} {s : List ℕ} → f ≡ 0 → g < 3 → getD s (at + 1) 0 ≡ 4 * g → (g ≡ 2 → getD s second 0 ≡ 3)
+    → ParEnds f g at second s s 0
+first-stays {g = g} e l z u = rw e (first-kept g l z u)

@@ -1,5 +1,5 @@
 -- The row of numbers: what a write leaves of it, and the event words taken out and put back.
-use Prim.Native.Nat.{ℕ, zero, suc, _+_, _*_, _/_, _≤_, _<_}
+use Prim.Native.Nat.{ℕ, zero, suc, _+_, _*_, _/_, _%_, _^_, _≤_, _<_}
 use mathlib.Core.Bool.{Bool, true, false}
 use mathlib.Core.Path.{_≡_, refl, ap, sym, subst, _∙_}
 use mathlib.Core.Logic.{_≢_}
@@ -8,9 +8,11 @@ use native.Mathlib.Omega.{arith}
 use mir.Val.{boolByte}
 use lib.Dec.{eqb}
 use lib.ListN.{length, getD, take, drop, set, replicate, length-append, length-set, length-drop}
-use lib.Seq.{getD-append-add, getD-drop, getD-take, getD-set-same, getD-set-other, take-at, take-set-le, length-take-le}
+use lib.Seq.{getD-append-add, getD-drop, getD-take, getD-set-same, getD-set-other, take-at, take-set-le, take-set-lt, length-take-le}
 use Rattle.events.specs.Events.{put}
 use Rattle.events.specs.Members.{places, marks}
+use Rattle.events.proofs.Bits.{digits}
+use Rattle.events.proofs.Words.{marks-put}
 use Rattle.table.specs.Records.{nodes}
 use Rattle.steps.specs.Numbers.{event-words, atoms-at, moved-at, ended-at, base-at, places-of-row}
 use Rattle.steps.specs.Numbers.{wordsOf, tallyOf, withWords, firstNumbers, nextNumbers, Numbers, Kept, Put}
@@ -138,17 +140,31 @@ next-holds {m = m} n =
     below true = omega arith
     below false = omega arith
 
--- an event put into the row by a set of events by value
-pub puts : (m words : List ℕ) {e : ℕ} {b : Bool} → length m ≡ places-of-row → length words ≡ event-words
-    → marks words ≡ put e b (marks (wordsOf m)) → {m′ : List ℕ} → m′ ≡ withWords words m → Put e b m m′
-puts m words {e} {b} n l s {m′} is =
-    subst (λ (x : List ℕ). Put e b m x) (sym is)
-    (record {
-      events = ap marks (words-in m words l) ∙ s;
-      wide = ap length (words-in m words l) ∙ (l ∙ sym (length-take-le event-words m (omega arith)));
-      tally = words-tally m words l;
-      kept = words-kept m words l n;
-    })
+-- an event put into its word in the row
+module _ (m : List ℕ) (e : ℕ) (l : length m ≡ places-of-row) (there : e < places) where
+  pub word-in : e / 64 < event-words
+  word-in = omega arith
+
+  words-set : (w : ℕ) → wordsOf (set m (e / 64) w) ≡ set (wordsOf m) (e / 64) w
+  words-set w = take-set-lt event-words m (e / 64) w word-in
+
+  pub puts : (b : Bool) (w : ℕ) → digits w ≡ put (e % 64) b (digits (getD m (e / 64) 0)) → Put e b m (set m (e / 64) w)
+  puts b w d =
+      let n : length (wordsOf m) ≡ event-words = length-take-le event-words m (omega arith) in
+      let other : (k : ℕ) → event-words ≤ k → getD (set m (e / 64) w) k 0 ≡ getD m k 0 = λ k h. getD-set-other m (e / 64) k w 0 (λ x. omega (arith, word-in)) in
+      record {
+        events =
+            ap marks (words-set w)
+            ∙ marks-put (wordsOf m) e b w (omega arith) (λ j. rw (getD-take event-words m (e / 64) 0 word-in, d));
+        wide = ap length (words-set w) ∙ length-set (wordsOf m) (e / 64) w;
+        tally = rw (other atoms-at (omega arith), other moved-at (omega arith), other ended-at (omega arith));
+        kept = record { long = length-set m (e / 64) w; ended = other ended-at (omega arith); base = other base-at (omega arith) };
+      }
+
+  -- its mark, read there
+  pub mark-at : eqb (getD m (e / 64) 0 / 2 ^ (e % 64) % 2) 1 ≡ marks (wordsOf m) e
+  unfolding marks
+  mark-at = rw (getD-take event-words m (e / 64) 0 word-in)
 
 -- numbers copied one by one: so many are the other's, the rest is as it was
 pub copy-more : (k : ℕ) (xs ys : List ℕ) → k < length xs → k < length ys

@@ -1,23 +1,22 @@
--- Where the configuration that a node tests begins, and whether it is a lone event that is absent.
+-- Where the configuration that a node tests begins, and whether it is a lone event.
 use Prim.Native.Nat.{ℕ, zero, suc, _+_, _*_, _<_}
-use mathlib.Core.Bool.{Bool, false, not}
+use mathlib.Core.Bool.{Bool, not}
 use mathlib.Core.Path.{_≡_, refl, sym, _∙_}
 use mathlib.Core.Logic.{_≢_}
 use mathlib.Core.List.{List}
 use native.Mathlib.Omega.{arith}
 use lib.Dec.{eqb, ltb}
-use lib.ListN.{length, getD}
+use lib.ListN.{getD}
 use borrow.Author.Tests.{ne-eqb, lt-ltb}
-use Rattle.events.specs.Members.{marks}
+use Rattle.events.specs.Members.{places, marks}
 use Rattle.junior.specs.declared.Verdict.{Verdict}
-use Rattle.junior.specs.Configuration.{Config, Event, Not, And, Or}
 use Rattle.table.specs.Records.{argumentAt, partKind, partEvent}
-use Rattle.table.specs.Spells.{tested, weight}
+use Rattle.table.specs.Spells.{tested}
 use Rattle.table.specs.Reading.{ConfigurationAt, ReadAs}
 use Rattle.steps.specs.Running.{TestRead}
 use Rattle.steps.proofs.LoadedNode.{test-inside}
 use Rattle.steps.specs.Numbers.{moved-at, ended-at, base-at, wordsOf, tallyOf}
-use Rattle.steps.specs.Tests.{CanTest, loneAbsent}
+use Rattle.steps.specs.Tests.{CanTest, loneEvent}
 use Rattle.steps.proofs.Row.{mark-in-words}
 
 module _ {table : List ℕ} {i : ℕ} {m : List ℕ} (h : CanTest table i m) where
@@ -28,13 +27,14 @@ module _ {table : List ℕ} {i : ℕ} {m : List ℕ} (h : CanTest table i m) whe
   test-stands = let (c, s) = h .has .spelled in (c, s, test-inside (h .has) c s)
 
 module _ {table : List ℕ} {i : ℕ} {m : List ℕ} (h : CanTest table i m) {c : ℕ} (at : c ≡ tested table i) where
-  pub lone-found : {k e : ℕ} {x : Bool} → k ≡ partKind table c → k ≡ 0 → (e ≡ partEvent table c) × (e < 256) → x ≡ marks m e
-      → not x ≡ loneAbsent table i m
-  lone-found {k} {e} {x} p z q r =
-      rw (← at, ← p, z, ← q .0, ← mark-in-words m e (q .1), r)
+  -- whether it is a lone event, read at a node that isn't in phase 3
+  pub lone-found : {k phase : ℕ} → k ≡ partKind table c → phase ≢ 3 → eqb k 0 ≡ loneEvent table i phase
+  lone-found {k} {phase} p on = rw (ne-eqb phase 3 on, ← at, ← p)
 
-  pub not-lone : {k : ℕ} → k ≡ partKind table c → k ≢ 0 → false ≡ loneAbsent table i m
-  not-lone {k} p n = rw (← at, ← p, ne-eqb k 0 n)
+  -- and whether that is present
+  pub lone-marked : {e : ℕ} {x b : Bool} → (e ≡ partEvent table c) × (e < places) → x ≡ marks m e → x ≡ b
+      → marks (wordsOf m) (partEvent table (tested table i)) ≡ b
+  lone-marked {e} q r is = rw (← at, ← q .0, ← mark-in-words m e (q .1)) (sym r ∙ is)
 
 not-zero : (n : ℕ) → not (eqb n 0) ≡ ltb 0 n
 not-zero zero = refl

@@ -3,8 +3,7 @@ use Prim.Native.Nat.{ℕ}
 use mathlib.Core.Bool.{Bool, _&&_, not}
 use mathlib.Core.List.{List}
 use lib.Dec.{eqb}
-use Rattle.events.specs.Members.{marks}
-use Rattle.table.specs.Records.{partKind, partEvent}
+use Rattle.table.specs.Records.{partKind}
 use Rattle.table.specs.Spells.{tested}
 use Rattle.table.specs.Inside.Ranks.{unranked}
 use Rattle.steps.specs.Running.{HasTest, TestRead}
@@ -14,10 +13,9 @@ pub record CanTest (table : List ℕ) (i : ℕ) (numbers : List ℕ) : Type 0 wh
   pub has : HasTest table i (tallyOf numbers)
   pub row : Numbers table numbers
 
--- node i tests a lone event, and that is absent
-abbrev pub loneAbsent : List ℕ → ℕ → List ℕ → Bool
-loneAbsent table i numbers =
-    eqb (partKind table (tested table i)) 0 && not (marks (wordsOf numbers) (partEvent table (tested table i)))
+-- node i, in this phase, tests a lone event
+abbrev pub loneEvent : List ℕ → ℕ → ℕ → Bool
+loneEvent table i phase = not (eqb phase 3) && eqb (partKind table (tested table i)) 0
 
 -- r is the rank of what it is read as
 abbrev pub TestRanked : List ℕ → ℕ → List ℕ → ℕ → Type 0

@@ -1,6 +1,6 @@
 // Flags inside a pass are numbers; a Par's flags byte is the first branch's and 4 times the second's.
 ghost use mathlib.Core.Path.{_≡_};
-ghost use Prim.Native.Nat.{_+_, _<_};
+ghost use Prim.Native.Nat.{_+_, _*_, _<_};
 ghost use lib.ListN.{length, getD};
 ghost use Rattle.steps.specs.Running.{phaseAfter, signAfter, gone, ended};
 ghost use Rattle.steps.specs.Flags.{flagOf, ParEnds};
@@ -28,6 +28,18 @@ pub fn both_ran(state: &mut [u8], at: usize, second: usize, f: u8, g: u8) -> u8
         return SUSP;
     }
     par_end(state, at, second, f, g)
+}
+
+// A Par at byte `at` of which only the first branch has been run, the second's flag being g. Where that stays suspended, its bytes are as they were.
+pub fn first_ran(state: &mut [u8], at: usize, second: usize, f: u8, g: u8) -> u8
+    requires { ⌜ (f < 3) × (g < 3) × (at + 4 < length (now state)) × (second < length (now state)) ⌝ }
+    requires { ⌜ (getD (now state) (at + 1) 0 ≡ 4 * g) × (g ≡ 2 → getD (now state) second 0 ≡ 3) ⌝ }
+    ensures { λ r. ⌜ ParEnds f g at second (now (state .entry)) (now (state .exit)) r ⌝ }
+{
+    if f != SUSP {
+        return par_end(state, at, second, f, g);
+    }
+    SUSP
 }
 
 // A Par at byte `at` whose branches have answered f and g: its flags, phase 3 for a branch that has ended, and the joined flag.

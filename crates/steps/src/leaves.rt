@@ -1,15 +1,12 @@
 // What a pass does at nodes without children. Each tests for phase 3 itself: it then reads as Nothing, rule 1.
 ghost use mathlib.Core.Path.{_≡_};
-ghost use mathlib.Core.Bool.{_&&_, not};
-ghost use Prim.Native.Nat.{_+_, _<_};
-ghost use lib.Dec.{eqb};
+ghost use mathlib.Core.Bool.{true};
+ghost use mathlib.Core.Logic.{_≢_};
+ghost use Prim.Native.Nat.{_+_, _*_, _<_};
 ghost use lib.ListN.{length, getD, set};
-ghost use Rattle.events.specs.Members.{marks};
-ghost use Rattle.table.specs.Records.{partKind, partEvent};
-ghost use Rattle.steps.specs.Numbers.{Numbers, wordsOf, tallyOf};
 ghost use Rattle.steps.specs.Kinds.{OfKind, all-seen, nothing-kind, stop-kind, atom-kind, generate-kind, await-kind};
 ghost use Rattle.steps.specs.Lent.{held, CanRun, HasRun, Named};
-ghost use Rattle.steps.specs.Tests.{CanTest, TestRanked, loneAbsent};
+ghost use Rattle.steps.specs.Tests.{CanTest, TestRanked, loneEvent};
 use crate::flags::STOP;
 use crate::flags::SUSP;
 use crate::flags::TERM;
@@ -18,8 +15,8 @@ use crate::numbers::BASE;
 use crate::numbers::ENDED;
 use crate::numbers::MOVED;
 use crate::numbers::NUMBERS;
-use crate::numbers::add_event;
 use crate::numbers::events_of;
+use crate::numbers::put_event;
 use crate::phases::GONE;
 use events::marked;
 use junior::Verdict;
@@ -125,12 +122,12 @@ pub fn run_generate(
         state[4 * i] = 0;
         return TERM;
     }
-    add_event(numbers, argument_at(*table, i));
+    put_event(numbers, argument_at(*table, i), true);
     numbers[MOVED] = 1;
     TERM
 }
 
-// Rules 22 to 25. A lone event that is absent leaves an Await waiting, or stopped once the end is declared.
+// Rules 22 to 25.
 pub fn run_await(
     table: &&[u8],
     i: usize,
@@ -144,12 +141,13 @@ pub fn run_await(
         (held (table .exit) (state .exit) (numbers .exit) (atoms .exit)) r ⌝ }
     ensures { λ r. ⌜ Named (now (state .entry)) (now (state .exit)) (now (atoms .entry)) (now (atoms .exit)) ⌝ }
 {
-    if state[4 * i] == GONE {
+    let phase = state[4 * i];
+    if phase == GONE {
         state[4 * i] = 0;
         return TERM;
     }
-    if lone_absent(*table, i, numbers) {
-        return numbers[ENDED] as u8;
+    if lone_event(*table, i, phase, numbers) {
+        return run_lone(table, i, state, numbers, atoms);
     }
     let rank = test_rank(*table, i, numbers);
     if rank == UNKNOWN {
@@ -165,19 +163,41 @@ pub fn run_await(
     STOP
 }
 
-// Whether node i tests a lone event, and that is absent.
-fn lone_absent(table: &[u8], i: usize, numbers: &[u64; NUMBERS]) -> bool
-    requires { ⌜ CanTest (now table) i (now numbers) ⌝ }
-    ensures { λ r. ⌜ r ≡ loneAbsent (now (table .entry)) i (now (numbers .entry)) ⌝ }
+// Whether node i, in this phase, tests a lone event.
+pub fn lone_event(table: &[u8], i: usize, phase: u8, numbers: &[u64; NUMBERS]) -> bool
+    requires { ⌜ (phase ≢ 3 → CanTest (now table) i (now numbers)) ⌝ }
+    ensures { λ r. ⌜ r ≡ loneEvent (now (table .entry)) i phase ⌝ }
 {
-    let c = numbers[BASE] as usize + 4 * argument_at(table, i);
-    if part_kind(table, c) == 0 {
-        if marked(numbers, part_event(table, c)) {
-            return false;
-        }
-        return true;
+    if phase == GONE {
+        return false;
     }
-    false
+    part_kind(table, numbers[BASE] as usize + 4 * argument_at(table, i)) == 0
+}
+
+// An Await of a lone event: absent, it leaves the Await waiting, or stopped once the end is declared.
+pub fn run_lone(
+    table: &&[u8],
+    i: usize,
+    state: &mut &mut [u8],
+    numbers: &mut [u64; NUMBERS],
+    atoms: &mut &mut [u16],
+) -> u8
+    requires { ⌜ CanRun all-seen (OfKind await-kind) (held table state numbers atoms) i ⌝ }
+    requires { ⌜ loneEvent (now (now table)) i (getD (now (now state)) (4 * i) 0) ≡ true ⌝ }
+    ensures { λ r.
+        ⌜ HasRun all-seen (OfKind await-kind) (held (table .entry) (state .entry) (numbers .entry) (atoms .entry)) i
+        (held (table .exit) (state .exit) (numbers .exit) (atoms .exit)) r ⌝ }
+    ensures { λ r. ⌜ Named (now (state .entry)) (now (state .exit)) (now (atoms .entry)) (now (atoms .exit)) ⌝ }
+{
+    let c = numbers[BASE] as usize + 4 * argument_at(*table, i);
+    if marked(numbers, part_event(*table, c)) {
+        if numbers[ENDED] != 0 {
+            state[4 * i] = GONE;
+            return STOP;
+        }
+        return TERM;
+    }
+    numbers[ENDED] as u8
 }
 
 // What the configuration that node i tests is read as now, by its rank.

@@ -1,9 +1,10 @@
 // The row of numbers that a pass carries: the event words first, then one number each.
 ghost use mathlib.Core.Path.{_≡_};
-ghost use mathlib.Core.Bool.{true};
 ghost use Prim.Native.Nat.{_<_};
 ghost use lib.ListN.{length};
-ghost use Rattle.events.specs.Members.{places, marks, members};
+ghost use Rattle.events.specs.Events.{put};
+ghost use Rattle.events.specs.Members.{places, marks};
+ghost use Rattle.events.proofs.Bits.{digits};
 ghost use Rattle.steps.specs.Numbers.{Put, places-of-row, wordsOf, withWords, firstNumbers, nextNumbers};
 use events::EventSet;
 use events::WORDS;
@@ -46,39 +47,43 @@ pub fn keep_events(numbers: &mut [u64; NUMBERS], events: EventSet)
     }
 }
 
-// E+S in the row.
-pub fn add_event(numbers: &mut [u64; NUMBERS], event: usize)
+// E+S or E-S in the row: the event's digit is put into its word where that stands.
+pub fn put_event(numbers: &mut [u64; NUMBERS], event: usize, present: bool)
     requires { ⌜ (length (now numbers) ≡ places-of-row) × (event < places) ⌝ }
-    ensures { λ r. ⌜ Put event true (now (numbers .entry)) (now (numbers .exit)) ⌝ }
+    ensures { λ r. ⌜ Put event present (now (numbers .entry)) (now (numbers .exit)) ⌝ }
 {
-    let events = events_of(numbers);
-    keep_events(numbers, events.with(event));
+    let at = event / 64;
+    numbers[at] = put_digit(numbers[at], event % 64, present);
 }
 
-// A Local's body begins: E+S or E-S, by its sign. The events outside are handed back.
-pub fn enter_scope(numbers: &mut [u64; NUMBERS], event: usize, plus: bool) -> EventSet
+// The same; whether the event was present is handed back. A Local's body begins and answers so: E+S or E-S by its sign, then E/F[S].
+pub fn exchange_event(numbers: &mut [u64; NUMBERS], event: usize, present: bool) -> bool
     requires { ⌜ (length (now numbers) ≡ places-of-row) × (event < places) ⌝ }
-    ensures { λ r. ⌜ (r .words ≡ wordsOf (now (numbers .entry))) × Put event plus (now (numbers .entry)) (now (numbers .exit)) ⌝ }
-{
-    let outside = events_of(numbers);
-    if plus {
-        keep_events(numbers, outside.with(event));
-        return outside;
-    }
-    keep_events(numbers, outside.without(event));
-    outside
-}
-
-// A Local's body has answered: E/F[S], F being the events outside. Whether the event is present inside is handed back.
-pub fn leave_scope(numbers: &mut [u64; NUMBERS], event: usize, outside: EventSet) -> bool
-    requires { ⌜ length (now numbers) ≡ places-of-row ⌝ }
     ensures { λ r.
-        ⌜ (r ≡ marks (wordsOf (now (numbers .entry))) event)
-        × Put event (members outside event) (now (numbers .entry)) (now (numbers .exit)) ⌝ }
+        ⌜ (r ≡ marks (wordsOf (now (numbers .entry))) event) × Put event present (now (numbers .entry)) (now (numbers .exit)) ⌝ }
 {
-    let inside = events_of(numbers);
-    keep_events(numbers, inside.forced(event, outside));
-    inside.holds(event)
+    let was = has_event(numbers, event);
+    put_event(numbers, event, present);
+    was
+}
+
+// Whether the event is present.
+fn has_event(numbers: &[u64; NUMBERS], event: usize) -> bool
+    requires { ⌜ (length (now numbers) ≡ places-of-row) × (event < places) ⌝ }
+    ensures { λ r. ⌜ r ≡ marks (wordsOf (now (numbers .entry))) event ⌝ }
+{
+    (numbers[event / 64] >> (event % 64)) % 2 == 1
+}
+
+// One binary digit of a word.
+fn put_digit(word: u64, at: usize, present: bool) -> u64
+    requires { ⌜ at < 64 ⌝ }
+    ensures { λ r. ⌜ digits r ≡ put at present (digits word) ⌝ }
+{
+    if present {
+        return word | 1 << at;
+    }
+    word & !(1 << at)
 }
 
 // The row before the first pass of an instant.

@@ -4,22 +4,15 @@ use borrow.Author.Needs.{needs}
 use mathlib.Core.Path.{refl, sym, _∙_}
 use Rattle.steps.proofs.Dispatch.{phase-reads}
 use Rattle.steps.proofs.Ended.{done-run}
-use Rattle.steps.proofs.Awaits.{await-tests, lone-run, await-suspends, await-refused, await-met, await-met-late}
+use Rattle.steps.proofs.Awaits.{await-tests, await-suspends, await-refused, await-met, await-met-late}
 
--- if lone_absent(*table, i, numbers) {
-lone-absent-requires : tie.Need-lone-absent-requires
-lone-absent-requires c κs =
-    let start = c .before .before .before .before in
-    let if1 = c .before .before .if1 in
-    await-tests (if1 .left) (start .pre)
-
--- return numbers[ENDED] as u8;
-returns-2 : tie.Need-returns-2
-returns-2 c =
-    let if1 = c .before .before .before .before .before .if1 in
-    let lone-absent = c .before .before .lone-absent in
-    let if2 = c .before .if2 in
-    (lone-run (if1 .left) (sym (lone-absent .ensures) ∙ if2 .taken), (refl, refl))
+-- return run_lone(table, i, state, numbers, atoms);
+run-lone-requires : tie.Need-run-lone-requires
+run-lone-requires c κs =
+    let start = c .before .before .before .before .before .before .before .before .before in
+    let lone-event = c .before .before .before .before .lone-event in
+    let if2 = c .before .before .before .if2 in
+    (start .pre, sym (lone-event .ensures) ∙ if2 .taken)
 
 -- let rank = test_rank(*table, i, numbers);
 test-rank-requires : tie.Need-test-rank-requires
@@ -73,15 +66,14 @@ returns-6 c =
 pub run-await-spec : {M : Type 1} → statement M
 run-await-spec =
     tie.close (tie.spec
-    (λ c. search needs)  -- mul-if1: if state[4 * i] == GONE {
-    (λ c. phase-reads (c .pre))  -- index-1-if1
+    (λ c. search needs)  -- mul-phase: let phase = state[4 * i];
+    (λ c. phase-reads (c .pre))  -- index-1-phase
     (λ c. search needs)  -- mul-state: state[4 * i] = 0;
     (λ c. phase-reads (c .before .before .pre))  -- index-1-state
     (λ c. (done-run (c .if1 .taken), (refl, refl)))  -- returns: return TERM;
-    lone-absent-requires
-    (λ c. search needs)  -- element-copy-out-result: return numbers[ENDED] as u8;
-    (λ c. search needs)  -- cast-result
-    returns-2
+    (λ c κs on. await-tests on (c .before .before .before .before .pre))  -- lone-event-requires: if lone_event(*table, i, phase, numbers) {
+    run-lone-requires
+    (λ c. (c .run-lone .ensures .0, c .run-lone .ensures .1))  -- returns-2
     test-rank-requires
     returns-3
     returns-4

@@ -6,9 +6,9 @@ use Rattle.steps.proofs.Dispatch.{phase-reads}
 use Rattle.steps.proofs.Ended.{done-run}
 use Rattle.steps.proofs.LeafRuns.{event-placed, event-below, generate-run}
 
--- add_event(numbers, argument_at(*table, i));
-add-event-requires : tie.Need-add-event-requires
-add-event-requires c κs =
+-- put_event(numbers, argument_at(*table, i), true);
+put-event-requires : tie.Need-put-event-requires
+put-event-requires c κs =
     let start = c .before .before .before .before .before in
     let if1 = c .before .before .before .if1 in
     let argument-at = c .argument-at in
@@ -20,9 +20,9 @@ returns-2 c =
     let start = c .before .before .before .before .before .before in
     let if1 = c .before .before .before .before .if1 in
     let argument-at = c .before .argument-at in
-    let add-event = c .add-event in
+    let put-event = c .put-event in
     let there = event-below (argument-at .ensures .0) (event-placed (if1 .left) (start .pre)) in
-    (generate-run (if1 .left) _ (argument-at .ensures .0) there (add-event .ensures), (refl, refl))
+    (generate-run (if1 .left) _ (argument-at .ensures .0) there (put-event .ensures), (refl, refl))
 
 pub run-generate-spec : {M : Type 1} → statement M
 run-generate-spec =
@@ -32,7 +32,7 @@ run-generate-spec =
     (λ c. search needs)  -- mul-state: state[4 * i] = 0;
     (λ c. phase-reads (c .before .before .pre))  -- index-1-state
     (λ c. (done-run (c .if1 .taken), (refl, refl)))  -- returns: return TERM;
-    (λ c κs. search needs)  -- argument-at-requires: add_event(numbers, argument_at(*table, i));
-    add-event-requires
+    (λ c κs. search needs)  -- argument-at-requires: put_event(numbers, argument_at(*table, i), true);
+    put-event-requires
     (λ c. search needs)  -- element-write-numbers: numbers[MOVED] = 1;
     returns-2)

@@ -3,7 +3,7 @@ use borrow.Fn.Kinds.{In, PK}
 use borrow.Fn.PlainCycle.{Measures, is, falls, and}
 use mathlib.Core.List.{List}
 use Prim.Native.Nat.{ℕ, _<_}
-use Rattle.runner.proofs.Falling.{weigh, child-rank, other-rank, form-rank, stage-rank, last-rank}
+use Rattle.runner.proofs.Falling.{weigh, turn-rank, child-rank, other-rank, form-rank, stage-rank, last-rank}
 
 abbrev pub exactly : {n : ℕ} (ps : List (PK n)) → Measures n ps ℕ → In n ps → ℕ → In n ps
 exactly {n} ps μ Pre t = and n ps (is n ps μ t) Pre
@@ -52,6 +52,9 @@ abbrev pub μ-run-then : Measures 7 proofs.run_then.Kinds.ps ℕ
 
 abbrev pub μ-run-times : Measures 7 proofs.run_times.Kinds.ps ℕ
 μ-run-times κs a = weigh (a .0 .now .now) (a .1 .0) last-rank
+
+abbrev pub μ-run-turn : Measures 7 proofs.run_turn.Kinds.ps ℕ
+μ-run-turn κs a = weigh (a .0 .now .now) (a .1 .0) turn-rank
 
 abbrev pub μ-run-until : Measures 7 proofs.run_until.Kinds.ps ℕ
 μ-run-until κs a = weigh (a .0 .now .now) (a .1 .0) form-rank

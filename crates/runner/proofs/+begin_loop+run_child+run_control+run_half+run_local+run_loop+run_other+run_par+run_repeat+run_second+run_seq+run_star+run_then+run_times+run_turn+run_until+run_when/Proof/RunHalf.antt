@@ -1,7 +1,7 @@
 use Rattle.runner.proofs as proofs
-use proofs.+begin_loop+run_child+run_control+run_half+run_local+run_loop+run_other+run_par+run_repeat+run_second+run_seq+run_star+run_then+run_times+run_until+run_when.Lts-run_half as lts
+use proofs.+begin_loop+run_child+run_control+run_half+run_local+run_loop+run_other+run_par+run_repeat+run_second+run_seq+run_star+run_then+run_times+run_turn+run_until+run_when.Lts-run_half as lts
 use proofs.run_half.Reads.{Pre, Post}
-use proofs.+begin_loop+run_child+run_control+run_half+run_local+run_loop+run_other+run_par+run_repeat+run_second+run_seq+run_star+run_then+run_times+run_until+run_when.Proof.Measures.{exactly, smaller, μ-run-child, μ-run-half}
+use proofs.+begin_loop+run_child+run_control+run_half+run_local+run_loop+run_other+run_par+run_repeat+run_second+run_seq+run_star+run_then+run_times+run_turn+run_until+run_when.Proof.Measures.{exactly, smaller, μ-run-child, μ-run-half}
 use Rattle.table.proofs.records.second_at.Reads as second-at-reads
 use Rattle.table.proofs.records.kind_at.Reads as kind-at-reads
 use borrow.Fn.Kinds.{In, Out}
@@ -14,7 +14,7 @@ use Rattle.steps.proofs.Tested.{half-pair}
 use Rattle.steps.proofs.Ended.{done-run}
 use Rattle.steps.proofs.Dispatch.{few-nodes, kind-reads, phase-reads, own-reads, to-half, by-half}
 use Rattle.runner.proofs.Falling.{lighter}
-use proofs.HalfRuns.{half-second-in, half-left, half-left-joins, half-left-done, half-right, half-right-joins, half-right-done, half-second-few}
+use proofs.HalfRuns.{half-second-in, half-left, half-left-joins, half-left-keeps, half-left-done, half-right, half-right-joins, half-right-done, half-second-few}
 
 module _ (t : ℕ) where
   abbrev given : lts.Claims
@@ -23,14 +23,16 @@ module _ (t : ℕ) where
     second-at-reads.Learnt,
     smaller proofs.run_child.Kinds.ps μ-run-child proofs.run_child.Reads.Pre t,
     proofs.run_child.Reads.Post,
-    Rattle.steps.proofs.flags.par_end.Reads.Asked,
-    Rattle.steps.proofs.flags.par_end.Reads.Learnt,
+    Rattle.steps.proofs.flags.first_ran.Reads.Asked,
+    Rattle.steps.proofs.flags.first_ran.Reads.Learnt,
     kind-at-reads.Asked,
     kind-at-reads.Learnt,
     Rattle.steps.proofs.phases.half_par.Reads.Asked,
     Rattle.steps.proofs.phases.half_par.Reads.Learnt,
     smaller proofs.run_half.Kinds.ps μ-run-half proofs.run_half.Reads.Pre t,
     proofs.run_half.Reads.Post,
+    Rattle.steps.proofs.flags.par_end.Reads.Asked,
+    Rattle.steps.proofs.flags.par_end.Reads.Learnt,
   )
 
   abbrev Of : (lts.Claims → In 7 lts.ps → Out 7 lts.ps lts.r → Type 0) → Type 0
@@ -51,22 +53,23 @@ module _ (t : ℕ) where
       let if2 = c .before .before .before .if2 in
       half-left (if1 .left) (if2 .taken) (start .pre .1) (start .pre .0)
 
-  -- return par_end(*state, 4 * i, 4 * second, f, g);
-  mul-par-end-2 : Of lts.Need-mul-par-end-2
-  mul-par-end-2 c =
+  -- return first_ran(*state, 4 * i, 4 * second, f, g);
+  mul-first-ran-2 : Of lts.Need-mul-first-ran-2
+  mul-first-ran-2 c =
       let start = c .before .before .before .before .before .before .before .before .before .before .before in
       let if1 = c .before .before .before .before .before .before .before .before .before .if1 in
       let second-at = c .before .before .before .before .before .before .second-at in
       omega (arith, half-second-few (if1 .left) (start .pre .1) (second-at .ensures))
 
-  par-end-requires : Of lts.Need-par-end-requires
-  par-end-requires c κs =
+  first-ran-requires : Of lts.Need-first-ran-requires
+  first-ran-requires c κs =
       let start = c .before .before .before .before .before .before .before .before .before .before .before in
       let if1 = c .before .before .before .before .before .before .before .before .before .if1 in
       let second-at = c .before .before .before .before .before .before .second-at in
       let if2 = c .before .before .before .before .before .if2 in
       let run-child = c .before .run-child in
-      half-left-joins (if1 .left) (if2 .taken) (second-at .ensures) (run-child .ensures .0) (start .pre .1)
+      let joins = half-left-joins (if1 .left) (if2 .taken) (second-at .ensures) (run-child .ensures .0) (start .pre .1) in
+      (joins, half-left-keeps (if1 .left) (if2 .taken) (second-at .ensures) (run-child .ensures .0) (start .pre .1))
 
   returns-2 : Of lts.Need-returns-2
   returns-2 c =
@@ -74,8 +77,8 @@ module _ (t : ℕ) where
       let second-at = c .before .before .before .before .before .before .before .second-at in
       let if2 = c .before .before .before .before .before .before .if2 in
       let run-child = c .before .before .run-child in
-      let par-end = c .par-end in
-      (half-left-done (if1 .left) (if2 .taken) (second-at .ensures) (run-child .ensures .0) (par-end .ensures), search needs)
+      let first-ran = c .first-ran in
+      (half-left-done (if1 .left) (if2 .taken) (second-at .ensures) (run-child .ensures .0) (first-ran .ensures), search needs)
 
   -- kind_at(*table, second),
   kind-at-requires : Of lts.Need-kind-at-requires
@@ -143,16 +146,16 @@ module _ (t : ℕ) where
       (lighter 2 2 (lit< tt) l (start .pre .0), to-half (kind-at .ensures .0) k z s)
 
   -- return par_end(*state, 4 * i, 4 * second, f, g);
-  mul-par-end-4 : Of lts.Need-mul-par-end-4
-  mul-par-end-4 c =
+  mul-par-end-2 : Of lts.Need-mul-par-end-2
+  mul-par-end-2 c =
       let start = c .before .before .before .before .before .before .before .before .before .before .before .before .before .before .before .before .before in
       let if1 = c .before .before .before .before .before .before .before .before .before .before .before .before .before .before .before .if1 in
       let second-at = c .before .before .before .before .before .before .before .before .before .before .before .before .second-at in
       let if2 = c .before .before .before .before .before .before .before .before .before .before .before .if2 in
       omega (arith, few-nodes (half-right (if1 .left) (if2 .left) (second-at .ensures) (start .pre .1) .1))
 
-  par-end-requires-2 : Of lts.Need-par-end-requires-2
-  par-end-requires-2 c κs =
+  par-end-requires : Of lts.Need-par-end-requires
+  par-end-requires c κs =
       let start = c .before .before .before .before .before .before .before .before .before .before .before .before .before .before .before .before .before in
       let if1 = c .before .before .before .before .before .before .before .before .before .before .before .before .before .before .before .if1 in
       let second-at = c .before .before .before .before .before .before .before .before .before .before .before .before .second-at in
@@ -174,10 +177,10 @@ module _ (t : ℕ) where
       let half-par = c .before .before .before .before .before .before .before .half-par in
       let if3 = c .before .before .before .before .before .before .if3 in
       let run-half = c .before .before .run-half in
-      let par-end2 = c .par-end2 in
+      let par-end = c .par-end in
       let (k, z) = half-pair _ _ _ (sym (half-par .ensures) ∙ if3 .taken) in
       let second = by-half (kind-at .ensures .0) k z (run-half .ensures .0) in
-      (half-right-done (if1 .left) (if2 .left) (second-at .ensures) second (par-end2 .ensures), search needs)
+      (half-right-done (if1 .left) (if2 .left) (second-at .ensures) second (par-end .ensures), search needs)
 
   -- let g = run_child(table, second, state, numbers, atoms);
   run-child-requires-2 : Of lts.Need-run-child-requires-2
@@ -190,16 +193,16 @@ module _ (t : ℕ) where
       (lighter 2 4 (lit< tt) l (start .pre .0), s)
 
   -- par_end(*state, 4 * i, 4 * second, f, g)
-  mul-par-end-6 : Of lts.Need-mul-par-end-6
-  mul-par-end-6 c =
+  mul-par-end-4 : Of lts.Need-mul-par-end-4
+  mul-par-end-4 c =
       let start = c .before .before .before .before .before .before .before .before .before .before .before .before .before .before .before .before .before in
       let if1 = c .before .before .before .before .before .before .before .before .before .before .before .before .before .before .before .if1 in
       let second-at = c .before .before .before .before .before .before .before .before .before .before .before .before .second-at in
       let if2 = c .before .before .before .before .before .before .before .before .before .before .before .if2 in
       omega (arith, few-nodes (half-right (if1 .left) (if2 .left) (second-at .ensures) (start .pre .1) .1))
 
-  par-end-requires-3 : Of lts.Need-par-end-requires-3
-  par-end-requires-3 c κs =
+  par-end-requires-2 : Of lts.Need-par-end-requires-2
+  par-end-requires-2 c κs =
       let start = c .before .before .before .before .before .before .before .before .before .before .before .before .before .before .before .before .before in
       let if1 = c .before .before .before .before .before .before .before .before .before .before .before .before .before .before .before .if1 in
       let second-at = c .before .before .before .before .before .before .before .before .before .before .before .before .second-at in
@@ -214,8 +217,8 @@ module _ (t : ℕ) where
       let second-at = c .before .before .before .before .before .before .before .before .before .before .before .before .before .second-at in
       let if2 = c .before .before .before .before .before .before .before .before .before .before .before .before .if2 in
       let run-child2 = c .before .before .run-child2 in
-      let par-end3 = c .par-end3 in
-      (half-right-done (if1 .left) (if2 .left) (second-at .ensures) (run-child2 .ensures .0) (par-end3 .ensures), search needs)
+      let par-end2 = c .par-end2 in
+      (half-right-done (if1 .left) (if2 .left) (second-at .ensures) (run-child2 .ensures .0) (par-end2 .ensures), search needs)
 
   pub closed : {M : Type 1} → lts.Closed given (exactly lts.ps μ-run-half Pre t) Post M
   closed = lts.spec given (exactly lts.ps μ-run-half Pre t) Post
@@ -230,10 +233,10 @@ module _ (t : ℕ) where
       second-at-requires
       (λ c. search needs)  -- add-run-child: let f = run_child(table, i + 1, state, numbers, atoms);
       run-child-requires
-      (λ c. search needs)  -- slice-aggregate-par-end: return par_end(*state, 4 * i, 4 * second, f,..
-      (λ c. search needs)  -- mul-par-end
-      mul-par-end-2
-      par-end-requires
+      (λ c. search needs)  -- slice-aggregate-first-ran: return first_ran(*state, 4 * i, 4 * second, f, g);
+      (λ c. search needs)  -- mul-first-ran
+      mul-first-ran-2
+      first-ran-requires
       returns-2
       kind-at-requires
       mul-half-par
@@ -243,14 +246,14 @@ module _ (t : ℕ) where
       index-1-half-par-2
       (λ c κs. tt)  -- half-par-requires: if half_par(
       run-half-requires
-      (λ c. search needs)  -- slice-aggregate-par-end-2: return par_end(*state, 4 * i, 4 * second, f..
+      (λ c. search needs)  -- slice-aggregate-par-end: return par_end(*state, 4 * i, 4 * second, f..
+      (λ c. search needs)  -- mul-par-end
+      mul-par-end-2
+      par-end-requires
+      returns-3
+      run-child-requires-2
+      (λ c. search needs)  -- slice-aggregate-par-end-2: par_end(*state, 4 * i, 4 * second, f, g)
       (λ c. search needs)  -- mul-par-end-3
       mul-par-end-4
       par-end-requires-2
-      returns-3
-      run-child-requires-2
-      (λ c. search needs)  -- slice-aggregate-par-end-3: par_end(*state, 4 * i, 4 * second, f, g)
-      (λ c. search needs)  -- mul-par-end-5
-      mul-par-end-6
-      par-end-requires-3
       returns-4

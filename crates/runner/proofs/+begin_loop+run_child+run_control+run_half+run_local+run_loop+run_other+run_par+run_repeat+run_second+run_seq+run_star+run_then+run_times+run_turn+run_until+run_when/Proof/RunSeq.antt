@@ -1,7 +1,7 @@
 use Rattle.runner.proofs as proofs
-use proofs.+begin_loop+run_child+run_control+run_half+run_local+run_loop+run_other+run_par+run_repeat+run_second+run_seq+run_star+run_then+run_times+run_until+run_when.Lts-run_seq as lts
+use proofs.+begin_loop+run_child+run_control+run_half+run_local+run_loop+run_other+run_par+run_repeat+run_second+run_seq+run_star+run_then+run_times+run_turn+run_until+run_when.Lts-run_seq as lts
 use proofs.run_seq.Reads.{Pre, Post}
-use proofs.+begin_loop+run_child+run_control+run_half+run_local+run_loop+run_other+run_par+run_repeat+run_second+run_seq+run_star+run_then+run_times+run_until+run_when.Proof.Measures.{exactly, smaller, μ-run-child, μ-run-second, μ-run-seq}
+use proofs.+begin_loop+run_child+run_control+run_half+run_local+run_loop+run_other+run_par+run_repeat+run_second+run_seq+run_star+run_then+run_times+run_turn+run_until+run_when.Proof.Measures.{exactly, smaller, μ-run-child, μ-run-second, μ-run-seq}
 use Rattle.table.proofs.records.second_at.Reads as second-at-reads
 use Rattle.table.proofs.records.kind_at.Reads as kind-at-reads
 use borrow.Fn.Kinds.{In, Out}
@@ -152,25 +152,61 @@ module _ (t : ℕ) where
       let then = second-done (second-at .ensures) second (phase-after .ensures) in
       (seq-goes-on (if1 .left) (if2 .left) (run-child .ensures .0) (if3 .left) then, search needs)
 
-  -- run_second(table, i, state, numbers, atoms)
-  run-second-requires-2 : Of lts.Need-run-second-requires-2
-  run-second-requires-2 c κs =
+  -- let g = run_child(table, second, state, numbers, atoms);
+  run-child-requires-2 : Of lts.Need-run-child-requires-2
+  run-child-requires-2 c κs =
       let start = c .before .before .before .before .before .before .before .before .before .before .before .before .before .before .before .before in
       let if1 = c .before .before .before .before .before .before .before .before .before .before .before .before .before .before .if1 in
       let if2 = c .before .before .before .before .before .before .before .before .before .before .before .before .before .if2 in
       let run-child = c .before .before .before .before .before .before .before .before .before .run-child in
       let if3 = c .before .before .before .before .before .before .before .before .if3 in
-      (lower-rank _ 2 0 (lit< tt) (start .pre .0), seq-over (if1 .left) (if2 .left) (run-child .ensures .0) (start .pre .1) (if3 .left))
+      let second-at = c .before .before .before .before .before .before .second-at in
+      let over = seq-over (if1 .left) (if2 .left) (run-child .ensures .0) (start .pre .1) (if3 .left) in
+      let (l, s) = goes-into (second-at .ensures) over in
+      (lighter 2 4 (lit< tt) l (start .pre .0), s)
 
-  -- fn run_seq
-  returns-5 : Of lts.Need-returns-5
-  returns-5 c =
+  -- state[4 * i] = phase_after(g, SECOND);
+  phase-after-requires-2 : Of lts.Need-phase-after-requires-2
+  phase-after-requires-2 c κs =
+      let start = c .before .before .before .before .before .before .before .before .before .before .before .before .before .before .before .before .before in
       let if1 = c .before .before .before .before .before .before .before .before .before .before .before .before .before .before .before .if1 in
       let if2 = c .before .before .before .before .before .before .before .before .before .before .before .before .before .before .if2 in
       let run-child = c .before .before .before .before .before .before .before .before .before .before .run-child in
       let if3 = c .before .before .before .before .before .before .before .before .before .if3 in
-      let run-second2 = c .run-second2 in
-      (seq-goes-on (if1 .left) (if2 .left) (run-child .ensures .0) (if3 .left) (run-second2 .ensures .0), search needs)
+      let second-at = c .before .before .before .before .before .before .before .second-at in
+      let run-child2 = c .run-child2 in
+      let over = seq-over (if1 .left) (if2 .left) (run-child .ensures .0) (start .pre .1) (if3 .left) in
+      second-below (second-at .ensures) (run-child2 .ensures .0) over
+
+  mul-state-3 : Of lts.Need-mul-state-3
+  mul-state-3 c =
+      let start = c .before .before .before .before .before .before .before .before .before .before .before .before .before .before .before .before .before .before in
+      omega (arith, few-nodes (start .pre .1))
+
+  index-1-state-3 : Of lts.Need-index-1-state-3
+  index-1-state-3 c =
+      let start = c .before .before .before .before .before .before .before .before .before .before .before .before .before .before .before .before .before .before in
+      let if1 = c .before .before .before .before .before .before .before .before .before .before .before .before .before .before .before .before .if1 in
+      let if2 = c .before .before .before .before .before .before .before .before .before .before .before .before .before .before .before .if2 in
+      let run-child = c .before .before .before .before .before .before .before .before .before .before .before .run-child in
+      let if3 = c .before .before .before .before .before .before .before .before .before .before .if3 in
+      let second-at = c .before .before .before .before .before .before .before .before .second-at in
+      let run-child2 = c .before .run-child2 in
+      let over = seq-over (if1 .left) (if2 .left) (run-child .ensures .0) (start .pre .1) (if3 .left) in
+      second-writes-in (second-at .ensures) (run-child2 .ensures .0) over
+
+  -- fn run_seq
+  returns-5 : Of lts.Need-returns-5
+  returns-5 c =
+      let if1 = c .before .before .before .before .before .before .before .before .before .before .before .before .before .before .before .before .if1 in
+      let if2 = c .before .before .before .before .before .before .before .before .before .before .before .before .before .before .before .if2 in
+      let run-child = c .before .before .before .before .before .before .before .before .before .before .before .run-child in
+      let if3 = c .before .before .before .before .before .before .before .before .before .before .if3 in
+      let second-at = c .before .before .before .before .before .before .before .before .second-at in
+      let run-child2 = c .before .run-child2 in
+      let phase-after2 = c .phase-after2 in
+      let then = second-done (second-at .ensures) (run-child2 .ensures .0) (phase-after2 .ensures) in
+      (seq-goes-on (if1 .left) (if2 .left) (run-child .ensures .0) (if3 .left) then, search needs)
 
   pub closed : {M : Type 1} → lts.Closed given (exactly lts.ps μ-run-seq Pre t) Post M
   closed = lts.spec given (exactly lts.ps μ-run-seq Pre t) Post
@@ -191,5 +227,8 @@ module _ (t : ℕ) where
       mul-state-2
       index-1-state-2
       returns-4
-      run-second-requires-2
+      run-child-requires-2
+      phase-after-requires-2
+      mul-state-3
+      index-1-state-3
       returns-5

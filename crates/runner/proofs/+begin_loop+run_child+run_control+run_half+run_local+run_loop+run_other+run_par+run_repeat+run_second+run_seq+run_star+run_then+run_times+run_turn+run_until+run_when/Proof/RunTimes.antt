@@ -1,7 +1,8 @@
 use Rattle.runner.proofs as proofs
-use proofs.+begin_loop+run_child+run_control+run_half+run_local+run_loop+run_other+run_par+run_repeat+run_second+run_seq+run_star+run_then+run_times+run_until+run_when.Lts-run_times as lts
+use proofs.+begin_loop+run_child+run_control+run_half+run_local+run_loop+run_other+run_par+run_repeat+run_second+run_seq+run_star+run_then+run_times+run_turn+run_until+run_when.Lts-run_times as lts
 use proofs.run_times.Reads.{Pre, Post}
-use proofs.+begin_loop+run_child+run_control+run_half+run_local+run_loop+run_other+run_par+run_repeat+run_second+run_seq+run_star+run_then+run_times+run_until+run_when.Proof.Measures.{exactly, smaller, μ-run-child, μ-run-times}
+use proofs.+begin_loop+run_child+run_control+run_half+run_local+run_loop+run_other+run_par+run_repeat+run_second+run_seq+run_star+run_then+run_times+run_turn+run_until+run_when.Proof.Measures.{exactly, smaller, μ-run-times, μ-run-turn}
+use Rattle.table.proofs.records.kind_at.Reads as kind-at-reads
 use borrow.Fn.Kinds.{In, Out}
 use Prim.Native.Nat.{ℕ}
 use borrow.Author.Needs.{needs}
@@ -9,15 +10,17 @@ use mathlib.Core.Path.{refl}
 use lib.Dec.{lit<}
 use native.Mathlib.Omega.{arith}
 use Rattle.steps.specs.Lent.{lent, Named}
-use Rattle.steps.proofs.Dispatch.{few-nodes}
+use Rattle.steps.proofs.Dispatch.{few-nodes, kind-reads}
 use Rattle.runner.proofs.Falling.{lighter}
 use proofs.RepeatRuns.{Turn, first-turn, next-turn, times-body, times-own, times-wait, times-end}
 
 module _ (t : ℕ) where
   abbrev given : lts.Claims
   given = (
-    smaller proofs.run_child.Kinds.ps μ-run-child proofs.run_child.Reads.Pre t,
-    proofs.run_child.Reads.Post,
+    kind-at-reads.Asked,
+    kind-at-reads.Learnt,
+    smaller proofs.run_turn.Kinds.ps μ-run-turn proofs.run_turn.Reads.Pre t,
+    proofs.run_turn.Reads.Post,
     Rattle.steps.proofs.phases.begin_turn.Reads.Asked,
     Rattle.steps.proofs.phases.begin_turn.Reads.Learnt,
     Rattle.steps.proofs.phases.end_turns.Reads.Asked,
@@ -25,12 +28,12 @@ module _ (t : ℕ) where
   )
 
   abbrev Inv-loop : lts.InvT-loop
-  Inv-loop table i state₀ numbers₀ atoms₀ k left₀ state numbers atoms left =
+  Inv-loop table i state₀ numbers₀ atoms₀ k kind left₀ state numbers atoms left =
       (Turn (lent (table .now) (state₀ .now) numbers₀ (atoms₀ .now)) i k (lent (table .now) (state .now) numbers (atoms .now)) left)
       × Named state₀ state atoms₀ atoms
 
   abbrev μ-loop : lts.MeasureT-loop
-  μ-loop table i state₀ numbers₀ atoms₀ k left₀ state numbers atoms left = left
+  μ-loop table i state₀ numbers₀ atoms₀ k kind left₀ state numbers atoms left = left
 
   abbrev Of : (lts.Claims → In 7 lts.ps → Out 7 lts.ps lts.r → lts.InvT-loop → lts.MeasureT-loop → Type 0) → Type 0
   Of N = N given (exactly lts.ps μ-run-times Pre t) Post Inv-loop μ-loop
@@ -38,16 +41,17 @@ module _ (t : ℕ) where
   -- loop {
   loop-holds : Of lts.Need-loop-holds
   loop-holds c =
-      let start = c in
+      let start = c .before .before in
       (first-turn (start .pre .1 .0) (start .pre .1 .1), (refl, refl))
 
-  -- let f = run_child(table, i + 1, state, numbers, atoms);
-  run-child-requires : Of lts.Need-run-child-requires
-  run-child-requires c κs =
-      let start = c .before .before .before .before in
+  -- let f = run_turn(table, i + 1, state, numbers, atoms, kind);
+  run-turn-requires : Of lts.Need-run-turn-requires
+  run-turn-requires c κs =
+      let start = c .before .before .before .before .before .before in
+      let kind-at = c .before .before .before .before .kind-at in
       let loop = c .before .before .before .loop in
       let (l, s) = times-body (loop .inv .0 .can) in
-      (lighter 0 4 (lit< tt) l (start .pre .0), s)
+      (lighter 0 5 (lit< tt) l (start .pre .0), (s, kind-at .ensures .0))
 
   -- begin_turn(*state, 4 * i, left);
   mul-begin-turn : Of lts.Need-mul-begin-turn
@@ -58,17 +62,17 @@ module _ (t : ℕ) where
   begin-turn-requires : Of lts.Need-begin-turn-requires
   begin-turn-requires c κs =
       let loop = c .before .before .before .before .before .before .loop in
-      let run-child = c .before .before .run-child in
-      times-own (run-child .ensures .0) (loop .inv .0 .can)
+      let run-turn = c .before .before .run-turn in
+      times-own (run-turn .ensures .0) (loop .inv .0 .can)
 
   -- return f;
   returns : Of lts.Need-returns
   returns c =
       let loop = c .before .before .before .before .before .before .before .loop in
-      let run-child = c .before .before .before .run-child in
+      let run-turn = c .before .before .before .run-turn in
       let if1 = c .before .before .if1 in
       let begin-turn = c .begin-turn in
-      (loop .inv .0 .goes-on (times-wait (run-child .ensures .0) (loop .inv .0 .no-flags-yet) (if1 .taken) (begin-turn .ensures)), search needs)
+      (loop .inv .0 .goes-on (times-wait (run-turn .ensures .0) (loop .inv .0 .no-flags-yet) (if1 .taken) (begin-turn .ensures)), search needs)
 
   -- end_turns(*state, 4 * i);
   mul-end-turns : Of lts.Need-mul-end-turns
@@ -79,33 +83,35 @@ module _ (t : ℕ) where
   end-turns-requires : Of lts.Need-end-turns-requires
   end-turns-requires c κs =
       let loop = c .before .before .before .before .before .before .before .loop in
-      let run-child = c .before .before .before .run-child in
-      times-own (run-child .ensures .0) (loop .inv .0 .can) .0
+      let run-turn = c .before .before .before .run-turn in
+      times-own (run-turn .ensures .0) (loop .inv .0 .can) .0
 
   -- return TERM;
   returns-2 : Of lts.Need-returns-2
   returns-2 c =
       let loop = c .before .before .before .before .before .before .before .before .loop in
-      let run-child = c .before .before .before .before .run-child in
+      let run-turn = c .before .before .before .before .run-turn in
       let if1 = c .before .before .before .if1 in
       let if2 = c .before .before .if2 in
       let end-turns = c .end-turns in
-      (loop .inv .0 .goes-on (times-end (run-child .ensures .0) (loop .inv .0 .no-flags-yet) (if1 .left) (if2 .taken) (end-turns .ensures)), search needs)
+      (loop .inv .0 .goes-on (times-end (run-turn .ensures .0) (loop .inv .0 .no-flags-yet) (if1 .left) (if2 .taken) (end-turns .ensures)), search needs)
 
   -- loop {
   loop-again : Of lts.Need-loop-again
   loop-again c =
       let loop = c .before .before .before .before .before .before .loop in
-      let run-child = c .before .before .run-child in
+      let run-turn = c .before .before .run-turn in
       let if1 = c .before .if1 in
       let if2 = c .if2 in
-      (next-turn (loop .inv .0) (run-child .ensures .0) (if1 .left) (if2 .left), search needs)
+      (next-turn (loop .inv .0) (run-turn .ensures .0) (if1 .left) (if2 .left), search needs)
 
   pub closed : {M : Type 1} → lts.Closed given (exactly lts.ps μ-run-times Pre t) Post M
   closed = lts.spec given (exactly lts.ps μ-run-times Pre t) Post Inv-loop μ-loop
+      (λ c. search needs)  -- add-kind-at: let kind = kind_at(*table, i + 1);
+      (λ c κs. kind-reads (times-body (c .before .pre .1 .0) .1))  -- kind-at-requires
       loop-holds
-      (λ c. search needs)  -- add-run-child: let f = run_child(table, i + 1, state, numbers, atoms);
-      run-child-requires
+      (λ c. search needs)  -- add-run-turn: let f = run_turn(table, i + 1, state, numbers, atoms, kind);
+      run-turn-requires
       (λ c. search needs)  -- slice-aggregate-begin-turn: begin_turn(*state, 4 * i, left);
       mul-begin-turn
       begin-turn-requires

@@ -13,13 +13,14 @@ mod RunSeq
 mod RunStar
 mod RunThen
 mod RunTimes
+mod RunTurn
 mod RunUntil
 mod RunWhen
-use Rattle.runner.proofs.+begin_loop+run_child+run_control+run_half+run_local+run_loop+run_other+run_par+run_repeat+run_second+run_seq+run_star+run_then+run_times+run_until+run_when.{statement}
-use Rattle.runner.proofs.+begin_loop+run_child+run_control+run_half+run_local+run_loop+run_other+run_par+run_repeat+run_second+run_seq+run_star+run_then+run_times+run_until+run_when.Tie.{close}
+use Rattle.runner.proofs.+begin_loop+run_child+run_control+run_half+run_local+run_loop+run_other+run_par+run_repeat+run_second+run_seq+run_star+run_then+run_times+run_turn+run_until+run_when.{statement}
+use Rattle.runner.proofs.+begin_loop+run_child+run_control+run_half+run_local+run_loop+run_other+run_par+run_repeat+run_second+run_seq+run_star+run_then+run_times+run_turn+run_until+run_when.Tie.{close}
 
-pub +begin-loop+run-child+run-control+run-half+run-local+run-loop+run-other+run-par+run-repeat+run-second+run-seq+run-star+run-then+run-times+run-until+run-when-spec : {M : Type 1} → statement M
-+begin-loop+run-child+run-control+run-half+run-local+run-loop+run-other+run-par+run-repeat+run-second+run-seq+run-star+run-then+run-times+run-until+run-when-spec =
+pub +begin-loop+run-child+run-control+run-half+run-local+run-loop+run-other+run-par+run-repeat+run-second+run-seq+run-star+run-then+run-times+run-turn+run-until+run-when-spec : {M : Type 1} → statement M
++begin-loop+run-child+run-control+run-half+run-local+run-loop+run-other+run-par+run-repeat+run-second+run-seq+run-star+run-then+run-times+run-turn+run-until+run-when-spec =
     close
     Measures.μ-begin-loop
     Measures.μ-run-child
@@ -35,6 +36,7 @@ pub +begin-loop+run-child+run-control+run-half+run-local+run-loop+run-other+run-
     Measures.μ-run-star
     Measures.μ-run-then
     Measures.μ-run-times
+    Measures.μ-run-turn
     Measures.μ-run-until
     Measures.μ-run-when
     (λ t. BeginLoop.closed t)
@@ -51,5 +53,6 @@ pub +begin-loop+run-child+run-control+run-half+run-local+run-loop+run-other+run-
     (λ t. RunStar.closed t)
     (λ t. RunThen.closed t)
     (λ t. RunTimes.closed t)
+    (λ t. RunTurn.closed t)
     (λ t. RunUntil.closed t)
     (λ t. RunWhen.closed t)

@@ -1,7 +1,7 @@
 use Rattle.runner.proofs as proofs
-use proofs.+begin_loop+run_child+run_control+run_half+run_local+run_loop+run_other+run_par+run_repeat+run_second+run_seq+run_star+run_then+run_times+run_until+run_when.Lts-run_child as lts
+use proofs.+begin_loop+run_child+run_control+run_half+run_local+run_loop+run_other+run_par+run_repeat+run_second+run_seq+run_star+run_then+run_times+run_turn+run_until+run_when.Lts-run_child as lts
 use proofs.run_child.Reads.{Pre, Post}
-use proofs.+begin_loop+run_child+run_control+run_half+run_local+run_loop+run_other+run_par+run_repeat+run_second+run_seq+run_star+run_then+run_times+run_until+run_when.Proof.Measures.{exactly, smaller, μ-run-child, μ-run-half, μ-run-other, μ-run-par, μ-run-seq}
+use proofs.+begin_loop+run_child+run_control+run_half+run_local+run_loop+run_other+run_par+run_repeat+run_second+run_seq+run_star+run_then+run_times+run_turn+run_until+run_when.Proof.Measures.{exactly, smaller, μ-run-child, μ-run-half, μ-run-other, μ-run-par, μ-run-seq}
 use Rattle.table.proofs.records.kind_at.Reads as kind-at-reads
 use borrow.Fn.Kinds.{In, Out}
 use Prim.Native.Nat.{ℕ}
@@ -10,6 +10,7 @@ use mathlib.Core.Path.{sym, _∙_}
 use lib.Dec.{lit<}
 use Rattle.steps.proofs.Tested.{both-zero, not-both-zero}
 use Rattle.steps.proofs.Dispatch.{kind-reads, phase-reads, own-reads, to-kind, by-kind, to-both, by-both, to-half, by-half, to-others, by-others}
+use Rattle.steps.proofs.Awaits.{await-tests}
 use Rattle.runner.proofs.Falling.{lower-rank}
 
 module _ (t : ℕ) where
@@ -23,6 +24,10 @@ module _ (t : ℕ) where
     proofs.run_par.Reads.Post,
     smaller proofs.run_half.Kinds.ps μ-run-half proofs.run_half.Reads.Pre t,
     proofs.run_half.Reads.Post,
+    Rattle.steps.proofs.leaves.lone_event.Reads.Asked,
+    Rattle.steps.proofs.leaves.lone_event.Reads.Learnt,
+    Rattle.steps.proofs.leaves.run_lone.Reads.Asked,
+    Rattle.steps.proofs.leaves.run_lone.Reads.Learnt,
     Rattle.steps.proofs.leaves.run_await.Reads.Asked,
     Rattle.steps.proofs.leaves.run_await.Reads.Learnt,
     smaller proofs.run_seq.Kinds.ps μ-run-seq proofs.run_seq.Reads.Pre t,
@@ -76,18 +81,43 @@ module _ (t : ℕ) where
       let z = not-both-zero _ _ (sym (both-suspended .ensures) ∙ if2 .left) in
       (by-half (kind-at .ensures .0) (if1 .taken) z (run-half .ensures .0), run-half .ensures .1)
 
-  -- return run_await(table, i, state, numbers, atoms);
-  run-await-requires : Of lts.Need-run-await-requires
-  run-await-requires c κs =
+  -- if lone_event(*table, i, state[4 * i], numbers) {
+  lone-event-requires : Of lts.Need-lone-event-requires
+  lone-event-requires c κs =
       let start = c .before .before .before .before .before .before .before in
       let kind-at = c .before .before .before .before .before .kind-at in
       let if3 = c .before .before .before .if3 in
-      to-kind (kind-at .ensures .0) (if3 .taken) (start .pre .1)
+      λ on. await-tests on (to-kind (kind-at .ensures .0) (if3 .taken) (start .pre .1))
+
+  -- return run_lone(table, i, state, numbers, atoms);
+  run-lone-requires : Of lts.Need-run-lone-requires
+  run-lone-requires c κs =
+      let start = c .before .before .before .before .before .before .before .before .before .before .before .before in
+      let kind-at = c .before .before .before .before .before .before .before .before .before .before .kind-at in
+      let if3 = c .before .before .before .before .before .before .before .before .if3 in
+      let lone-event = c .before .before .before .before .lone-event in
+      let if4 = c .before .before .before .if4 in
+      (to-kind (kind-at .ensures .0) (if3 .taken) (start .pre .1), sym (lone-event .ensures) ∙ if4 .taken)
 
   returns-3 : Of lts.Need-returns-3
   returns-3 c =
-      let kind-at = c .before .before .before .before .before .before .kind-at in
-      let if3 = c .before .before .before .before .if3 in
+      let kind-at = c .before .before .before .before .before .before .before .before .before .before .before .kind-at in
+      let if3 = c .before .before .before .before .before .before .before .before .before .if3 in
+      let run-lone = c .run-lone in
+      (by-kind (kind-at .ensures .0) (if3 .taken) (run-lone .ensures .0), run-lone .ensures .1)
+
+  -- return run_await(table, i, state, numbers, atoms);
+  run-await-requires : Of lts.Need-run-await-requires
+  run-await-requires c κs =
+      let start = c .before .before .before .before .before .before .before .before .before .before .before .before in
+      let kind-at = c .before .before .before .before .before .before .before .before .before .before .kind-at in
+      let if3 = c .before .before .before .before .before .before .before .before .if3 in
+      to-kind (kind-at .ensures .0) (if3 .taken) (start .pre .1)
+
+  returns-4 : Of lts.Need-returns-4
+  returns-4 c =
+      let kind-at = c .before .before .before .before .before .before .before .before .before .before .before .kind-at in
+      let if3 = c .before .before .before .before .before .before .before .before .before .if3 in
       let run-await = c .run-await in
       (by-kind (kind-at .ensures .0) (if3 .taken) (run-await .ensures .0), run-await .ensures .1)
 
@@ -96,15 +126,15 @@ module _ (t : ℕ) where
   run-seq-requires c κs =
       let start = c .before .before .before .before .before .before .before .before in
       let kind-at = c .before .before .before .before .before .before .kind-at in
-      let if4 = c .before .before .before .if4 in
-      (lower-rank _ 4 2 (lit< tt) (start .pre .0), to-kind (kind-at .ensures .0) (if4 .taken) (start .pre .1))
+      let if5 = c .before .before .before .if5 in
+      (lower-rank _ 4 2 (lit< tt) (start .pre .0), to-kind (kind-at .ensures .0) (if5 .taken) (start .pre .1))
 
-  returns-4 : Of lts.Need-returns-4
-  returns-4 c =
+  returns-5 : Of lts.Need-returns-5
+  returns-5 c =
       let kind-at = c .before .before .before .before .before .before .before .kind-at in
-      let if4 = c .before .before .before .before .if4 in
+      let if5 = c .before .before .before .before .if5 in
       let run-seq = c .run-seq in
-      (by-kind (kind-at .ensures .0) (if4 .taken) (run-seq .ensures .0), run-seq .ensures .1)
+      (by-kind (kind-at .ensures .0) (if5 .taken) (run-seq .ensures .0), run-seq .ensures .1)
 
   -- run_other(table, i, state, numbers, atoms)
   run-other-requires : Of lts.Need-run-other-requires
@@ -113,18 +143,18 @@ module _ (t : ℕ) where
       let kind-at = c .before .before .before .before .before .before .kind-at in
       let if1 = c .before .before .before .before .before .if1 in
       let if3 = c .before .before .before .before .if3 in
-      let if4 = c .before .before .before .if4 in
-      (lower-rank _ 4 3 (lit< tt) (start .pre .0), to-others (kind-at .ensures .0) (if1 .left) (if3 .left) (if4 .left) (start .pre .1))
+      let if5 = c .before .before .before .if5 in
+      (lower-rank _ 4 3 (lit< tt) (start .pre .0), to-others (kind-at .ensures .0) (if1 .left) (if3 .left) (if5 .left) (start .pre .1))
 
   -- pub fn run_child
-  returns-5 : Of lts.Need-returns-5
-  returns-5 c =
+  returns-6 : Of lts.Need-returns-6
+  returns-6 c =
       let kind-at = c .before .before .before .before .before .before .before .kind-at in
       let if1 = c .before .before .before .before .before .before .if1 in
       let if3 = c .before .before .before .before .before .if3 in
-      let if4 = c .before .before .before .before .if4 in
+      let if5 = c .before .before .before .before .if5 in
       let run-other = c .run-other in
-      (by-others (kind-at .ensures .0) (if1 .left) (if3 .left) (if4 .left) (run-other .ensures .0), run-other .ensures .1)
+      (by-others (kind-at .ensures .0) (if1 .left) (if3 .left) (if5 .left) (run-other .ensures .0), run-other .ensures .1)
 
   pub closed : {M : Type 1} → lts.Closed given (exactly lts.ps μ-run-child Pre t) Post M
   closed = lts.spec given (exactly lts.ps μ-run-child Pre t) Post
@@ -139,9 +169,14 @@ module _ (t : ℕ) where
       returns
       run-half-requires
       returns-2
-      run-await-requires
+      (λ c. search needs)  -- mul-lone-event: if lone_event(*table, i, state[4 * i], numbers) {
+      (λ c. phase-reads (c .before .before .before .before .before .pre .1))  -- index-1-lone-event
+      lone-event-requires
+      run-lone-requires
       returns-3
-      run-seq-requires
+      run-await-requires
       returns-4
-      run-other-requires
+      run-seq-requires
       returns-5
+      run-other-requires
+      returns-6
