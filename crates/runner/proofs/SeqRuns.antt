@@ -1,6 +1,6 @@
 -- A Seq, rules 4 and 5, and any node that has gone over into its second child, over all that is lent.
 use Prim.Native.Nat.{ℕ, _+_, _-_, _*_, _<_}
-use mathlib.Core.Path.{_≡_, refl, sym, _∙_}
+use mathlib.Core.Path.{_≡_, refl, _∙_}
 use mathlib.Core.Logic.{_≢_}
 use mathlib.Core.List.{List, _++_}
 use native.Mathlib.Omega.{arith}

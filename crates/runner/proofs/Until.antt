@@ -33,7 +33,7 @@ use Rattle.steps.specs.Running.{Ready, Ran, Live, Runs, Any, Kind, Phase, KindP
 use Rattle.steps.specs.Running.{HasTest, TestRead}
 use Rattle.steps.proofs.Children.{at-node, falling, first-cut, asks, child-ran, next-index, first-at}
 use Rattle.steps.proofs.Children.{phase-is}
-use Rattle.steps.proofs.Children.{next-in-table, till-in, byte-is, own-and-below}
+use Rattle.steps.proofs.Children.{byte-is, own-and-below}
 use Rattle.steps.proofs.Done.{same-lengths, ready-as, room-after, few, ran-flag, ran-alone, ran-by, ran-then}
 use Rattle.steps.proofs.Done.{ran-long}
 use Rattle.steps.proofs.Done.{back-long}
@@ -57,15 +57,7 @@ pub until0-by : {table : List ℕ} {i : ℕ} {state words row tally : List ℕ} 
     → Until0 t
 until0-by {t = t} w h a b = until0-of (shape-by t (w .0) refl) (w .1) (λ e. a (phase-is h ∙ e)) (λ e. b (phase-is h ∙ e))
 
-pub body-reads : {table : List ℕ} {i : ℕ} {state words row tally : List ℕ} {t : Term} → Until0 t
-    → Ready 0 table i state words row tally t
-    → 6 * (i + 1) + 5 < length table
-body-reads (in-body c x q) h = next-in-table (until-first c q) h
-
 module _ {table : List ℕ} {i : ℕ} {state words row tally : List ℕ} {n : ℕ} (m : n ≡ sizeAt table (i + 1)) where
-  pub body-fits : {t : Term} → Until0 t → Ready 0 table i state words row tally t → 4 + 4 * n ≤ length state
-  body-fits (in-body c x q) h = till-in (until-first c q) h (first-cut h (until-first c q) m)
-
   pub body-asks : {t : Term} → Until0 t → Ready 0 table i state words row tally t
       → {k : ℕ} (rank : ℕ) → falling table i rank ≡ k
       → (falling table (i + 1) 3 < k) × Live 0 Any table (i + 1) (midOf 4 (4 + 4 * n - 4) state) words row tally

@@ -1,5 +1,5 @@
 -- A When: testing, rules 17 to 21, and in its then branch.
-use Prim.Native.Nat.{ℕ, _+_, _-_, _*_, _≤_, _<_}
+use Prim.Native.Nat.{ℕ, _+_, _-_, _*_, _<_}
 use mathlib.Core.Bool.{true, false}
 use mathlib.Core.Path.{_≡_, refl, ap, sym, _∙_}
 use mathlib.Core.Logic.{_≢_}
@@ -31,7 +31,6 @@ use Rattle.steps.specs.Running.{Ready, Ran, Live, Runs, Any, Kind, Phase, KindP
 use Rattle.steps.specs.Running.{HasTest, TestRead}
 use Rattle.steps.proofs.Children.{at-node, falling, first-cut, asks, child-ran, next-index, first-at}
 use Rattle.steps.proofs.Children.{phase-is}
-use Rattle.steps.proofs.Children.{next-in-table, till-in}
 use Rattle.steps.proofs.Done.{same-lengths, ready-as, ran-alone, ran-by, ran-long, back-in, phase-left, ran-phase}
 use Rattle.steps.proofs.LoadedNode.{when-test}
 
@@ -45,15 +44,7 @@ then-of (is-when1 c x q) = in-then c x q
 pub then-by : (t : Term) → KindPhase 9 1 t → Then t
 then-by t w = then-of (shape-by t (w .0) (w .1))
 
-pub then-reads : {table : List ℕ} {i : ℕ} {state words row tally : List ℕ} {t : Term} → Then t
-    → Ready 1 table i state words row tally t
-    → 6 * (i + 1) + 5 < length table
-then-reads (in-then c x q) h = next-in-table (when-first c q) h
-
 module _ {table : List ℕ} {i : ℕ} {state words row tally : List ℕ} {n : ℕ} (m : n ≡ sizeAt table (i + 1)) where
-  pub then-fits : {t : Term} → Then t → Ready 1 table i state words row tally t → 4 + 4 * n ≤ length state
-  then-fits (in-then c x q) h = till-in (when-first c q) h (first-cut h (when-first c q) m)
-
   pub then-asks : {t : Term} → Then t → Ready 1 table i state words row tally t
       → {k : ℕ} (rank : ℕ) → falling table i rank ≡ k
       → (falling table (i + 1) 3 < k) × Live 0 Any table (i + 1) (midOf 4 (4 + 4 * n - 4) state) words row tally

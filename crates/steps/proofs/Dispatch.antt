@@ -8,7 +8,7 @@ use lib.ListN.{length, getD}
 use Rattle.junior.specs.Program.{Program, Nothing, Stop, Atom, Seq, Par, Loop, Repeat, Generate, Await, When}
 use Rattle.junior.specs.Program.{Until, Control, Local, kind}
 use Rattle.junior.specs.Term.{Term, prog}
-use Rattle.table.specs.Records.{kindAt, sizeAt}
+use Rattle.table.specs.Records.{kindAt}
 use Rattle.table.proofs.Tree.{size-pos}
 use Rattle.table.proofs.Loaded.{kind-of, in-table, own-node}
 use Rattle.state.specs.StateBytes.{head}

@@ -57,9 +57,6 @@ of-code-of TERM = refl
 pub code-same : (f g : Flag) → code f ≡ code g → f ≡ g
 code-same f g e = sym (of-code-of f) ∙ (ap of-code e ∙ of-code-of g)
 
-pub both-are : (f g : Flag) → code f + code g ≡ 0 → (f ≡ SUSP) × (g ≡ SUSP)
-both-are f g e = (code-same f SUSP (omega arith), code-same g SUSP (omega arith))
-
 -- the tables of the code are γ, and δ₁ and δ₂ in one byte
 abbrev joined-table : List (List ℕ)
 joined-table = (0 ∷ 0 ∷ 0 ∷ []) ∷ (0 ∷ 1 ∷ 1 ∷ []) ∷ (0 ∷ 1 ∷ 2 ∷ []) ∷ []
