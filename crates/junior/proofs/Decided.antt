@@ -23,7 +23,7 @@ use Rattle.junior.proofs.Kept.{kept}
 use Rattle.junior.proofs.Verdicts.{present}
 use Rattle.junior.proofs.Grows.{grows, end-kept, unchanged}
 use Rattle.junior.proofs.End.{ended, idle-once-ended}
-use Rattle.junior.proofs.Going.{Going, Stand, stands, rest-going, fresh-going, going-more, again-going}
+use Rattle.junior.proofs.Going.{Going, Remains, stands, rest-going, fresh-going, going-more, again-going}
 use Rattle.junior.proofs.Going.{over-rest, stand-more, Controlled, stopped-rest}
 use Rattle.junior.proofs.Scopes.{between, elsewhere, Open, rest-open, open-apart, part-open, branches-open, body-open}
 use Rattle.junior.proofs.Ahead.{Around, around-root, further, around-body, Ahead, told, back, earlier}
@@ -34,7 +34,7 @@ module _ (F : Events) where
   abbrev Holds : List Act → Term → ℕ → Type 0
   Holds k t i = DecidedRight F k × Open t i (last-answers k)
 
-  part : (r : Result) (u : Term) (i j : ℕ) (k : List Act) → Stand (r .flag) (r .env .now) (r .to)
+  part : (r : Result) (u : Term) (i j : ℕ) (k : List Act) → Remains (r .flag) (r .env .now) (r .to)
       → (Open u i (last-answers k) → Open (r .to) j (last-answers k))
       → Holds k (leave (r .flag) u) i
       → Holds k (r .to) j
@@ -187,11 +187,11 @@ instant-right (r47 {r = r} d h) g q =
     let o = rest-open (r .to) 0 (last-answers []) (stopped-rest (r .flag) (r .env .now) (r .to) h (stands d g)) in
     rw (append-nil (r .acts)) at (pass-back (r .env .now) [] d g (a, (tt, o)))
 instant-right (r48 {r = r} {s = s} d h m i) g q =
-    let g′ = subst (λ α. Stand α (r .env .now) (r .to)) h (stands d g) in
+    let g′ = subst (λ α. Remains α (r .env .now) (r .to)) h (stands d g) in
     let (a, k) = instant-right i g′ (λ e. (m, idle-once-ended (r48 d h m i) .1 .no-event)) in
     pass-back (s .env .now) (s .acts) d g (record { more = a .more; same = λ e. a .same refl }, k)
 instant-right (r49 {r = r} {s = s} d h m i) g q =
-    let g′ = subst (λ α. Stand α (r .env .now) (r .to)) h (stands d g) in
+    let g′ = subst (λ α. Remains α (r .env .now) (r .to)) h (stands d g) in
     let never : (r .env .eoi ≡ true → ⊥) = λ e. ended d (sym (end-kept d) ∙ e) h in
     let (a, k) = instant-right i g′ (λ e. absurd (never e)) in
     pass-back (s .env .now) (s .acts) d g (record { more = a .more; same = λ e. absurd (never e) }, k)

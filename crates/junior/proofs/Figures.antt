@@ -29,7 +29,7 @@ use Rattle.junior.specs.Instant.{Instant, r47, r48, r49}
 use Rattle.junior.specs.Figures.{stops, LoopsStop, times, figure, per, G, A}
 use Rattle.junior.specs.AtRest.{AtRest}
 use Rattle.junior.proofs.Kept.{prog-fresh, prog-again, kept}
-use Rattle.junior.proofs.Going.{Stands, Controlled, Going, rest-going, fresh-going}
+use Rattle.junior.proofs.Going.{RemainsIf, Controlled, Going, rest-going, fresh-going}
 use Rattle.junior.proofs.Held.{live, held, held-fresh, stays-held, begun, ends-unheld}
 
 -- what is left of x in this instant: nothing, unless suspended
@@ -94,7 +94,7 @@ due-kept STOP j h h′ b f e = omega arith
 due-kept TERM j h h′ b f e = omega arith
 
 -- a branch in the middle of an instant, and the body of a Control
-rest-stands : {going : Type 0} (α : Flag) (t : Term) (x f : ℕ) → (going → x ≤ f) → Stands α going t → rest α x ≤ f
+rest-stands : {going : Type 0} (α : Flag) (t : Term) (x f : ℕ) → (going → x ≤ f) → RemainsIf α going t → rest α x ≤ f
 rest-stands SUSP t x f h g = h g
 rest-stands STOP t x f h g = omega arith
 rest-stands TERM t x f h g = omega arith

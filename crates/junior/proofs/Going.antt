@@ -39,10 +39,10 @@ Suspended TERM STOP = ⊥
 Suspended TERM TERM = ⊥
 
 -- a part that answered with a flag goes on in this instant, has stopped at rest, or reads as Nothing
-abbrev pub Stands : Flag → Type 0 → Term → Type 0
-Stands SUSP going t = going
-Stands STOP going t = AtRest t
-Stands TERM going t = Over TERM t
+abbrev pub RemainsIf : Flag → Type 0 → Term → Type 0
+RemainsIf SUSP going t = going
+RemainsIf STOP going t = AtRest t
+RemainsIf TERM going t = Over TERM t
 
 -- the body of a Control whose event is present, or not: it can't have begun, since events only come
 abbrev pub Controlled : Bool → Type 0 → Term → Type 0
@@ -59,7 +59,7 @@ Going X (generate s) = Unit {0}
 Going X (await c) = Unit {0}
 Going X (seq0 t q) = Going X t
 Going X (seq2 p t) = Going X t
-Going X (par α β t u) = Suspended α β × Stands α (Going X t) t × Stands β (Going X u) u
+Going X (par α β t u) = Suspended α β × RemainsIf α (Going X t) t × RemainsIf β (Going X u) u
 Going X (loop0 p) = Unit {0}
 Going X (loop1 t) = Going X t
 Going X (repeat0 n p) = Unit {0}
@@ -73,8 +73,8 @@ Going X (until2 c p t) = Going X t
 Going X (control s t) = Controlled (X s) (Going X t) t
 Going X (local b s t) = Going (put s b X) t
 
-abbrev pub Stand : Flag → Events → Term → Type 0
-Stand α X t = Stands α (Going X t) t
+abbrev pub Remains : Flag → Events → Term → Type 0
+Remains α X t = RemainsIf α (Going X t) t
 
 pub fresh-at-rest : (p : Program) → AtRest (fresh p)
 unfolding fresh AtRest
@@ -93,7 +93,7 @@ fresh-at-rest (Control s p) = fresh-at-rest p
 fresh-at-rest (Local s p) = (refl, fresh-at-rest p)
 
 par-going : (X : Events) (α β : Flag) (t u : Term) → Waiting α β → Over α t → Over β u → Going X t → Going X u
-    → Suspended α β × Stand α X t × Stand β X u
+    → Suspended α β × Remains α X t × Remains β X u
 par-going X SUSP SUSP t u w v v′ g g′ = (tt, g, g′)
 par-going X SUSP STOP t u w v v′ g g′ = absurd w
 par-going X SUSP TERM t u w v v′ g g′ = (tt, g, v′)
@@ -143,7 +143,7 @@ put-grows {X} {Y} s b h e = go (eqb e s)
     go true p = p
     go false p = h e p
 
-stands-map : {G H : Type 0} (α : Flag) (t : Term) → (G → H) → Stands α G t → Stands α H t
+stands-map : {G H : Type 0} (α : Flag) (t : Term) → (G → H) → RemainsIf α G t → RemainsIf α H t
 stands-map SUSP t f g = f g
 stands-map STOP t f g = g
 stands-map TERM t f g = g
@@ -182,18 +182,18 @@ going-more (until2 c p t) h g = going-more t h g
 going-more (control s t) h g = controlled-more s t h (going-more t h) g
 going-more (local b s t) h g = going-more t (put-grows s b h) g
 
-pub stand-more : {X Y : Events} (α : Flag) (t : Term) → X ⊆ Y → Stand α X t → Stand α Y t
+pub stand-more : {X Y : Events} (α : Flag) (t : Term) → X ⊆ Y → Remains α X t → Remains α Y t
 stand-more α t h = stands-map α t (going-more t h)
 
 -- the node u around a part that answered r
 under-stands : (r : Result) (u : Term) → (Going (r .env .now) (r .to) → Going (r .env .now) u)
     → (AtRest (r .to) → AtRest u)
-    → Stand (r .flag) (r .env .now) (r .to)
-    → Stand (r .flag) (r .env .now) (leave (r .flag) u)
+    → Remains (r .flag) (r .env .now) (r .to)
+    → Remains (r .flag) (r .env .now) (leave (r .flag) u)
 unfolding leave
 under-stands r u f a = go (r .flag)
   where
-    go : (α : Flag) → Stand α (r .env .now) (r .to) → Stand α (r .env .now) (leave α u)
+    go : (α : Flag) → Remains α (r .env .now) (r .to) → Remains α (r .env .now) (leave α u)
     go SUSP g = f g
     go STOP g = a g
     go TERM g = (prog u, refl)
@@ -202,8 +202,8 @@ pub over-rest : (t : Term) → Over TERM t → AtRest t
 unfolding AtRest
 over-rest t h = subst AtRest (sym (h .1)) tt
 
-joined-stands : (α β : Flag) (X : Events) (t u : Term) → Stand α X t → Stand β X u
-    → Stand (γ α β) X (leave (γ α β) (par (δ₁ α β) (δ₂ α β) t u))
+joined-stands : (α β : Flag) (X : Events) (t u : Term) → Remains α X t → Remains β X u
+    → Remains (γ α β) X (leave (γ α β) (par (δ₁ α β) (δ₂ α β) t u))
 unfolding leave Going AtRest
 joined-stands SUSP SUSP X t u g h = (tt, g, h)
 joined-stands SUSP STOP X t u g h = (tt, g, h)
@@ -228,8 +228,8 @@ signed X s b x e = go (eqb e s) refl
     go true p h = found b (subst (λ (n : ℕ). X n ≡ true) (eqb-true e s p) h)
     go false p h = h
 
-scope-stands : (α : Flag) (X : Events) (s : ℕ) (b x : Bool) (t : Term) → Stand α X t
-    → Stand α (put s x X) (leave α (local (sign b α (X s)) s t))
+scope-stands : (α : Flag) (X : Events) (s : ℕ) (b x : Bool) (t : Term) → Remains α X t
+    → Remains α (put s x X) (leave α (local (sign b α (X s)) s t))
 unfolding leave Going AtRest
 scope-stands SUSP X s b x t h = going-more t (signed X s b x) h
 scope-stands STOP X s b x t h = (refl, h)
@@ -241,7 +241,7 @@ again-going X n zero p h = tt
 again-going X n (suc k) p h = (omega arith, fresh-going X p)
 
 pub stands : {free : Allowed} {P : Place} {t : Term} {E : Env} {r : Result} → Rewrites free P t E r → Going (E .now) t
-    → Stand (r .flag) (r .env .now) (r .to)
+    → Remains (r .flag) (r .env .now) (r .to)
 unfolding Going AtRest eval
 stands r1 g = (Nothing, refl)
 stands (r1-on {p = p}) g = (p, refl)
@@ -299,7 +299,7 @@ stands (r35-39 {E = E} {b = b} {s = s} {r = r} d) g =
     scope-stands (r .flag) (r .env .now) s b (E .now s) (r .to) (stands d g)
 
 -- a pass that doesn't answer SUSP leaves its state at rest
-pub stopped-rest : (α : Flag) (X : Events) (t : Term) → α ≢ SUSP → Stand α X t → AtRest t
+pub stopped-rest : (α : Flag) (X : Events) (t : Term) → α ≢ SUSP → Remains α X t → AtRest t
 stopped-rest SUSP X t h g = absurd (h refl)
 stopped-rest STOP X t h g = g
 stopped-rest TERM X t h g = over-rest t g
@@ -307,8 +307,8 @@ stopped-rest TERM X t h g = over-rest t g
 pub going-rest : {free : Allowed} {t : Term} {E : Env} {n : ℕ} {r : Result} → Instant free t E n r → Going (E .now) t
     → AtRest (r .to)
 going-rest (r47 {r = r} d h) g = stopped-rest (r .flag) (r .env .now) (r .to) h (stands d g)
-going-rest (r48 {r = r} d h m i) g = going-rest i (subst (λ α. Stand α (r .env .now) (r .to)) h (stands d g))
-going-rest (r49 {r = r} d h m i) g = going-rest i (subst (λ α. Stand α (r .env .now) (r .to)) h (stands d g))
+going-rest (r48 {r = r} d h m i) g = going-rest i (subst (λ α. Remains α (r .env .now) (r .to)) h (stands d g))
+going-rest (r49 {r = r} d h m i) g = going-rest i (subst (λ α. Remains α (r .env .now) (r .to)) h (stands d g))
 
 pub leaves-rest : {free : Allowed} {t : Term} {E : Env} {n : ℕ} {r : Result} → Instant free t E n r → AtRest t
     → AtRest (r .to)

@@ -20,7 +20,7 @@ use Rattle.junior.specs.AtRest.{AtRest}
 use Rattle.junior.proofs.Little.{STOP≢SUSP, TERM≢SUSP}
 use Rattle.junior.proofs.Kept.{kept}
 use Rattle.junior.proofs.Grows.{any, moves}
-use Rattle.junior.proofs.Going.{Going, Stand, rest-going, stands}
+use Rattle.junior.proofs.Going.{Going, Remains, rest-going, stands}
 use Rattle.junior.proofs.End.{ended, idle-once-ended}
 use Rattle.junior.proofs.Figures.{cost, pot, cost-G, suspends, pot-at-rest}
 use Rattle.junior.proofs.Exists.{pass-exists}
@@ -72,7 +72,7 @@ pub goes-on : {free : Allowed} {P : Place} {t : Term} {E : Env} {r : Result}
     → Going (E .now) t
     → r .flag ≡ SUSP
     → Going (r .env .now) (r .to)
-goes-on {r = r} d g h = subst (λ (α : Flag). Stand α (r .env .now) (r .to)) h (stands d g)
+goes-on {r = r} d g h = subst (λ (α : Flag). Remains α (r .env .now) (r .to)) h (stands d g)
 
 module _ (free : Allowed) where
   -- the instant's end from t in E

@@ -23,7 +23,7 @@ use Rattle.junior.specs.AtRest.{AtRest}
 use Rattle.junior.specs.Decided.{last-status, last-answers}
 use Rattle.junior.specs.Flags.{γ, δ₁, δ₂}
 use Rattle.junior.proofs.Little.{put-at}
-use Rattle.junior.proofs.Going.{Stand, over-rest}
+use Rattle.junior.proofs.Going.{Remains, over-rest}
 use Rattle.junior.proofs.Kept.{prog-fresh, prog-again, kept}
 
 -- an answer of the Local at n, as a status
@@ -235,19 +235,19 @@ pub open-apart : {i j : ℕ} {l : List Act} (t : Term) (n : ℕ) (k : List Act) 
 open-apart t n k b h = open-same t n (record { same = λ m x y. elsewhere b k m (h m x y) })
 
 -- a part of the node u is open as u is; one that answered TERM holds no Local
-pub part-open : (r : Result) (u : Term) (i j : ℕ) (σ : ℕ → Bool) → Stand (r .flag) (r .env .now) (r .to)
+pub part-open : (r : Result) (u : Term) (i j : ℕ) (σ : ℕ → Bool) → Remains (r .flag) (r .env .now) (r .to)
     → (Open u i σ → Open (r .to) j σ)
     → Open (leave (r .flag) u) i σ
     → Open (r .to) j σ
 unfolding leave
 part-open r u i j σ g f = go (r .flag) g
   where
-    go : (α : Flag) → Stand α (r .env .now) (r .to) → Open (leave α u) i σ → Open (r .to) j σ
+    go : (α : Flag) → Remains α (r .env .now) (r .to) → Open (leave α u) i σ → Open (r .to) j σ
     go SUSP g o = f o
     go STOP g o = f o
     go TERM g o = rest-open (r .to) j σ (over-rest (r .to) g)
 
-pub branches-open : (α β : Flag) (X : Events) (t u : Term) (i : ℕ) (σ : ℕ → Bool) → Stand α X t → Stand β X u
+pub branches-open : (α β : Flag) (X : Events) (t u : Term) (i : ℕ) (σ : ℕ → Bool) → Remains α X t → Remains β X u
     → Open (leave (γ α β) (par (δ₁ α β) (δ₂ α β) t u)) i σ
     → Open t (suc i) σ × Open u (suc i + size (prog t)) σ
 unfolding leave Open
@@ -262,7 +262,7 @@ branches-open TERM STOP X t u i σ g h o = o
 branches-open TERM TERM X t u i σ g h o = (rest-open t _ σ (over-rest t g), rest-open u _ σ (over-rest u h))
 
 -- the body of a Local that answered, its event present or not (x): by the statuses from that answer on
-pub body-open : (α : Flag) (X : Events) (b x : Bool) (s : ℕ) (t : Term) (i : ℕ) (σ : ℕ → Bool) → Stand α X t
+pub body-open : (α : Flag) (X : Events) (b x : Bool) (s : ℕ) (t : Term) (i : ℕ) (σ : ℕ → Bool) → Remains α X t
     → Open (leave α (local (sign b α x) s t)) i σ
     → (x ≡ true → last-status α i x σ i ≡ true) × Open t (suc i) (last-status α i x σ)
 unfolding leave Open

@@ -29,7 +29,7 @@ use Rattle.kernel.specs.Demand1.{Handed, handed, Check, its-length, its-
 use Rattle.kernel.specs.Demand1.{its-configurations}
 use Rattle.kernel.specs.Demand1.{its-nodes, its-depth, its-loops, its-figures, state-room, state-at-rest}
 use Rattle.kernel.specs.Demand1.{listed-events, atom-room, number, Passes, FirstToFail, AllPassed}
-use Rattle.kernel.specs.Demand1.{ByFirstCheck, checks-of-table, checks-of-start, checks-of-instant, Whole}
+use Rattle.kernel.specs.Demand1.{ByFirstCheck, checks-of-table, checks-of-start, checks-of-instant, WholeTable}
 use Rattle.kernel.specs.Demand1.{Demand1}
 use Rattle.kernel.proofs.Accepted.{Admitted, admitted}
 use Rattle.kernel.proofs.Outcomes.{started-table, all-passed}
@@ -222,7 +222,7 @@ unrefused AtomRoom t s n = refl
 found-ran : (h : Handed) (l : List Check) → outcomeNumber (found l h Ran) ≡ 0 → found l h Ran ≡ Ran
 found-ran h l e = found-taken h l (found-only-so h l e)
 
-whole : (t : List ℕ) (g a w : ℕ) → Admitted t g a w → Whole t
+whole : (t : List ℕ) (g a w : ℕ) → Admitted t g a w → WholeTable t
 whole t g a w o = record { spelled = o .placed .spelled; all-records = o .whole }
 
 pub demand-1 : Demand1

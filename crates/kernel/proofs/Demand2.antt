@@ -29,7 +29,7 @@ use Rattle.state.proofs.OneTerm.{one-term}
 use Rattle.kernel.specs.declared.Outcome.the-variants.{Ran}
 use Rattle.kernel.specs.declared.Answer.{Answer}
 use Rattle.kernel.specs.Answer.{unlisted, instantOutcome, ended, Run, Answered}
-use Rattle.kernel.specs.Demand2.{Premises, Stands, Gives, GivesPrinted, Demand2}
+use Rattle.kernel.specs.Demand2.{Premises, TermInState, Gives, GivesPrinted, Demand2}
 use Rattle.kernel.proofs.Accepted.{admitted}
 use Rattle.kernel.proofs.Outcomes.{instant-ran}
 
@@ -49,7 +49,7 @@ runs {t} {s} {X} {row} p =
     instant-ran t s (p .accepted) X row (p .room) (omega arith) (omega arith) (p .row-room)
 
 -- the term that was run stands in the state
-pub stands : {t s : List ℕ} {X : Events} {row s′ row′ : List ℕ} {a : Answer} (r : Run t s X row s′ row′ a) → Stands t s (r .term)
+pub stands : {t s : List ℕ} {X : Events} {row s′ row′ : List ℕ} {a : Answer} (r : Run t s X row s′ row′ a) → TermInState t s (r .term)
 stands r = record {
   program = r .program;
   bytes = r .bytes;
@@ -84,7 +84,7 @@ module _ {t s : List ℕ} {X : Events} {row s′ row′ : List ℕ} {a : Answer}
       subst (λ m. Gives t s row s′ row′ a m u) same-passes (subst (λ x. Gives t s row s′ row′ a (a .passes) x) same-result gives)
 
   -- the term that is left
-  stands-next : Stands t s′ (r .result .to)
+  stands-next : TermInState t s′ (r .result .to)
   stands-next = record {
     program = program-kept (r .instant) ∙ r .program;
     bytes = gives .next-state;

@@ -139,7 +139,7 @@ abbrev pub checks-of-instant : List Check
 checks-of-instant = checks-of-table ++ (state-room ∷ state-at-rest ∷ listed-events ∷ atom-room ∷ [])
 
 -- what runs is what the whole of the table spells, all N records of it
-pub record Whole (t : List ℕ) : Type 0 where
+pub record WholeTable (t : List ℕ) : Type 0 where
   pub spelled : Spells t 0 (treeOf t)
   pub all-records : size (treeOf t) ≡ nodes t
 
@@ -157,7 +157,7 @@ pub record Demand1 : Type 0 where
       → outcomeNumber (r .outcome) ≢ 0
       → (s′ ≡ s) × (row′ ≡ row)
   -- "No table is run in part"
-  pub starts-whole : {t s s′ : List ℕ} {r : Outcome} → Started t s s′ r → outcomeNumber r ≡ 0 → Whole t
+  pub starts-whole : {t s s′ : List ℕ} {r : Outcome} → Started t s s′ r → outcomeNumber r ≡ 0 → WholeTable t
   pub runs-whole : {t s : List ℕ} {X : Events} {row s′ row′ : List ℕ} {r : Answer} → Answered t s X row s′ row′ r
       → outcomeNumber (r .outcome) ≡ 0
-      → Whole t
+      → WholeTable t

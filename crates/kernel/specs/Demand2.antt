@@ -42,7 +42,7 @@ pub record Premises (t s : List ℕ) (X : Events) (row : List ℕ) : Type 0 wher
   pub row-room : most-atoms ≤ length row
 
 -- the term at rest that stands in the state's bytes: no other of the table's program does
-pub record Stands (t s : List ℕ) (x : Term) : Type 0 where
+pub record TermInState (t s : List ℕ) (x : Term) : Type 0 where
   pub program : prog x ≡ treeOf t
   pub bytes : take (4 * nodes t) s ≡ stateBytes x
   pub at-rest : AtRest x
@@ -75,14 +75,14 @@ pub record GivesPrinted (t s′ row′ : List ℕ) (a : Answer) (n : ℕ) (α : 
   pub pass-count : a .passes ≡ n
   -- "the next state": the term that stands in it reads as u
   pub next : Term
-  pub next-stands : Stands t s′ next
+  pub next-stands : TermInState t s′ next
   pub next-reads : reads next ≡ u
 
 pub record Demand2 (t s : List ℕ) (X : Events) (row s′ row′ : List ℕ) (a : Answer) : Type 0 where
   -- "one instant": it isn't refused
   pub ran : a .outcome ≡ Ran
   pub term : Term
-  pub stands : Stands t s term
+  pub stands : TermInState t s term
   -- "that Junior's rewriting rules give .. left branch first": by rules without rule 9
   pub there : (n : ℕ) × (r : Result) × Instant left-first term (handed-in X) n r
   pub gives : {n : ℕ} {r : Result} → Instant left-first term (handed-in X) n r → Gives t s row s′ row′ a n r

@@ -16,13 +16,13 @@ use Rattle.table.specs.Records.{nodes}
 use Rattle.state.specs.Resting.{blamed}
 use Rattle.kernel.specs.declared.Outcome.the-variants.{Ran}
 use Rattle.kernel.specs.declared.Answer.{Answer}
-use Rattle.kernel.specs.Demand2.{Premises, Stands}
+use Rattle.kernel.specs.Demand2.{Premises, TermInState}
 
 pub record Demand3 {t s : List ℕ} {X : Events} {row : List ℕ} (p : Premises t s X row) (s′ : List ℕ) (a : Answer) : Type 0 where
   -- "an instant always ends": not by a limit, but by the rules; `instant` is the one that was run
   pub ran : a .outcome ≡ Ran
   pub term : Term
-  pub stands : Stands t s term
+  pub stands : TermInState t s term
   pub result : Result
   pub instant : Instant left-first term (handed-in X) (a .passes) result
   pub event-set : members (a .events) ≡ result .env .now

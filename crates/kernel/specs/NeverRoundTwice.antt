@@ -7,11 +7,11 @@ use Rattle.junior.specs.Term.{Term}
 use Rattle.junior.specs.Rules.{left-first, without-13, Result}
 use Rattle.junior.specs.Instant.{Instant}
 use Rattle.kernel.specs.declared.Answer.{Answer}
-use Rattle.kernel.specs.Demand2.{Stands, Gives}
+use Rattle.kernel.specs.Demand2.{TermInState, Gives}
 
 pub record NeverRoundTwice (t s : List ℕ) (X : Events) (row s′ row′ : List ℕ) (a : Answer) : Type 0 where
   pub term : Term
-  pub stands : Stands t s term
+  pub stands : TermInState t s term
   pub result : Result
   pub instant : Instant (without-13 left-first) term (handed-in X) (a .passes) result
   pub gives : Gives t s row s′ row′ a (a .passes) result

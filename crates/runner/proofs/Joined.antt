@@ -16,7 +16,7 @@ use Rattle.junior.specs.Program.{Program, size}
 use Rattle.junior.specs.Term.{Term, done, par, prog, leave}
 use Rattle.junior.specs.Trace.{Place}
 use Rattle.junior.specs.AtRest.{Over}
-use Rattle.junior.proofs.Going.{Going, Stand, stands}
+use Rattle.junior.proofs.Going.{Going, Remains, stands}
 use Rattle.table.proofs.Tree.{size-pos}
 use Rattle.state.specs.StateBytes.{code, head, zeros, below, stateBytes}
 use Rattle.state.proofs.Parts.{first-of, with-first, rest-of, with-rest, blank-two, part-is, put-is}
@@ -84,8 +84,8 @@ unfolding prog
 over t (p, e) = e ∙ ap done (sym (ap prog e))
 
 -- a branch that stands with TERM is in phase 3
-pub stood-ended : (X : Events) (α : Flag) (t : Term) → α ≡ TERM → Stand α X t → getD (stateBytes t) 0 0 ≡ 3
-stood-ended X α t e s = let (p, is) = subst (λ f. Stand f X t) e s in ap (λ x. head x .phase) is
+pub stood-ended : (X : Events) (α : Flag) (t : Term) → α ≡ TERM → Remains α X t → getD (stateBytes t) 0 0 ≡ 3
+stood-ended X α t e s = let (p, is) = subst (λ f. Remains f X t) e s in ap (λ x. head x .phase) is
 
 zeros-cons : (p : Program) → zeros p ≡ 0 ∷ replicate (4 * size p - 1) 0
 zeros-cons p = let e : 4 * size p ≡ suc (4 * size p - 1) = omega (arith, size-pos p) in ap (λ k. replicate k 0) e
@@ -95,12 +95,12 @@ unfolding below
 done-cons p = let e : 4 * size p - 1 ≡ suc (suc (suc (4 * size p - 4))) = omega (arith, size-pos p) in rw e
 
 module _ (X : Events) where
-  branch-left : (α : Flag) (t : Term) (a : List ℕ) → a ≡ left α t → Stand α X t → Branch α t a
+  branch-left : (α : Flag) (t : Term) (a : List ℕ) → a ≡ left α t → Remains α X t → Branch α t a
   branch-left SUSP t a e s = e
   branch-left STOP t a e s = e
   branch-left TERM t a e s = (over t s, (0, e ∙ zeros-cons (prog t)))
 
-  pub branch-stood : (α : Flag) (t : Term) → α ≢ SUSP → Stand α X t → Branch α t (stateBytes t)
+  pub branch-stood : (α : Flag) (t : Term) → α ≢ SUSP → Remains α X t → Branch α t (stateBytes t)
   branch-stood SUSP t n s = absurd (n refl)
   branch-stood STOP t n s = refl
   branch-stood TERM t n s = (over t s, (3, ap stateBytes (over t s) ∙ done-cons (prog t)))

@@ -17,7 +17,7 @@ use Rattle.table.specs.Spells.{treeOf}
 use Rattle.table.specs.Verdict.{preorder, firstSuch, deep, endless, endlessLoop, light, programVerdict}
 use Rattle.table.specs.Verdict.{nodesVerdict}
 use Rattle.table.specs.Inside.{NodesGood}
-use Rattle.table.specs.Inside.Weighing.{treeAt, height, Weighs, Whole, AllGood, Row}
+use Rattle.table.specs.Inside.Weighing.{treeAt, height, Weighs, SizedWhole, AllGood, Row}
 use Rattle.table.proofs.Here.{sized-here, tree-here, stands}
 use Rattle.table.proofs.Little.{below-or}
 use Rattle.table.proofs.Lowest.{lowest-bad}
@@ -41,7 +41,7 @@ root-answer t n e l z =
     (lowest-bad (goodNode t) (nodes t) 0 (omega arith) (λ k h. absurd (omega arith)) (λ h. b))
     (omega arith)
 
-pub all-good : {t : List ℕ} {n m v : ℕ} → Whole t n m v → NodesGood t → AllGood t
+pub all-good : {t : List ℕ} {n m v : ℕ} → SizedWhole t n m v → NodesGood t → AllGood t
 all-good P g =
     let F = P .framed in
     let e = F .long in
@@ -68,7 +68,7 @@ accepted true true false e f g = refl
 accepted true false c e f g = refl
 accepted false b c e f g = refl
 
-module _ {t : List ℕ} {n m v : ℕ} (P : Whole t n m v) (g : AllGood t) where
+module _ {t : List ℕ} {n m v : ℕ} (P : SizedWhole t n m v) (g : AllGood t) where
   l : 0 < nodes t
   l = let e = P .framed .n-is in let h = P .framed .n-least in omega arith
 

@@ -9,7 +9,7 @@ use lib.ListN.{getD, List·getD-eq-default}
 use borrow.Author.Tests.{lt-ltb, le-ltb, le-leb, lt-leb, eq-eqb, ne-eqb}
 use Rattle.table.specs.Records.{nodes, configurations, events, kindAt, zeroAt, argumentAt, sizeAt}
 use Rattle.table.specs.Good.{childCounts, children, argumentLimits, argumentLimit, laidOut, goodNode}
-use Rattle.table.specs.Inside.Weighing.{Whole, Within, OfKind}
+use Rattle.table.specs.Inside.Weighing.{SizedWhole, Within, OfKind}
 
 root-fine : (t : List ℕ) (n i : ℕ) → sizeAt t 0 ≡ n → n ≡ nodes t → (ltb 0 i || eqb (sizeAt t i) (nodes t)) ≡ true
 root-fine t n zero e f = rw (eq-eqb _ _ (e ∙ f))
@@ -60,7 +60,7 @@ module _ (written : ℕ → ℕ) (n i count : ℕ) where
         → eqb (written i) (1 + written (i + 1) + written (i + 1 + written (i + 1))) ≡ laidOut written n i count
     laid-two h = rw (laid-more, lt-ltb _ _ h)
 
-pub within-of : {t : List ℕ} {n m v : ℕ} → Whole t n m v → (i : ℕ) → i < n → Within t n i
+pub within-of : {t : List ℕ} {n m v : ℕ} → SizedWhole t n m v → (i : ℕ) → i < n → Within t n i
 within-of P i l =
     let F = P .framed in
     let e = F .long in

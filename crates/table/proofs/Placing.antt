@@ -13,7 +13,7 @@ use Rattle.table.specs.Good.{children, argumentLimit, goodNode}
 use Rattle.table.specs.declared.weights.Weight.{Weight}
 use Rattle.table.specs.Inside.Early.{Tests, TestsAt}
 use Rattle.table.specs.Inside.Weighing.{Counts, Weighs, Small, weightAt, put, Row, treeAt, OfKind}
-use Rattle.table.specs.Inside.Weighing.{Ready, Placed, bit}
+use Rattle.table.specs.Inside.Weighing.{ToPlace, NowPlaced, bit}
 use Rattle.table.proofs.Grown.{fine, spells-from}
 use Rattle.table.proofs.Here.{Here, no-part, one-part, two-parts, here, kind-here, argued-here}
 use Rattle.table.proofs.Little.{below-or}
@@ -37,7 +37,7 @@ bit-none : (b : Bool) → eqb (bit b) 0 ≡ not b
 bit-none true = refl
 bit-none false = refl
 
-module _ {t w : List ℕ} {n i k limit count top : ℕ} (R : Ready t w n i top) (K : OfKind t i k limit count)
+module _ {t w : List ℕ} {n i k limit count top : ℕ} (R : ToPlace t w n i top) (K : OfKind t i k limit count)
     (good : goodNode t i ≡ true) where
   n-is : n ≡ nodes t
   n-is = R .within .n-is
@@ -95,10 +95,10 @@ module _ {t w : List ℕ} {n i k limit count top : ℕ} (R : Ready t w n i top) 
       go (no-part s v) = row-more t 64 i here-below (rw (s, ← e) (waiting-row t w top (i + 1) (R .waits)))
 
   pub leaf-placed : count ≡ 0 → top < 64 → (e : ℕ) → TestsAt t i k e → (x : Weight)
-      → ((p : Program) → Leaf p → k ≡ kind p → Tests e p → Weighs x p) → Placed t w (put w top x) i (top + 1)
+      → ((p : Program) → Leaf p → k ≡ kind p → Tests e p → Weighs x p) → NowPlaced t w (put w top x) i (top + 1)
   leaf-placed c h e d x f = go (rw c at at-node)
     where
-      go : Here t i 0 → Placed t w (put w top x) i (top + 1)
+      go : Here t i 0 → NowPlaced t w (put w top x) i (top + 1)
       go (no-part s v) =
           record {
             good = good;
@@ -150,10 +150,10 @@ module _ {t w : List ℕ} {n i k limit count top : ℕ} (R : Ready t w n i top) 
 
   pub pair-placed : count ≡ 2 → (e : ℕ) → TestsAt t i k e → (z : Weight)
       → ((p q r : Program) → Two p q r → k ≡ kind p → Tests e p → Weighs (weightAt w (top - 2 + 1)) q
-      → Weighs (weightAt w (top - 2)) r → Weighs z p) → Placed t w (put w (top - 2) z) i (top - 2 + 1)
+      → Weighs (weightAt w (top - 2)) r → Weighs z p) → NowPlaced t w (put w (top - 2) z) i (top - 2 + 1)
   pair-placed c e d z f = go (rw c at at-node)
     where
-      go : Here t i 2 → Placed t w (put w (top - 2) z) i (top - 2 + 1)
+      go : Here t i 2 → NowPlaced t w (put w (top - 2) z) i (top - 2 + 1)
       go (two-parts m m′ s v) =
           let a = first-taken (λ e. omega arith) in
           let b = second-taken c in
@@ -174,10 +174,10 @@ module _ {t w : List ℕ} {n i k limit count top : ℕ} (R : Ready t w n i top) 
   pub body-placed : count ≡ 1 → (w′ : List ℕ)
       → w′ ≡ cond (eqb k 5 && eqb (weightAt w (top - 1) .stops) 0) (set w 320 i) w → (z : Weight)
       → ((p q : Program) → One p q → Counts (argumentAt t i) p → k ≡ kind p → Weighs (weightAt w (top - 1)) q → Weighs z p)
-      → Placed t w (put w′ (top - 1) z) i top
+      → NowPlaced t w (put w′ (top - 1) z) i top
   body-placed c w′ d z f = go (rw c at at-node)
     where
-      go : Here t i 1 → Placed t w (put w′ (top - 1) z) i top
+      go : Here t i 1 → NowPlaced t w (put w′ (top - 1) z) i top
       go (one-part m s v) =
           let a = first-taken (λ e. omega arith) in
           let y = kept w w′ (eqb k 5 && eqb (weightAt w (top - 1) .stops) 0) i (R .long-row) d in

@@ -8,8 +8,8 @@ use lib.ListN.{length, getD}
 use Rattle.table.specs.Records.{nodes, sizeAt}
 use Rattle.table.specs.Good.{goodNode}
 use Rattle.table.specs.Verdict.{endlessLoop}
-use Rattle.table.specs.Inside.Weighing.{Weighs, weightAt, Waiting, treeAt, Whole, AllGood}
-use Rattle.table.specs.Inside.Weighing.{Ready, Placed}
+use Rattle.table.specs.Inside.Weighing.{Weighs, weightAt, Waiting, treeAt, SizedWhole, AllGood}
+use Rattle.table.specs.Inside.Weighing.{ToPlace, NowPlaced}
 use Rattle.table.proofs.Answers.{all-good}
 use Rattle.table.proofs.Judged.{within-of}
 use Rattle.table.proofs.Little.{below-or}
@@ -69,7 +69,7 @@ module _ {t w : List ℕ} {n i top : ℕ} (s : Swept t w n i top) (h : 0 < i) wh
   one-on : i - 1 + 1 ≡ i
   one-on = omega arith
 
-  pub ready : {m v : ℕ} → Whole t n m v → Ready t w n (i - 1) top
+  pub ready : {m v : ℕ} → SizedWhole t n m v → ToPlace t w n (i - 1) top
   ready P =
       let l = s .within in
       record {
@@ -81,7 +81,7 @@ module _ {t w : List ℕ} {n i top : ℕ} (s : Swept t w n i top) (h : 0 < i) wh
         room = s .room;
       }
 
-  pub swept-more : {w′ : List ℕ} {r : ℕ} → Placed t w w′ (i - 1) r → Swept t w′ n (i - 1) r
+  pub swept-more : {w′ : List ℕ} {r : ℕ} → NowPlaced t w w′ (i - 1) r → Swept t w′ n (i - 1) r
   swept-more p =
       let l = s .within in
       record {
@@ -100,7 +100,7 @@ none-behind t w zero i h x = refl
 none-behind t w (suc k) i h (l, y, r) = absurd (omega arith)
 
 -- at node 0 all have been seen
-module _ {t w : List ℕ} {n m v i top : ℕ} (P : Whole t n m v) (s : Swept t w n i top) (h : i ≤ 0) where
+module _ {t w : List ℕ} {n m v i top : ℕ} (P : SizedWhole t n m v) (s : Swept t w n i top) (h : i ≤ 0) where
   n-is : n ≡ nodes t
   n-is = P .framed .n-is
 

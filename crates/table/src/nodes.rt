@@ -13,7 +13,7 @@ ghost use Rattle.table.specs.Good.{children, argumentLimit, laidOut, goo
 ghost use Rattle.table.specs.Verdict.{nodesVerdict, preorder, firstSuch, deep};
 ghost use Rattle.table.specs.Inside.{Framed, ConfigurationsGood};
 ghost use Rattle.table.specs.Inside.Early.{KnownFrom, TestsAt};
-ghost use Rattle.table.specs.Inside.Weighing.{treeAt, height, Whole, Within, OfKind, AllGood, Ready, Places};
+ghost use Rattle.table.specs.Inside.Weighing.{treeAt, height, SizedWhole, Within, OfKind, AllGood, ToPlace, Places};
 use super::Checked;
 use super::early::early_of;
 use super::early::find_early;
@@ -42,7 +42,7 @@ pub fn check_nodes(table: &[u8], n: usize, m: usize, v: usize) -> Checked
 
 // Record 0 has size N. A row for few configurations is cleared in less time than one for all that a table can have.
 fn check_whole(table: &[u8], n: usize, m: usize, v: usize) -> Checked
-    requires { ⌜ Whole (now table) n m v ⌝ }
+    requires { ⌜ SizedWhole (now table) n m v ⌝ }
     ensures { λ r. ⌜ r ≡ nodesVerdict (now (table .entry)) ⌝ }
 {
     if m <= 64 {
@@ -57,7 +57,7 @@ fn check_whole(table: &[u8], n: usize, m: usize, v: usize) -> Checked
 
 // The row has when each configuration can be decided early.
 fn check_tests_known(table: &[u8], n: usize, m: usize, v: usize, early: &[u8]) -> Checked
-    requires { ⌜ Whole (now table) n m v ⌝ }
+    requires { ⌜ SizedWhole (now table) n m v ⌝ }
     requires { ⌜ KnownFrom (now table) (now early) 0 ⌝ }
     ensures { λ r. ⌜ r ≡ nodesVerdict (now (table .entry)) ⌝ }
 {
@@ -116,7 +116,7 @@ fn place(
     top: usize,
 ) -> usize
     requires { ⌜ Framed (now table) n m v ⌝ }
-    requires { ⌜ Ready (now table) (now waiting) n i top ⌝ }
+    requires { ⌜ ToPlace (now table) (now waiting) n i top ⌝ }
     requires { ⌜ KnownFrom (now table) (now early) 0 ⌝ }
     ensures { λ r. ⌜ Places (now (table .entry)) (now (waiting .entry)) (now (waiting .exit)) i r ⌝ }
 {
@@ -150,7 +150,7 @@ fn leaf(
     waiting: &mut [u32; 321],
     top: usize,
 ) -> usize
-    requires { ⌜ Ready (now table) (now waiting) n i top ⌝ }
+    requires { ⌜ ToPlace (now table) (now waiting) n i top ⌝ }
     requires { ⌜ OfKind (now table) i k limit 0 ⌝ }
     requires { ⌜ TestsAt (now table) i k e ⌝ }
     ensures { λ r. ⌜ Places (now (table .entry)) (now (waiting .entry)) (now (waiting .exit)) i r ⌝ }
@@ -175,7 +175,7 @@ fn body(
     waiting: &mut [u32; 321],
     top: usize,
 ) -> usize
-    requires { ⌜ Ready (now table) (now waiting) n i top ⌝ }
+    requires { ⌜ ToPlace (now table) (now waiting) n i top ⌝ }
     requires { ⌜ OfKind (now table) i k limit 1 ⌝ }
     ensures { λ r. ⌜ Places (now (table .entry)) (now (waiting .entry)) (now (waiting .exit)) i r ⌝ }
 {
@@ -200,7 +200,7 @@ fn pair(
     waiting: &mut [u32; 321],
     top: usize,
 ) -> usize
-    requires { ⌜ Ready (now table) (now waiting) n i top ⌝ }
+    requires { ⌜ ToPlace (now table) (now waiting) n i top ⌝ }
     requires { ⌜ OfKind (now table) i k limit 2 ⌝ }
     requires { ⌜ TestsAt (now table) i k e ⌝ }
     ensures { λ r. ⌜ Places (now (table .entry)) (now (waiting .entry)) (now (waiting .exit)) i r ⌝ }
@@ -266,7 +266,7 @@ fn laid_out(table: &[u8], n: usize, i: usize, count: usize) -> bool
 
 // Why a table is refused that has a record that isn't good, or a node that is too deep.
 fn refused(table: &[u8], n: usize, m: usize, v: usize) -> Checked
-    requires { ⌜ Whole (now table) n m v ⌝ }
+    requires { ⌜ SizedWhole (now table) n m v ⌝ }
     requires { ⌜ (AllGood (now table) → 64 < height (treeAt (now table) 0)) ⌝ }
     ensures { λ r. ⌜ r ≡ nodesVerdict (now (table .entry)) ⌝ }
 {
@@ -278,7 +278,7 @@ fn refused(table: &[u8], n: usize, m: usize, v: usize) -> Checked
 }
 
 fn first_bad(table: &[u8], n: usize, m: usize, v: usize) -> usize
-    requires { ⌜ Whole (now table) n m v ⌝ }
+    requires { ⌜ SizedWhole (now table) n m v ⌝ }
     ensures { λ r. ⌜ r ≡ lowest (nodes (now (table .entry))) (λ i. not (goodNode (now (table .entry)) i)) ⌝ }
 {
     let mut i: usize = 0;

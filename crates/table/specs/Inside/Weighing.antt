@@ -111,7 +111,7 @@ Waiting t w zero i = i ≡ nodes t
 Waiting t w (suc k) i = (i < nodes t) × Weighs (weightAt w k) (treeAt t i) × Waiting t w k (i + sizeAt t i)
 
 -- past 4, and record 0 has size N
-pub record Whole (t : List ℕ) (n m v : ℕ) : Type 0 where
+pub record SizedWhole (t : List ℕ) (n m v : ℕ) : Type 0 where
   pub framed : Framed t n m v
   pub configurations-good : ConfigurationsGood t
   pub whole : sizeAt t 0 ≡ n
@@ -139,7 +139,7 @@ pub record AllGood (t : List ℕ) : Type 0 where
   pub good : NodesGood t
 
 -- before node i is placed: the table is past 4, and all nodes behind i are good and weighed
-pub record Ready (t w : List ℕ) (n i top : ℕ) : Type 0 where
+pub record ToPlace (t w : List ℕ) (n i top : ℕ) : Type 0 where
   pub within : Within t n i
   pub configurations-good : ConfigurationsGood t
   pub good-behind : (j : ℕ) → i < j → j < n → goodNode t j ≡ true
@@ -148,7 +148,7 @@ pub record Ready (t w : List ℕ) (n i top : ℕ) : Type 0 where
   pub room : top ≤ 64
 
 -- node i is placed, and r programs wait
-pub record Placed (t w w′ : List ℕ) (i r : ℕ) : Type 0 where
+pub record NowPlaced (t w w′ : List ℕ) (i r : ℕ) : Type 0 where
   pub good : goodNode t i ≡ true
   pub long-row : length w′ ≡ 321
   pub waits : Waiting t w′ r i
@@ -157,4 +157,4 @@ pub record Placed (t w w′ : List ℕ) (i r : ℕ) : Type 0 where
 
 -- r is 0 where node i isn't good, or would be the 65th to wait
 abbrev pub Places : List ℕ → List ℕ → List ℕ → ℕ → ℕ → Type 0
-Places t w w′ i r = (0 < r → Placed t w w′ i r) × (r ≡ 0 → goodNode t i ≡ true → Row t 65 i)
+Places t w w′ i r = (0 < r → NowPlaced t w w′ i r) × (r ≡ 0 → goodNode t i ≡ true → Row t 65 i)
