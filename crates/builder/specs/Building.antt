@@ -8,6 +8,7 @@ use lib.Dec.{eqb, ltb}
 use lib.ListN.{length, set, drop}
 use lib.Seq.{sets}
 use Rattle.junior.specs.Program.{Program, size}
+use Rattle.table.specs.Bytes.{node, configuration}
 use Rattle.table.specs.Records.{byte, word}
 use Rattle.builder.specs.declared.build.Front.{Front}
 use Rattle.form.specs.Form.{Says, whole}
@@ -23,10 +24,10 @@ pub record Placed : Type 0 where
 
 -- the records' bytes
 abbrev pub nodeBytes : ℕ → ℕ → ℕ → List ℕ
-nodeBytes k argument n = k ∷ 0 ∷ (big (argument % 65536) ++ big (n % 65536))
+nodeBytes k argument n = node k (argument % 65536) (n % 65536)
 
 abbrev pub testBytes : ℕ → ℕ → ℕ → List ℕ
-testBytes k s n = k ∷ (s % 256) ∷ big (n % 65536)
+testBytes k s n = configuration k (s % 256) (n % 65536)
 
 -- the trailer's: N, M, V and the distances
 abbrev pub trailerBytes : ℕ → ℕ → ℕ → List ℕ

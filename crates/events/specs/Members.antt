@@ -1,7 +1,8 @@
 -- Which events a set's words mark as present.
-use Prim.Native.Nat.{ℕ, _/_, _%_, _^_}
+use Prim.Native.Nat.{ℕ, _/_, _%_, _^_, _<_}
+use mathlib.Core.Path.{_≡_}
 use mathlib.Core.List.{List}
-use lib.ListN.{getD}
+use lib.ListN.{length, getD}
 use lib.Dec.{eqb}
 use Rattle.events.specs.Events.{Events}
 use Rattle.events.specs.declared.EventSet.{EventSet}
@@ -17,3 +18,8 @@ marks words n = eqb (getD words (n / 64) 0 / 2 ^ (n % 64) % 2) 1
 -- the events that are present in a set
 abbrev pub members : EventSet → Events
 members s = marks (s .words)
+
+-- what every set of a running program is: words for all the places, of 64 bits each
+pub record Whole (s : EventSet) : Type 0 where
+  pub long : length (s .words) ≡ places / 64
+  pub fits : (q : ℕ) → getD (s .words) q 0 < 2 ^ 64

@@ -7,6 +7,7 @@ use lib.Dec.{leb}
 use Rattle.junior.specs.Configuration.{Config, Event, Not, And, Or}
 use Rattle.junior.specs.Program.{Program, Argument, no-argument, number, event, configuration, argument, kind}
 use Rattle.junior.specs.Program.{Parts, no-part, one-part, two-parts, parts, size}
+use Rattle.table.specs.Bytes as Bytes
 use Rattle.table.specs.Spells.{weight}
 
 -- a number of 16 bits
@@ -66,9 +67,9 @@ behind j (number n) = j
 behind j (event s) = j
 behind j (configuration c) = j + weight c
 
--- a node's own record: kind, a zero byte, argument, size
+-- a node's own record
 abbrev pub node : Program → ℕ → List ℕ
-node p argument = kind p ∷ 0 ∷ (big argument ++ big (size p))
+node p argument = Bytes.node (kind p) argument (size p)
 
 -- the records of a program, its first configuration being number j
 abbrev pub nodesFromParts : {p : Program} → ℕ → Parts p → List ℕ
@@ -81,12 +82,12 @@ nodesFromParts {p} j (two-parts f q r) =
 unfoldable pub nodesFrom : ℕ → Program → List ℕ
 nodesFrom j p = nodesFromParts j (parts p)
 
--- the records of a configuration: kind, event, size
+-- the records of a configuration
 unfoldable pub testRecords : Config → List ℕ
-testRecords (Event s) = 0 ∷ s ∷ big 1
-testRecords (Not c) = 1 ∷ 0 ∷ (big (1 + weight c) ++ testRecords c)
-testRecords (And c d) = 2 ∷ 0 ∷ (big (1 + weight c + weight d) ++ (testRecords c ++ testRecords d))
-testRecords (Or c d) = 3 ∷ 0 ∷ (big (1 + weight c + weight d) ++ (testRecords c ++ testRecords d))
+testRecords (Event s) = Bytes.configuration 0 s 1
+testRecords (Not c) = Bytes.configuration 1 0 (1 + weight c) ++ testRecords c
+testRecords (And c d) = Bytes.configuration 2 0 (1 + weight c + weight d) ++ (testRecords c ++ testRecords d)
+testRecords (Or c d) = Bytes.configuration 3 0 (1 + weight c + weight d) ++ (testRecords c ++ testRecords d)
 
 -- the configurations of a program, in text order
 abbrev pub recordsWith : Argument → List ℕ → List ℕ
@@ -103,10 +104,9 @@ testsOfParts {p} (two-parts f q r) = recordsWith (argument p) (testsOfParts q ++
 unfoldable pub testsOf : Program → List ℕ
 testsOf p = testsOfParts (parts p)
 
--- the trailer: N, M, V, and the distances back
+-- N, M, V, and the distances back
 unfoldable pub trailer : Program → List ℕ
-trailer p =
-    big (size p) ++ (big (tests p) ++ (big (named p) ++ (big (6 * size p + 4 * tests p) ++ big (4 * tests p))))
+trailer p = Bytes.trailer (size p) (tests p) (named p) (6 * size p + 4 * tests p) (4 * tests p)
 
 unfoldable pub tableOf : Program → List ℕ
 tableOf p = nodesFrom 0 p ++ (testsOf p ++ trailer p)

@@ -11,8 +11,8 @@ use lib.Seq.{take-at, drop-at}
 use borrow.Author.Tests.{eqb-true, eqb-false, ltb-true, ltb-false, ne-eqb, le-leb, le-ltb}
 use Rattle.events.specs.declared.EventSet.{EventSet}
 use Rattle.events.specs.Events.{Events, none, howMany, lowest}
-use Rattle.events.specs.Members.{places, members}
-use Rattle.events.proofs.Sets.{Whole, members-past}
+use Rattle.events.specs.Members.{places, members, Whole}
+use Rattle.events.proofs.Sets.{members-past}
 use Rattle.junior.specs.Configuration.{handed-in}
 use Rattle.junior.specs.Term.{Term, prog}
 use Rattle.junior.specs.Trace.{atoms, generations}
@@ -73,7 +73,7 @@ fit-at (w ∷ l) e (suc q) = fit-at l (both {a = ltb w (2 ^ 64)} e .1) q
 pub whole-is : (s : EventSet) → whole s ≡ true → Whole s
 whole-is s e =
     let (long, fits) = both {a = eqb (length (s .words)) (places / 64)} e in
-    record { long = eqb-true (length (s .words)) (places / 64) long; fits = λ q. record { fits = fit-at (s .words) fits q } }
+    record { long = eqb-true (length (s .words)) (places / 64) long; fits = fit-at (s .words) fits }
 
 -- a set whose signs are those of X, where X has no event without a place
 same-set : (s : EventSet) (X : Events) → Whole s → signs places (members s) ≡ signs places X → ((n : ℕ) → places ≤ n → X n ≡ false)

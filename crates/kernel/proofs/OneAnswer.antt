@@ -7,8 +7,8 @@ use native.Mathlib.Omega.{arith}
 use lib.ListN.{length, getD, drop}
 use Rattle.events.specs.declared.EventSet.{EventSet}
 use Rattle.events.specs.Events.{Events, howMany, lowest}
-use Rattle.events.specs.Members.{places, members}
-use Rattle.events.proofs.Sets.{Whole, same-members}
+use Rattle.events.specs.Members.{places, members, Whole}
+use Rattle.events.proofs.Sets.{same-members}
 use Rattle.junior.specs.Trace.{atoms}
 use Rattle.junior.proofs.Deterministic.{one-outcome}
 use Rattle.table.specs.declared.Checked.{Checked}
@@ -75,7 +75,7 @@ module _ {q r : Answer} (f : Whole (q .events)) (g : Whole (r .events)) (o : q .
       (x .count-is ∙ sym (y .count-is)) (x .lowest-is ∙ sym (y .lowest-is)) (x .atoms-are ∙ sym (y .atoms-are))
       (x .finished-is ∙ sym (y .finished-is)) (x .passes-are ∙ sym (y .passes-are))
 
--- what a running program holds as a set of events is Whole (crate events, proofs/Sets)
+-- what a running program holds as a set of events is Whole (`whole` in crate events, proofs/Sets)
 pub one-instant : {t s : List ℕ} {X : Events} {row s₁ s₂ row₁ row₂ : List ℕ} {q r : Answer} → Whole (q .events) → Whole (r .events)
     → Answered t s X row s₁ row₁ q
     → Answered t s X row s₂ row₂ r
@@ -106,7 +106,7 @@ whole-in-places : (p : List ℕ) (a : Answer) → Places instant-length p → p 
 whole-in-places p a l e =
     record {
       long = let n = sym (ap length e) ∙ l .long in omega arith;
-      fits = λ q. let n = suc (suc (suc (suc (suc (suc (suc q)))))) in record { fits = rw (ap (λ z. getD z n 0) e) at (l .fits n) };
+      fits = λ q. let n = suc (suc (suc (suc (suc (suc (suc q)))))) in rw (ap (λ z. getD z n 0) e) at (l .fits n);
     }
 
 pub one-instant-in-places : {t s words row s₁ s₂ row₁ row₂ p₁ p₂ : List ℕ} → Places instant-length p₁ → Places instant-length p₂

@@ -7,8 +7,7 @@ use mathlib.Core.List.{List, [], _∷_, _++_}
 use lib.Dec.{eqb}
 use lib.ListN.{length, replicate}
 use Rattle.events.specs.declared.EventSet.{EventSet}
-use Rattle.events.specs.Members.{places, members}
-use Rattle.events.proofs.Sets.{Whole}
+use Rattle.events.specs.Members.{places, members, Whole}
 use Rattle.table.specs.declared.Checked.{Checked}
 use Rattle.table.specs.declared.Checked.the-variants.{BadLength, BadCounts, BadDistances, BadConfiguration, BadNode}
 use Rattle.table.specs.declared.Checked.the-variants.{EndlessLoop, TooHeavy, Accepted}
@@ -59,7 +58,7 @@ pub record Starts (t s : List ℕ) (o : Outcome) (number index : ℕ) (s′ : Li
   pub number-is : outcomeNumber o ≡ number
   pub index-is : outcomeIndex o ≡ index
 
--- instant answers exactly this line in the room s: its contract allows this and nothing else (Whole: four words of 64 bits, as in a running program)
+-- instant answers exactly this line in the room s: its contract allows this and nothing else (Whole: words of 64 bits for all places, as in a running program)
 pub record Answers (t s : List ℕ) (x : Line) : Type 0 where
   pub answered : Answered t s (members (x .handed)) (x .lent) (x .state) (x .row) (x .answer)
   pub only : {q : Answer} {s′ row′ : List ℕ} → Whole (q .events) → Answered t s (members (x .handed)) (x .lent) s′ row′ q

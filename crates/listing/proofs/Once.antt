@@ -8,8 +8,8 @@ use lib.Dec.{leb, ltb, eqb}
 use lib.ListN.{length, getD, drop}
 use borrow.Author.Tests.{ltb-true, ltb-false, eqb-true, eqb-false, leb-true, leb-false}
 use Rattle.events.specs.Events.{Events, none, put}
-use Rattle.events.specs.Members.{places, members}
-use Rattle.events.proofs.Sets.{Whole, same-members}
+use Rattle.events.specs.Members.{places, members, Whole}
+use Rattle.events.proofs.Sets.{same-members}
 use Rattle.letters.specs.Decimal.{decimal}
 use Rattle.letters.specs.Text.{space, led, joined}
 use Rattle.listing.specs.Input.{Under, withAll, Reading}

@@ -1,4 +1,4 @@
--- Records and trailers written out as bytes (01, "The table"), for the examples of the crates above.
+-- Records and trailers written out as bytes (01, "The table").
 use Prim.Native.Nat.{ℕ, _/_, _%_}
 use mathlib.Core.List.{List, [], _∷_}
 

@@ -34,7 +34,7 @@ returns c =
     let loop-test = c .before .before .loop-test in
     let if1 = c .if1 in
     let set = start .args .t1 in
-    found (set .words) (loop .from) (start .args .v) (loop .inv .1) (whole set _ (start .good .0) .fits (loop .from / 64) .fits)
+    found (set .words) (loop .from) (start .args .v) (loop .inv .1) (whole set _ (start .good .0) .fits (loop .from / 64))
     (if1 .taken) (loop .inv .0) (loop-test .taken)
 
 -- while from < EventSet::PLACES {

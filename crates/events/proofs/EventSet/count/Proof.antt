@@ -28,7 +28,7 @@ cast-n c =
     let start = c .before .before .before in
     let loop = c .before .before .loop in
     let set = start .args .t1 in
-    let more = howMany-word (set .words) (loop .i) (whole set _ (start .good .0) .fits (loop .i) .fits) in
+    let more = howMany-word (set .words) (loop .i) (whole set _ (start .good .0) .fits (loop .i)) in
     omega (arith, howMany-le (64 * (loop .i + 1)) (members set))
 
 add-n : tie.Need-add-n Inv-loop μ-loop
@@ -36,7 +36,7 @@ add-n c =
     let start = c .before .before .before in
     let loop = c .before .before .loop in
     let set = start .args .t1 in
-    let more = howMany-word (set .words) (loop .i) (whole set _ (start .good .0) .fits (loop .i) .fits) in
+    let more = howMany-word (set .words) (loop .i) (whole set _ (start .good .0) .fits (loop .i)) in
     omega (arith, howMany-le (64 * (loop .i + 1)) (members set))
 
 -- for i in 0..WORDS {
@@ -45,7 +45,7 @@ loop-again c =
     let start = c .before .before .before in
     let loop = c .before .before .loop in
     let set = start .args .t1 in
-    let more = howMany-word (set .words) (loop .i) (whole set _ (start .good .0) .fits (loop .i) .fits) in
+    let more = howMany-word (set .words) (loop .i) (whole set _ (start .good .0) .fits (loop .i)) in
     (search needs, rw (loop .inv .1) (sym more))
 
 -- pub fn count
