@@ -18,13 +18,14 @@ use Rattle.junior.specs.Instant.{Instant, r47, r48, r49}
 use Rattle.junior.specs.Course.{IdleOnceEnded}
 use Rattle.junior.specs.AtRest.{AtRest}
 use Rattle.junior.specs.Decided.{last-answers, finished, DecidedRight}
+use Rattle.junior.specs.Inside.{Going, Remains, Controlled}
 use Rattle.junior.proofs.Little.{put-at}
 use Rattle.junior.proofs.Kept.{kept}
 use Rattle.junior.proofs.Verdicts.{present}
 use Rattle.junior.proofs.Grows.{grows, end-kept, unchanged}
 use Rattle.junior.proofs.End.{ended, idle-once-ended}
-use Rattle.junior.proofs.Going.{Going, Remains, stands, rest-going, fresh-going, going-more, again-going}
-use Rattle.junior.proofs.Going.{over-rest, stand-more, Controlled, stopped-rest}
+use Rattle.junior.proofs.Going.{stands, rest-going, fresh-going, going-more, again-going}
+use Rattle.junior.proofs.Going.{over-rest, stand-more, stopped-rest}
 use Rattle.junior.proofs.Scopes.{between, elsewhere, Open, rest-open, open-apart, part-open, branches-open, body-open}
 use Rattle.junior.proofs.Ahead.{Around, around-root, further, around-body, Ahead, told, back, earlier}
 use Rattle.junior.proofs.Ahead.{ahead-inside}

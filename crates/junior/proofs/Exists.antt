@@ -22,11 +22,12 @@ use Rattle.junior.specs.Rules.{r11, r12, r4-loop, r5-loop, r14, r15, r4-
 use Rattle.junior.specs.Rules.{r18, r19, r19-on, r20, r21, r22, r23, r24, r25, r26, r27, r28, r29, r30, r31}
 use Rattle.junior.specs.Rules.{r31-on, r32, r33, r34, r35-39}
 use Rattle.junior.specs.Figures.{stops, LoopsStop}
+use Rattle.junior.specs.Inside.{Going, Controlled}
 use Rattle.junior.proofs.Little.{STOP≢SUSP, TERM≢SUSP, TERM≢STOP}
 use Rattle.junior.proofs.Kept.{prog-fresh}
 use Rattle.junior.proofs.Grows.{grows}
 use Rattle.junior.proofs.Verdicts.{lasts, as-it-is}
-use Rattle.junior.proofs.Going.{Going, Controlled, going-more}
+use Rattle.junior.proofs.Going.{going-more}
 use Rattle.junior.proofs.Held.{begun}
 
 module _ (free : Allowed) where

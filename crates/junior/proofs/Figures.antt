@@ -1,7 +1,7 @@
 -- The law of figures, over any own weights k: what the acts of an instant weigh is at most the program's figure.
 -- So an instant does at most G generations and at most A atoms.
-use Prim.Native.Nat.{ℕ, zero, suc, _+_, _*_, _≤_, _<_, min, max}
-use mathlib.Core.Bool.{Bool, true, false, cond, false≢true}
+use Prim.Native.Nat.{ℕ, zero, suc, _+_, _*_, _≤_, _<_}
+use mathlib.Core.Bool.{Bool, true, false, false≢true}
 use mathlib.Core.Path.{_≡_, refl, _∙_, subst}
 use mathlib.Core.List.{List, [], _∷_, _++_}
 use native.Mathlib.Omega.{arith}
@@ -28,20 +28,10 @@ use Rattle.junior.specs.Rules.{r31-on, r32, r33, r34, r35-39}
 use Rattle.junior.specs.Instant.{Instant, r47, r48, r49}
 use Rattle.junior.specs.Figures.{stops, LoopsStop, times, figure, per, G, A}
 use Rattle.junior.specs.AtRest.{AtRest}
+use Rattle.junior.specs.Inside.{RemainsIf, Controlled, Going, live, held, rest, due, pot}
 use Rattle.junior.proofs.Kept.{prog-fresh, prog-again, kept}
-use Rattle.junior.proofs.Going.{RemainsIf, Controlled, Going, rest-going, fresh-going}
-use Rattle.junior.proofs.Held.{live, held, held-fresh, stays-held, begun, ends-unheld}
-
--- what is left of x in this instant: nothing, unless suspended
-abbrev pub rest : Flag → ℕ → ℕ
-rest SUSP x = x
-rest STOP x = 0
-rest TERM x = 0
-
--- how many runs of its body a node can still begin in this instant, j being due: none if the rest of the body is held,
--- one if a begun body stops
-abbrev pub due : ℕ → Bool → Bool → ℕ
-due j rest-held body-stops = cond rest-held 0 (cond body-stops (min j 1) j)
+use Rattle.junior.proofs.Going.{rest-going, fresh-going}
+use Rattle.junior.proofs.Held.{held-fresh, stays-held, begun, ends-unheld}
 
 -- how `rest` goes with the shapes of the rules' answers
 rest-within : (α : Flag) (w x c y : ℕ) → rest α x + c ≤ y → rest α (w + x) + c ≤ w + y
@@ -130,30 +120,6 @@ module _ (k : Program → ℕ) where
   counted f h [] = refl
   counted f h (x ∷ l) = omega (arith, h x, counted f h l, length-append (f x) (collect f l))
 
-  -- what the term can still do in this instant weighs at most, and so does what one pass of it runs (Visits)
-  unfoldable pub pot : Term → ℕ
-  pot (done p) = k p
-  pot nothing = k Nothing
-  pot stop = k Stop
-  pot (atom a) = k (Atom a)
-  pot (generate s) = k (Generate s)
-  pot (await c) = k (Await c)
-  pot (seq0 t q) = k (Seq (prog t) q) + (pot t + figure k q)
-  pot (seq2 p t) = k (Seq p (prog t)) + pot t
-  pot (par α β t u) = k (Par (prog t) (prog u)) + (rest α (pot t) + rest β (pot u))
-  pot (loop0 p) = k (Loop p) + figure k p
-  pot (loop1 t) = k (Loop (prog t)) + (pot t + due 1 (held t) true * figure k (prog t))
-  pot (repeat0 n p) = k (Repeat n p) + times n (stops p) * figure k p
-  pot (repeat1 n j t) = k (Repeat n (prog t)) + (pot t + due j (held t) (stops (prog t)) * figure k (prog t))
-  pot (when0 c p q) = k (When c p q) + max (figure k p) (figure k q)
-  pot (when1 c t q) = k (When c (prog t) q) + pot t
-  pot (when2 c p t) = k (When c p (prog t)) + pot t
-  pot (until0 c t q) = k (Until c (prog t) q) + (pot t + figure k q)
-  pot (until* c t q) = k (Until c (prog t) q) + figure k q
-  pot (until2 c p t) = k (Until c p (prog t)) + pot t
-  pot (control s t) = k (Control s (prog t)) + pot t
-  pot (local b s t) = k (Local s (prog t)) + pot t
-
   own-least : (p : Program) → k p ≤ figure k p
   unfolding figure
   own-least Nothing = omega arith
@@ -170,7 +136,7 @@ module _ (k : Program → ℕ) where
   own-least (Control s p) = omega arith
   own-least (Local s p) = omega arith
 
-  pub pot-going : (X : Events) (t : Term) → Going X t → pot t ≤ figure k (prog t)
+  pub pot-going : (X : Events) (t : Term) → Going X t → pot k t ≤ figure k (prog t)
   unfolding pot figure prog Going
   pot-going X (done p) g = own-least p
   pot-going X nothing g = omega arith
@@ -199,24 +165,24 @@ module _ (k : Program → ℕ) where
   pot-going X (control s t) g = omega (arith, pot-going X t (uncontrolled X (X s) t g))
   pot-going X (local b s t) g = omega (arith, pot-going (put s b X) t g)
 
-  pub pot-at-rest : (t : Term) → AtRest t → pot t ≤ figure k (prog t)
+  pub pot-at-rest : (t : Term) → AtRest t → pot k t ≤ figure k (prog t)
   pot-at-rest t a = pot-going none t (rest-going none t a)
 
-  pub pot-fresh : (p : Program) → pot (fresh p) ≤ figure k p
+  pub pot-fresh : (p : Program) → pot k (fresh p) ≤ figure k p
   pot-fresh p = rw (prog-fresh p) at (pot-going none (fresh p) (fresh-going none p))
 
-  rest-leave : (α : Flag) (t : Term) → rest α (pot (leave α t)) ≡ rest α (pot t)
+  rest-leave : (α : Flag) (t : Term) → rest α (pot k (leave α t)) ≡ rest α (pot k t)
   unfolding leave
   rest-leave SUSP t = refl
   rest-leave STOP t = refl
   rest-leave TERM t = refl
 
   pub repeat-fresh : (n j m : ℕ) (p : Program) → due j (stops p) (stops p) < m
-      → pot (repeat1 n j (fresh p)) ≤ k (Repeat n p) + m * figure k p
+      → pot k (repeat1 n j (fresh p)) ≤ k (Repeat n p) + m * figure k p
   unfolding pot
   repeat-fresh n j m p h = simp (prog-fresh p, held-fresh p) (let a = one-more _ m _ _ h (pot-fresh p) in omega arith)
 
-  pub pot-again : (n j : ℕ) (p : Program) → pot (again n j p) ≤ k (Repeat n p) + due j false (stops p) * figure k p
+  pub pot-again : (n j : ℕ) (p : Program) → pot k (again n j p) ≤ k (Repeat n p) + due j false (stops p) * figure k p
   unfolding pot
   pot-again n zero p = omega arith
   pot-again n (suc j) p = repeat-fresh n j _ p (due-again j (stops p))
@@ -225,7 +191,7 @@ module _ (k : Program → ℕ) where
   pub spends : {free : Allowed} {P : Place} {t : Term} {E : Env} {r : Result}
       → Rewrites free P t E r
       → LoopsStop (prog t)
-      → rest (r .flag) (pot (r .to)) + cost (r .acts) ≤ pot t
+      → rest (r .flag) (pot k (r .to)) + cost (r .acts) ≤ pot k t
   unfolding pot cost prog LoopsStop
   spends r1 o = omega arith
   spends r1-on o = omega arith
@@ -242,17 +208,17 @@ module _ (k : Program → ℕ) where
   spends (r8 {r = r} {s = s} d e) o =
       simp (rest-leave, cost-++, kept d, kept e)
       (rest-within (γ (r .flag) (s .flag)) _ _ _ _
-      (omega (arith, rest-joined (r .flag) (s .flag) (pot (r .to)) (pot (s .to)), spends d (o .0), spends e (o .1))))
+      (omega (arith, rest-joined (r .flag) (s .flag) (pot k (r .to)) (pot k (s .to)), spends d (o .0), spends e (o .1))))
   spends (r9 {r = r} {s = s} f e d) o =
       simp (rest-leave, cost-++, kept d, kept e)
       (rest-within (γ (r .flag) (s .flag)) _ _ _ _
-      (omega (arith, rest-joined (r .flag) (s .flag) (pot (r .to)) (pot (s .to)), spends d (o .0), spends e (o .1))))
+      (omega (arith, rest-joined (r .flag) (s .flag) (pot k (r .to)) (pot k (s .to)), spends d (o .0), spends e (o .1))))
   spends (r10 {β = β} {u = u} {r = r} n d) o =
       simp (rest-leave, kept d)
-      (rest-within (γ (r .flag) β) _ _ _ _ (omega (arith, rest-joined (r .flag) β (pot (r .to)) (pot u), spends d (o .0))))
+      (rest-within (γ (r .flag) β) _ _ _ _ (omega (arith, rest-joined (r .flag) β (pot k (r .to)) (pot k u), spends d (o .0))))
   spends (r11 {α = α} {t = t} {r = r} n d) o =
       simp (rest-leave, kept d)
-      (rest-within (γ α (r .flag)) _ _ _ _ (omega (arith, rest-joined α (r .flag) (pot t) (pot (r .to)), spends d (o .1))))
+      (rest-within (γ α (r .flag)) _ _ _ _ (omega (arith, rest-joined α (r .flag) (pot k t) (pot k (r .to)), spends d (o .1))))
   spends (r12 {p = p} {r = r} d n) o =
       simp (rest-leave, kept d, prog-fresh)
       (rest-within (r .flag) _ _ _ _
@@ -316,15 +282,15 @@ module _ (k : Program → ℕ) where
       → Rewrites free P t E r
       → LoopsStop (prog t)
       → r .flag ≡ SUSP
-      → pot (r .to) + cost (r .acts) ≤ pot t
+      → pot k (r .to) + cost (r .acts) ≤ pot k t
   suspends {t = t} {r = r} d o e =
-      subst (λ (α : Flag). rest α (pot (r .to)) + cost (r .acts) ≤ pot t) e (spends d o)
+      subst (λ (α : Flag). rest α (pot k (r .to)) + cost (r .acts) ≤ pot k t) e (spends d o)
 
   -- the acts of an instant weigh at most what there was when it began
   pub instant-spends : {free : Allowed} {t : Term} {E : Env} {n : ℕ} {r : Result}
       → Instant free t E n r
       → LoopsStop (prog t)
-      → cost (r .acts) ≤ pot t
+      → cost (r .acts) ≤ pot k t
   instant-spends (r47 d n) o = omega (arith, spends d o)
   instant-spends (r48 d e m i) o = simp cost-++ (omega (arith, suspends d o e, instant-spends i (rw (kept d) o)))
   instant-spends (r49 d e m i) o = simp cost-++ (omega (arith, suspends d o e, instant-spends i (rw (kept d) o)))

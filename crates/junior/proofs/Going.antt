@@ -24,57 +24,10 @@ use Rattle.junior.specs.Rules.{r31, r31-on, r32, r33, r34, r35-39}
 use Rattle.junior.specs.Instant.{Instant, r47, r48, r49}
 use Rattle.junior.specs.Course.{_⊆_}
 use Rattle.junior.specs.AtRest.{AtRest, Waiting, Over}
+use Rattle.junior.specs.Inside.{Suspended, RemainsIf, Remains, Controlled, Going}
 use Rattle.junior.proofs.Kept.{kept}
 use Rattle.junior.proofs.Verdicts.{lasts, as-it-is, present}
 use Rattle.junior.proofs.Grows.{grows}
-
--- one flag of a Par is SUSP
-abbrev pub Suspended : Flag → Flag → Type 0
-Suspended SUSP β = Unit {0}
-Suspended STOP SUSP = Unit {0}
-Suspended STOP STOP = ⊥
-Suspended STOP TERM = ⊥
-Suspended TERM SUSP = Unit {0}
-Suspended TERM STOP = ⊥
-Suspended TERM TERM = ⊥
-
--- a part that answered with a flag goes on in this instant, has stopped at rest, or reads as Nothing
-abbrev pub RemainsIf : Flag → Type 0 → Term → Type 0
-RemainsIf SUSP going t = going
-RemainsIf STOP going t = AtRest t
-RemainsIf TERM going t = Over TERM t
-
--- the body of a Control whose event is present, or not: it can't have begun, since events only come
-abbrev pub Controlled : Bool → Type 0 → Term → Type 0
-Controlled true going t = going
-Controlled false going t = AtRest t
-
--- t in the middle of an instant, the events X being present
-unfoldable pub Going : Events → Term → Type 0
-Going X (done p) = Unit {0}
-Going X nothing = Unit {0}
-Going X stop = Unit {0}
-Going X (atom a) = Unit {0}
-Going X (generate s) = Unit {0}
-Going X (await c) = Unit {0}
-Going X (seq0 t q) = Going X t
-Going X (seq2 p t) = Going X t
-Going X (par α β t u) = Suspended α β × RemainsIf α (Going X t) t × RemainsIf β (Going X u) u
-Going X (loop0 p) = Unit {0}
-Going X (loop1 t) = Going X t
-Going X (repeat0 n p) = Unit {0}
-Going X (repeat1 n k t) = (k < n) × Going X t
-Going X (when0 c p q) = Unit {0}
-Going X (when1 c t q) = Going X t
-Going X (when2 c p t) = Going X t
-Going X (until0 c t q) = Going X t
-Going X (until* c t q) = AtRest t
-Going X (until2 c p t) = Going X t
-Going X (control s t) = Controlled (X s) (Going X t) t
-Going X (local b s t) = Going (put s b X) t
-
-abbrev pub Remains : Flag → Events → Term → Type 0
-Remains α X t = RemainsIf α (Going X t) t
 
 pub fresh-at-rest : (p : Program) → AtRest (fresh p)
 unfolding fresh AtRest

@@ -11,9 +11,7 @@ use Rattle.junior.specs.Flags.{γ, δ₁, δ₂}
 use Rattle.junior.specs.Configuration.{Env, early-true, early-false}
 use Rattle.junior.specs.Program.{Program, Nothing, Stop, Atom, Seq, Par, Loop, Repeat, Generate, Await, When}
 use Rattle.junior.specs.Program.{Until, Control, Local}
-use Rattle.junior.specs.Term.{Term, done, nothing, stop, atom, generate, await, seq0, seq2, par, loop0, loop1}
-use Rattle.junior.specs.Term.{repeat0, repeat1, when0, when1, when2, until0, until*, until2, control, local}
-use Rattle.junior.specs.Term.{prog, fresh, leave}
+use Rattle.junior.specs.Term.{Term, repeat1, prog, fresh, leave}
 use Rattle.junior.specs.Trace.{Place, Act}
 use Rattle.junior.specs.Rules.{Allowed, Result, answers, again, Rewrites, r1, r1-on, r2, r3, r4, r4-on, r5, r8, r9, r10}
 use Rattle.junior.specs.Rules.{r11, r12}
@@ -22,38 +20,9 @@ use Rattle.junior.specs.Rules.{r19, r19-on, r20, r21, r22, r23, r24, r25
 use Rattle.junior.specs.Rules.{r32, r33, r34, r35-39}
 use Rattle.junior.specs.Instant.{Instant, r47, r48, r49}
 use Rattle.junior.specs.Figures.{only-if, stops}
+use Rattle.junior.specs.Inside.{live, held}
 use Rattle.junior.proofs.Kept.{kept}
 use Rattle.junior.proofs.Verdicts.{sat-early, unsat-early}
-
--- held or not, once the flag is known: who stopped can't end, who ended isn't held
-abbrev pub live : Flag → Bool → Bool
-live SUSP b = b
-live STOP b = true
-live TERM b = false
-
--- the term can't end in this instant
-unfoldable pub held : Term → Bool
-held (done p) = false
-held nothing = false
-held stop = true
-held (atom a) = false
-held (generate s) = false
-held (await c) = not (early-true c)
-held (seq0 t q) = held t || stops q
-held (seq2 p t) = held t
-held (par α β t u) = live α (held t) || live β (held u)
-held (loop0 p) = true
-held (loop1 t) = true
-held (repeat0 n p) = leb 1 n && stops p
-held (repeat1 n k t) = held t || (leb 1 k && stops (prog t))
-held (when0 c p q) = only-if (early-true c) (stops p) && only-if (early-false c) (stops q)
-held (when1 c t q) = held t
-held (when2 c p t) = held t
-held (until0 c t q) = held t && only-if (early-true c) (stops q)
-held (until* c t q) = only-if (early-true c) (stops q)
-held (until2 c p t) = held t
-held (control s t) = held t
-held (local b s t) = held t
 
 pub held-fresh : (p : Program) → held (fresh p) ≡ stops p
 unfolding held fresh stops

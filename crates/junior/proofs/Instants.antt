@@ -17,12 +17,13 @@ use Rattle.junior.specs.Instant.{Instant, r47, r48, r49}
 use Rattle.junior.specs.Course.{IdleOnceEnded}
 use Rattle.junior.specs.Figures.{LoopsStop, per, G}
 use Rattle.junior.specs.AtRest.{AtRest}
+use Rattle.junior.specs.Inside.{Going, Remains, pot}
 use Rattle.junior.proofs.Little.{STOP≢SUSP, TERM≢SUSP}
 use Rattle.junior.proofs.Kept.{kept}
 use Rattle.junior.proofs.Grows.{any, moves}
-use Rattle.junior.proofs.Going.{Going, Remains, rest-going, stands}
+use Rattle.junior.proofs.Going.{rest-going, stands}
 use Rattle.junior.proofs.End.{ended, idle-once-ended}
-use Rattle.junior.proofs.Figures.{cost, pot, cost-G, suspends, pot-at-rest}
+use Rattle.junior.proofs.Figures.{cost, cost-G, suspends, pot-at-rest}
 use Rattle.junior.proofs.Exists.{pass-exists}
 
 -- only a generation moves

@@ -22,8 +22,9 @@ use Rattle.junior.specs.Rules.{r32, r33, r34, r35-39}
 use Rattle.junior.specs.AtRest.{AtRest}
 use Rattle.junior.specs.Decided.{last-status, last-answers}
 use Rattle.junior.specs.Flags.{γ, δ₁, δ₂}
+use Rattle.junior.specs.Inside.{Remains}
 use Rattle.junior.proofs.Little.{put-at}
-use Rattle.junior.proofs.Going.{Remains, over-rest}
+use Rattle.junior.proofs.Going.{over-rest}
 use Rattle.junior.proofs.Kept.{prog-fresh, prog-again, kept}
 
 -- an answer of the Local at n, as a status

@@ -19,10 +19,11 @@ use Rattle.junior.specs.Instant.{Instant, r47, r48, r49}
 use Rattle.junior.specs.Figures.{stops, LoopsStop, figure, every, G, W}
 use Rattle.junior.specs.AtRest.{AtRest}
 use Rattle.junior.specs.Visits.{below, visits, visits-by-pass, EachAtMost, sum}
+use Rattle.junior.specs.Inside.{Going, pot}
 use Rattle.junior.proofs.Kept.{prog-fresh, prog-again, kept}
-use Rattle.junior.proofs.Going.{Going, rest-going}
+use Rattle.junior.proofs.Going.{rest-going}
 use Rattle.junior.proofs.Held.{begun, ends-unheld}
-use Rattle.junior.proofs.Figures.{due-times, loops-fresh, pot, pot-going, pot-fresh, repeat-fresh, pot-again}
+use Rattle.junior.proofs.Figures.{due-times, loops-fresh, pot-going, pot-fresh, repeat-fresh, pot-again}
 use Rattle.junior.proofs.Instants.{goes-on, within-passes}
 
 module _ (k : Program → ℕ) where

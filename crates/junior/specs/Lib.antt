@@ -9,6 +9,7 @@ pub mod Instant
 pub mod Course
 pub mod Figures
 pub mod AtRest
+pub mod Inside
 pub mod Decided
 pub mod Activations
 pub mod Demand3

@@ -23,12 +23,13 @@ use Rattle.junior.specs.Trace.{Act, root, atom-of, atoms, collect}
 use Rattle.junior.specs.Rules.{left-first, Result, answers, after}
 use Rattle.junior.specs.Instant.{Instant, r47, r48, r49}
 use Rattle.junior.specs.Figures.{per, G}
+use Rattle.junior.specs.Inside.{pot}
 use Rattle.junior.proofs.Little.{collect-++}
 use Rattle.junior.proofs.Kept.{kept}
 use Rattle.junior.proofs.Grows.{end-kept}
 use Rattle.junior.proofs.Going.{rest-going, stands}
 use Rattle.junior.proofs.End.{ended}
-use Rattle.junior.proofs.Figures.{pot, pot-at-rest}
+use Rattle.junior.proofs.Figures.{pot-at-rest}
 use Rattle.junior.proofs.Instants.{uses-up, goes-on}
 use Rattle.table.specs.Records.{nodes}
 use Rattle.table.proofs.Tree.{size-pos}

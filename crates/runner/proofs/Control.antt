@@ -15,8 +15,8 @@ use Rattle.junior.specs.Configuration.{Event, test}
 use Rattle.junior.specs.Term.{Term, control, prog}
 use Rattle.junior.specs.Trace.{Place, first, collect}
 use Rattle.junior.specs.Rules.{r26, r27, r28}
+use Rattle.junior.specs.Inside.{Going, Controlled}
 use Rattle.junior.proofs.Verdicts.{test-event}
-use Rattle.junior.proofs.Going.{Going, Controlled}
 use Rattle.table.specs.Records.{argumentAt}
 use Rattle.table.specs.Spells.{Spells}
 use Rattle.state.proofs.Shape.{Shape, is-done, is-control, shape-by}

@@ -16,7 +16,8 @@ use Rattle.junior.specs.Program.{Program, size}
 use Rattle.junior.specs.Term.{Term, done, par, prog, leave}
 use Rattle.junior.specs.Trace.{Place}
 use Rattle.junior.specs.AtRest.{Over}
-use Rattle.junior.proofs.Going.{Going, Remains, stands}
+use Rattle.junior.specs.Inside.{Going, Remains}
+use Rattle.junior.proofs.Going.{stands}
 use Rattle.table.proofs.Tree.{size-pos}
 use Rattle.state.specs.StateBytes.{code, head, zeros, below, stateBytes}
 use Rattle.state.proofs.Parts.{first-of, with-first, rest-of, with-rest, blank-two, part-is, put-is}

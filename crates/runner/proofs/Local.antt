@@ -16,9 +16,9 @@ use Rattle.junior.specs.declared.Flag.the-variants.{SUSP, STOP, TERM}
 use Rattle.junior.specs.Term.{Term, local, prog, leave}
 use Rattle.junior.specs.Trace.{Place, Act, inside, scope-answered, atom-of}
 use Rattle.junior.specs.Rules.{left-first, Rewrites, answers, sign, r35-39}
+use Rattle.junior.specs.Inside.{Going}
 use Rattle.junior.proofs.Little.{collect-last, put-at}
 use Rattle.junior.proofs.Grows.{grows}
-use Rattle.junior.proofs.Going.{Going}
 use Rattle.table.specs.Records.{argumentAt}
 use Rattle.table.specs.Spells.{Spells}
 use Rattle.state.specs.StateBytes.{in-phase}

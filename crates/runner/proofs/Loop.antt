@@ -14,11 +14,12 @@ use Rattle.junior.specs.Term.{Term, loop0, loop1, prog, fresh}
 use Rattle.junior.specs.Trace.{Place, first}
 use Rattle.junior.specs.Rules.{r12, r4-loop, r5-loop}
 use Rattle.junior.specs.Figures.{LoopsStop, stops, per}
+use Rattle.junior.specs.Inside.{Going, pot}
 use Rattle.junior.proofs.Kept.{prog-fresh}
 use Rattle.junior.proofs.Held.{held-fresh, ends-unheld}
 use Rattle.junior.proofs.NeverRoundTwice.{never-round-twice}
-use Rattle.junior.proofs.Going.{Going, rest-going, fresh-at-rest}
-use Rattle.junior.proofs.Figures.{pot, pot-fresh}
+use Rattle.junior.proofs.Going.{rest-going, fresh-at-rest}
+use Rattle.junior.proofs.Figures.{pot-fresh}
 use Rattle.state.specs.StateBytes.{below}
 use Rattle.state.proofs.Parts.{fresh-zeros}
 use Rattle.state.proofs.Shape.{Shape, is-done, is-loop0, is-loop1, shape-by}

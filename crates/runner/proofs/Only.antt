@@ -8,7 +8,7 @@ use Rattle.events.specs.Members.{places, marks}
 use Rattle.junior.specs.declared.Flag.{Flag}
 use Rattle.junior.specs.Term.{Term}
 use Rattle.junior.specs.Trace.{Place}
-use Rattle.junior.proofs.Going.{Going}
+use Rattle.junior.specs.Inside.{Going}
 use Rattle.state.specs.StateBytes.{Own}
 use Rattle.state.proofs.Frames.{Frame}
 use Rattle.steps.specs.Running.{Ready, Ran, Live, Runs, Any}

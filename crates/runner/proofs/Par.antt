@@ -14,10 +14,10 @@ use Rattle.junior.specs.Term.{Term, par, prog, leave}
 use Rattle.junior.specs.Trace.{Place, Act, first, second, atom-of, atoms}
 use Rattle.junior.specs.Rules.{left-first, Rewrites, joined, r8, r10, r11}
 use Rattle.junior.specs.Figures.{LoopsStop, per}
+use Rattle.junior.specs.Inside.{Going, Suspended, pot}
 use Rattle.junior.proofs.Little.{collect-++, STOP≢SUSP, TERM≢SUSP}
 use Rattle.junior.proofs.Grows.{grows}
-use Rattle.junior.proofs.Going.{Going, Suspended, going-more}
-use Rattle.junior.proofs.Figures.{pot}
+use Rattle.junior.proofs.Going.{going-more}
 use Rattle.table.specs.Records.{sizeAt}
 use Rattle.table.specs.Spells.{Spells}
 use Rattle.table.specs.Inside.{Placed}

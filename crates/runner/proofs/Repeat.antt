@@ -15,10 +15,11 @@ use Rattle.junior.specs.Trace.{Place, first, collect}
 use Rattle.junior.specs.Rules.{again, r1-on, r14, r15, r4-repeat, r5-repeat}
 use Rattle.junior.specs.Figures.{LoopsStop, figure, per}
 use Rattle.junior.specs.AtRest.{AtRest}
+use Rattle.junior.specs.Inside.{Going, pot}
 use Rattle.junior.proofs.Kept.{prog-fresh}
 use Rattle.junior.proofs.Held.{ends-unheld}
-use Rattle.junior.proofs.Going.{Going, rest-going, fresh-at-rest}
-use Rattle.junior.proofs.Figures.{pot, pot-at-rest, pot-again}
+use Rattle.junior.proofs.Going.{rest-going, fresh-at-rest}
+use Rattle.junior.proofs.Figures.{pot-at-rest, pot-again}
 use Rattle.table.specs.Records.{word, argumentAt}
 use Rattle.table.specs.Spells.{Spells}
 use Rattle.state.specs.StateBytes.{head, below, zeros}

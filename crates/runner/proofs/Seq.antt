@@ -15,9 +15,10 @@ use Rattle.junior.specs.Term.{Term, seq0, seq2, prog, fresh}
 use Rattle.junior.specs.Trace.{Place, Act, first, second}
 use Rattle.junior.specs.Rules.{left-first, Result, answers, under, after, Rewrites, r4, r4-on, r5, r19-on, r31-on}
 use Rattle.junior.specs.Figures.{LoopsStop, per}
+use Rattle.junior.specs.Inside.{Going, pot}
 use Rattle.junior.proofs.Kept.{prog-fresh}
-use Rattle.junior.proofs.Going.{Going, rest-going, fresh-at-rest}
-use Rattle.junior.proofs.Figures.{pot, pot-fresh}
+use Rattle.junior.proofs.Going.{rest-going, fresh-at-rest}
+use Rattle.junior.proofs.Figures.{pot-fresh}
 use Rattle.table.specs.Records.{sizeAt}
 use Rattle.table.specs.Spells.{Spells}
 use Rattle.table.specs.Inside.{Placed}

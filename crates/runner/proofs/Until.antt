@@ -18,9 +18,10 @@ use Rattle.junior.specs.Term.{Term, until0, until*, until2, prog, fresh}
 use Rattle.junior.specs.Trace.{Place, decided, first, collect}
 use Rattle.junior.specs.Rules.{left-first, Result, after, Rewrites, r29, r30, r31, r31-on, r32, r33, r34}
 use Rattle.junior.specs.Figures.{LoopsStop, per}
+use Rattle.junior.specs.Inside.{Going, pot}
 use Rattle.junior.proofs.Kept.{prog-fresh, kept}
-use Rattle.junior.proofs.Going.{Going, rest-going, fresh-at-rest, stands}
-use Rattle.junior.proofs.Figures.{pot, pot-fresh}
+use Rattle.junior.proofs.Going.{rest-going, fresh-at-rest, stands}
+use Rattle.junior.proofs.Figures.{pot-fresh}
 use Rattle.table.specs.Records.{sizeAt}
 use Rattle.table.specs.Spells.{Spells}
 use Rattle.table.proofs.Tree.{size-pos, written}

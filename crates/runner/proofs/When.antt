@@ -18,9 +18,10 @@ use Rattle.junior.specs.Term.{Term, when0, when1, when2, prog, fresh}
 use Rattle.junior.specs.Trace.{Place, decided, first, collect}
 use Rattle.junior.specs.Rules.{left-first, Result, after, Rewrites, r17, r17-on, r18, r19, r19-on, r20, r21}
 use Rattle.junior.specs.Figures.{per}
+use Rattle.junior.specs.Inside.{Going, pot}
 use Rattle.junior.proofs.Kept.{prog-fresh}
-use Rattle.junior.proofs.Going.{Going, rest-going, fresh-at-rest}
-use Rattle.junior.proofs.Figures.{pot, pot-fresh}
+use Rattle.junior.proofs.Going.{rest-going, fresh-at-rest}
+use Rattle.junior.proofs.Figures.{pot-fresh}
 use Rattle.table.specs.Records.{sizeAt}
 use Rattle.table.specs.Spells.{Spells}
 use Rattle.state.specs.StateBytes.{in-phase, zeros, below, stateBytes}

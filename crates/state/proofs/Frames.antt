@@ -10,7 +10,7 @@ use Rattle.junior.specs.Program.{Program, One, loop, repeat, control, local, Tw
 use Rattle.junior.specs.Term.{Term, seq0, seq2, loop1, repeat1, when1, when2, until0, until2, prog}
 use Rattle.junior.specs.Term
 use Rattle.junior.specs.Figures.{LoopsStop, per}
-use Rattle.junior.proofs.Figures.{pot}
+use Rattle.junior.specs.Inside.{pot}
 use Rattle.table.specs.Spells.{Spells}
 use Rattle.table.proofs.Parts.{of-one, of-two}
 use Rattle.table.proofs.Tree.{spells-one, spells-two, second}

@@ -12,7 +12,7 @@ use Rattle.junior.specs.declared.Flag.{Flag}
 use Rattle.junior.specs.Program.{Program, size}
 use Rattle.junior.specs.Term.{Term, prog}
 use Rattle.junior.specs.Trace.{Place}
-use Rattle.junior.proofs.Going.{Going}
+use Rattle.junior.specs.Inside.{Going}
 use Rattle.table.specs.Records.{sizeAt}
 use Rattle.table.specs.Inside.{Placed}
 use Rattle.table.proofs.Tree.{size-pos}

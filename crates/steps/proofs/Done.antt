@@ -15,10 +15,10 @@ use Rattle.junior.specs.Term.{Term, prog, leave}
 use Rattle.junior.specs.Trace.{Place, Act, atom-of, atoms}
 use Rattle.junior.specs.Rules.{left-first, Rewrites, answers}
 use Rattle.junior.specs.Figures.{LoopsStop, per}
+use Rattle.junior.specs.Inside.{Going, pot, rest}
 use Rattle.junior.proofs.Little.{collect-++}
 use Rattle.junior.proofs.Kept.{kept}
-use Rattle.junior.proofs.Going.{Going}
-use Rattle.junior.proofs.Figures.{pot, rest, spends, cost-A}
+use Rattle.junior.proofs.Figures.{spends, cost-A}
 use Rattle.state.specs.StateBytes.{Own, before, in-phase, zeros}
 use Rattle.state.proofs.Parts.{blank, blank-below, blank-both, len-bytes}
 use Rattle.state.proofs.Frames.{Frame, size-in}

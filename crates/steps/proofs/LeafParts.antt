@@ -20,7 +20,7 @@ use Rattle.junior.specs.Program.{Program, Atom, Generate, size, kind}
 use Rattle.junior.specs.Term.{Term, done, prog}
 use Rattle.junior.specs.Trace.{Place, did-atom, did-generate, collect}
 use Rattle.junior.specs.Rules.{r1-on, r2, r3, r16, r22, r23, r24, r25}
-use Rattle.junior.proofs.Figures.{pot}
+use Rattle.junior.specs.Inside.{pot}
 use Rattle.table.specs.Records.{argumentAt}
 use Rattle.table.specs.Spells.{Spells}
 use Rattle.table.proofs.Tree.{size-pos}

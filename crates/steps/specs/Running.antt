@@ -17,8 +17,7 @@ use Rattle.junior.specs.Term.{Term, prog}
 use Rattle.junior.specs.Trace.{Place, Act, atoms}
 use Rattle.junior.specs.Rules.{left-first, Rewrites, answers}
 use Rattle.junior.specs.Figures.{LoopsStop, per}
-use Rattle.junior.proofs.Going.{Going}
-use Rattle.junior.proofs.Figures.{pot}
+use Rattle.junior.specs.Inside.{Going, pot}
 use Rattle.table.specs.Records.{nodes, configurations, argumentAt}
 use Rattle.table.specs.Spells.{Configured, tested}
 use Rattle.table.specs.Inside.{Loaded, Placed}
