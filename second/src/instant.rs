@@ -2,7 +2,7 @@
 
 use crate::env::{Env, Events};
 use crate::figures::{self, Figures};
-use crate::rules::{self, Actions};
+use crate::rules::{self, Course};
 use crate::state;
 use crate::table::{self, Program, Refusal};
 use crate::term::{Flag, Term};
@@ -29,8 +29,19 @@ pub fn start(table: &[u8], state: &mut [u8]) -> Result<(), Refusal> {
     Ok(())
 }
 
-/// Runs one instant: all refusals.
+/// Runs one instant: all refusals. The first branch of a Par runs first.
 pub fn instant(table: &[u8], state: &mut [u8], handed: Events, row: &mut [u16]) -> Result<Report, Refusal> {
+    in_any_order(table, state, handed, row, &mut || false)
+}
+
+/// Runs one instant in which each Par asks, in each pass where both branches are suspended, which one runs first (L6).
+pub fn in_any_order(
+    table: &[u8],
+    state: &mut [u8],
+    handed: Events,
+    row: &mut [u16],
+    second_first: &mut dyn FnMut() -> bool,
+) -> Result<Report, Refusal> {
     let (program, figures) = load(table)?;
     let room = room(&program, state)?;
     if let Some(index) = state::blamed(&program.root, room) {
@@ -42,11 +53,12 @@ pub fn instant(table: &[u8], state: &mut [u8], handed: Events, row: &mut [u16]) 
     if (row.len() as u64) < figures.a {
         return Err(Refusal::new(12, 0));
     }
-    let mut actions = Actions::new();
-    let (answer, residual, events, passes) = passes(state::read(&program.root, room), handed, &mut actions);
+    let mut course = Course::new(second_first);
+    let (answer, residual, events, passes) = passes(state::read(&program.root, room), handed, &mut course);
     state::write(&program.root, answer, &residual, room);
-    row[..actions.len()].copy_from_slice(&actions);
-    Ok(Report { events, atoms: actions.len(), finished: answer == Flag::Term, passes })
+    let atoms = course.actions.len();
+    row[..atoms].copy_from_slice(&course.actions);
+    Ok(Report { events, atoms, finished: answer == Flag::Term, passes })
 }
 
 /// A table that passes 1 to 8, with its figures.
@@ -62,12 +74,12 @@ fn room<'a>(program: &Program, state: &'a mut [u8]) -> Result<&'a mut [u8], Refu
 }
 
 /// Instant(t) of 000, 5.2: the answer, the residual, the present events and the number of passes.
-pub fn passes(t: Term, handed: Events, actions: &mut Actions) -> (Flag, Term, Events, usize) {
+pub fn passes(t: Term, handed: Events, course: &mut Course) -> (Flag, Term, Events, usize) {
     let mut now = t;
     let mut e = Env { present: handed, eoi: false, moved: false };
     let mut passes = 0;
     loop {
-        let (answer, rest, after) = rules::run(&now, e, actions);
+        let (answer, rest, after) = rules::run(&now, e, course);
         passes += 1;
         e = match (answer, after.moved) {
             (Flag::Stop | Flag::Term, _) => return (answer, rest, after.present, passes), // (47)

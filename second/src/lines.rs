@@ -37,8 +37,13 @@ pub enum Call {
 
 /// The answer line of a line.
 pub fn answer(line: &[u8]) -> String {
+    in_any_order(line, &mut || false)
+}
+
+/// The answer line of a line, an instant running the branches of Par in the order that is asked for each time.
+pub fn in_any_order(line: &[u8], second_first: &mut dyn FnMut() -> bool) -> String {
     match read(line) {
-        Some(call) => make(call),
+        Some(call) => make(call, second_first),
         None => "bad-line".to_string(),
     }
 }
@@ -105,7 +110,7 @@ fn read_events(word: &[u8]) -> Option<Events> {
 }
 
 /// Makes the call and prints its answer.
-fn make(call: Call) -> String {
+fn make(call: Call, second_first: &mut dyn FnMut() -> bool) -> String {
     match call {
         Call::Check { table } => match instant::check(&table) {
             Ok(figures) => format!("0 0 {} {} {}", figures.g, figures.a, figures.w),
@@ -116,7 +121,7 @@ fn make(call: Call) -> String {
             format!("{number} {index} {}", words::hex(&state))
         }
         Call::Instant { table, mut state, events, mut row } => {
-            let answer = instant::instant(&table, &mut state, events, &mut row);
+            let answer = instant::in_any_order(&table, &mut state, events, &mut row, second_first);
             let Refusal { number, index } = answer.as_ref().err().copied().unwrap_or(Refusal::new(0, 0));
             let refused = Report { events: Events::none(), atoms: 0, finished: false, passes: 0 };
             let report = answer.unwrap_or(refused);

@@ -22,37 +22,37 @@ mod words;
 #[cfg(test)]
 mod tests;
 
+use make::random::Random;
 use std::io::{BufWriter, Read, Result, Write};
 use std::path::Path;
 use std::process::ExitCode;
 
-const USAGE: &str = "usage: second calls | run | make calls CASES SEED | make edges | make loops CASES SEED \
-                     | make texts CASES SEED | make text-edges | make listing SEED DIR";
+const USAGE: &str = "usage: second calls | orders SEED | run | make edges | make text-edges \
+                     | make calls|loops|orders|texts CASES SEED | make listing SEED DIR";
 
 fn main() -> ExitCode {
     let arguments: Vec<String> = std::env::args().skip(1).collect();
     let words: Vec<&str> = arguments.iter().map(String::as_str).collect();
     let mut out = BufWriter::new(std::io::stdout().lock());
     let done = match words[..] {
-        ["calls"] => answer_calls(&mut out),
+        ["calls"] => answer_calls(&mut out, lines::answer),
+        ["orders", seed] => match seed.parse() {
+            Ok(seed) => {
+                let mut r = Random::new(seed);
+                answer_calls(&mut out, |line| lines::in_any_order(line, &mut || r.chance(50)))
+            }
+            Err(_) => return misused(),
+        },
         ["run"] => listing::play(&read_table(Path::new("table.bin")), std::io::stdin().lock(), &mut out),
-        ["make", "calls", cases, seed] => match (cases.parse(), seed.parse()) {
-            (Ok(cases), Ok(seed)) => print_lines(&mut out, make::calls::lines(cases, seed)),
-            _ => return misused(),
-        },
         ["make", "edges"] => print_lines(&mut out, make::edges::lines()),
-        ["make", "loops", cases, seed] => match (cases.parse(), seed.parse()) {
-            (Ok(cases), Ok(seed)) => print_lines(&mut out, make::loops::lines(cases, seed)),
-            _ => return misused(),
-        },
-        ["make", "texts", cases, seed] => match (cases.parse(), seed.parse()) {
-            (Ok(cases), Ok(seed)) => print_lines(&mut out, make::texts::lines(cases, seed)),
-            _ => return misused(),
-        },
         ["make", "text-edges"] => print_lines(&mut out, make::text_edges::lines()),
         ["make", "listing", seed, dir] => match seed.parse() {
             Ok(seed) => make::listings::write(seed, Path::new(dir)),
             Err(_) => return misused(),
+        },
+        ["make", sort, cases, seed] => match random_lines(sort, cases, seed) {
+            Some(lines) => print_lines(&mut out, lines),
+            None => return misused(),
         },
         _ => return misused(),
     };
@@ -70,8 +70,12 @@ fn misused() -> ExitCode {
     ExitCode::from(2)
 }
 
-fn answer_calls(out: &mut impl Write) -> Result<()> {
-    words::each_line(std::io::stdin().lock(), |line| writeln!(out, "{}", lines::answer(line)))
+fn answer_calls(out: &mut impl Write, mut answer: impl FnMut(&[u8]) -> String) -> Result<()> {
+    words::each_line(std::io::stdin().lock(), |line| writeln!(out, "{}", answer(line)))
+}
+
+fn random_lines(sort: &str, cases: &str, seed: &str) -> Option<Box<dyn Iterator<Item = String>>> {
+    make::lines(sort, cases.parse().ok()?, seed.parse().ok()?)
 }
 
 fn print_lines(out: &mut impl Write, lines: impl IntoIterator<Item = String>) -> Result<()> {

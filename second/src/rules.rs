@@ -1,5 +1,5 @@
 //! The rewriting rules of 000, each with its number beside it, with what 01 settles:
-//! Par with two suspended branches merges (rule 8), Control keeps its body's environment,
+//! Par with two suspended branches merges (rule 8, or rule 9 where L6 asks for it), Control keeps its body's environment,
 //! Until* that is false stops at any time, and a node that answers TERM leaves Nothing.
 
 use crate::config::Config;
@@ -7,8 +7,19 @@ use crate::env::Env;
 use crate::term::{Flag, Form, Term};
 use std::rc::Rc;
 
-/// The row of actions that atoms have executed, in order.
-pub type Actions = Vec<u16>;
+/// What the passes of an instant meet and leave beside the environment.
+pub struct Course<'a> {
+    /// The actions that atoms have executed, in order.
+    pub actions: Vec<u16>,
+    /// Asked anew at each Par that has two suspended branches: true if the second one runs first.
+    pub second_first: &'a mut dyn FnMut() -> bool,
+}
+
+impl Course<'_> {
+    pub fn new(second_first: &mut dyn FnMut() -> bool) -> Course<'_> {
+        Course { actions: vec![], second_first }
+    }
+}
 
 /// What a rule concludes.
 enum Conclusion {
@@ -20,11 +31,11 @@ enum Conclusion {
 use Conclusion::{AsRunning, Says};
 
 /// Rewrites a term once: t, E -> t', E' with a flag.
-pub fn run(t: &Term, e: Env, actions: &mut Actions) -> (Flag, Term, Env) {
-    let mut next = step(t, e, actions);
+pub fn run(t: &Term, e: Env, course: &mut Course) -> (Flag, Term, Env) {
+    let mut next = step(t, e, course);
     loop {
         match next {
-            AsRunning(u, e) => next = step(&u, e, actions),
+            AsRunning(u, e) => next = step(&u, e, course),
             Says(Flag::Term, _, e) => return (Flag::Term, t.becomes(Form::Gone), e),
             Says(flag, rest, e) => return (flag, rest, e),
         }
@@ -32,17 +43,17 @@ pub fn run(t: &Term, e: Env, actions: &mut Actions) -> (Flag, Term, Env) {
 }
 
 /// Applies the one rule that fits the term and the environment.
-fn step(t: &Term, e: Env, actions: &mut Actions) -> Conclusion {
+fn step(t: &Term, e: Env, course: &mut Course) -> Conclusion {
     match &*t.form {
         Form::Nothing | Form::Gone => Says(Flag::Term, t.clone(), e), // (1)
         Form::Stop => Says(Flag::Stop, t.becomes(Form::Gone), e),     // (2)
         Form::Atom(a) => {
-            actions.push(*a);
+            course.actions.push(*a);
             Says(Flag::Term, t.becomes(Form::Gone), e) // (3)
         }
-        Form::Seq(first, second) => seq(t, first, second, e, actions),
-        Form::Par(a, b, first, second) => par(t, (*a, *b), first, second, e, actions),
-        Form::Loop(body) => repeat_for_ever(t, body, e, actions),
+        Form::Seq(first, second) => seq(t, first, second, e, course),
+        Form::Par(a, b, first, second) => par(t, (*a, *b), first, second, e, course),
+        Form::Loop(body) => repeat_for_ever(t, body, e, course),
         Form::Repeat(n, body) => repeat(t, *n, body, e),
         Form::Generate(s) => {
             let e = Env { present: e.present.with(*s), moved: true, ..e };
@@ -50,37 +61,43 @@ fn step(t: &Term, e: Env, actions: &mut Actions) -> Conclusion {
         }
         Form::Await(c) => wait(t, c, e),
         Form::When(c, then, other) => when(t, c, then, other, e),
-        Form::Until(c, body, handler) => until(t, c, body, handler, e, actions),
+        Form::Until(c, body, handler) => until(t, c, body, handler, e, course),
         Form::UntilStar(c, body, handler) => until_star(t, c, body, handler, e),
-        Form::Control(s, body) => control(t, *s, body, e, actions),
-        Form::LocalMinus(s, body) => local_minus(t, *s, body, e, actions),
-        Form::LocalPlus(s, body) => local_plus(t, *s, body, e, actions),
+        Form::Control(s, body) => control(t, *s, body, e, course),
+        Form::LocalMinus(s, body) => local_minus(t, *s, body, e, course),
+        Form::LocalPlus(s, body) => local_plus(t, *s, body, e, course),
     }
 }
 
-fn seq(t: &Term, first: &Term, second: &Term, e: Env, actions: &mut Actions) -> Conclusion {
-    match run(first, e, actions) {
+fn seq(t: &Term, first: &Term, second: &Term, e: Env, course: &mut Course) -> Conclusion {
+    match run(first, e, course) {
         (Flag::Term, _, e1) => AsRunning(second.clone(), e1), // (4)
         (a, rest, e1) => Says(a, t.becomes(Form::Seq(rest, second.clone())), e1), // (5)
     }
 }
 
-fn par(t: &Term, flags: (Flag, Flag), first: &Term, second: &Term, e: Env, actions: &mut Actions) -> Conclusion {
+fn par(t: &Term, flags: (Flag, Flag), first: &Term, second: &Term, e: Env, course: &mut Course) -> Conclusion {
     let (a, first, b, second, e) = match flags {
         // (8), Merge: the first branch, then the second.
+        (Flag::Susp, Flag::Susp) if !(course.second_first)() => {
+            let (a, rest1, e1) = run(first, e, course);
+            let (b, rest2, e2) = run(second, e1, course);
+            (a, rest1, b, rest2, e2)
+        }
+        // (9), InvMerge: the second branch, then the first.
         (Flag::Susp, Flag::Susp) => {
-            let (a, rest1, e1) = run(first, e, actions);
-            let (b, rest2, e2) = run(second, e1, actions);
+            let (b, rest2, e1) = run(second, e, course);
+            let (a, rest1, e2) = run(first, e1, course);
             (a, rest1, b, rest2, e2)
         }
         // (10): only the first branch is suspended.
         (Flag::Susp, b) => {
-            let (a, rest, e1) = run(first, e, actions);
+            let (a, rest, e1) = run(first, e, course);
             (a, rest, b, second.clone(), e1)
         }
         // (11): only the second branch is suspended.
         (a, Flag::Susp) => {
-            let (b, rest, e1) = run(second, e, actions);
+            let (b, rest, e1) = run(second, e, course);
             (a, first.clone(), b, rest, e1)
         }
         _ => unreachable!("no rule runs a Par without a suspended branch"),
@@ -117,8 +134,8 @@ fn delta2(a: Flag, b: Flag) -> Flag {
     }
 }
 
-fn repeat_for_ever(t: &Term, body: &Term, e: Env, actions: &mut Actions) -> Conclusion {
-    match run(body, e, actions) {
+fn repeat_for_ever(t: &Term, body: &Term, e: Env, course: &mut Course) -> Conclusion {
+    match run(body, e, course) {
         (Flag::Term, _, e1) => AsRunning(t.clone(), e1), // (13), in E' as 001 prints it
         (a, rest, e1) => Says(a, t.becomes(Form::Seq(rest, t.clone())), e1), // (12)
     }
@@ -158,10 +175,10 @@ fn wait(t: &Term, c: &Rc<Config>, e: Env) -> Conclusion {
     }
 }
 
-fn control(t: &Term, s: u8, body: &Term, e: Env, actions: &mut Actions) -> Conclusion {
+fn control(t: &Term, s: u8, body: &Term, e: Env, course: &mut Course) -> Conclusion {
     let event = Config::Event(s);
     if event.sat(e) {
-        let (a, rest, e1) = run(body, e, actions);
+        let (a, rest, e1) = run(body, e, course);
         Says(a, t.becomes(Form::Control(s, rest)), e1) // (26), keeping E' as 001 does
     } else if event.unsat(e) {
         Says(Flag::Stop, t.clone(), e) // (27)
@@ -170,8 +187,8 @@ fn control(t: &Term, s: u8, body: &Term, e: Env, actions: &mut Actions) -> Concl
     }
 }
 
-fn until(t: &Term, c: &Rc<Config>, body: &Term, handler: &Term, e: Env, actions: &mut Actions) -> Conclusion {
-    let (a, rest, e1) = run(body, e, actions);
+fn until(t: &Term, c: &Rc<Config>, body: &Term, handler: &Term, e: Env, course: &mut Course) -> Conclusion {
+    let (a, rest, e1) = run(body, e, course);
     if a == Flag::Stop {
         let star = t.becomes(Form::UntilStar(c.clone(), rest, handler.clone()));
         AsRunning(star, e1) // (30)
@@ -193,9 +210,9 @@ fn until_star(t: &Term, c: &Rc<Config>, body: &Term, handler: &Term, e: Env) -> 
     }
 }
 
-fn local_minus(t: &Term, s: u8, body: &Term, e: Env, actions: &mut Actions) -> Conclusion {
+fn local_minus(t: &Term, s: u8, body: &Term, e: Env, course: &mut Course) -> Conclusion {
     let inside = Env { present: e.present.without(s), ..e };
-    let (a, rest, e1) = run(body, inside, actions);
+    let (a, rest, e1) = run(body, inside, course);
     let form = if a == Flag::Susp && e1.present.has(s) {
         Form::LocalPlus(s, rest) // (36)
     } else {
@@ -204,9 +221,9 @@ fn local_minus(t: &Term, s: u8, body: &Term, e: Env, actions: &mut Actions) -> C
     Says(a, t.becomes(form), Env { present: e1.present.as_in(e.present, s), ..e1 })
 }
 
-fn local_plus(t: &Term, s: u8, body: &Term, e: Env, actions: &mut Actions) -> Conclusion {
+fn local_plus(t: &Term, s: u8, body: &Term, e: Env, course: &mut Course) -> Conclusion {
     let inside = Env { present: e.present.with(s), ..e };
-    let (a, rest, e1) = run(body, inside, actions);
+    let (a, rest, e1) = run(body, inside, course);
     let form = if a == Flag::Susp {
         Form::LocalPlus(s, rest) // (37)
     } else {

@@ -1,21 +1,13 @@
 -- How visits are counted, on the examples of specs/Visits.antt: their instants, rule by rule.
-use mathlib.Core.Path.{refl, sym}
-use mathlib.Core.Logic.{_≢_}
+use mathlib.Core.Path.{refl}
 use Rattle.events.specs.Events.{put}
-use Rattle.junior.specs.declared.Flag.the-variants.{SUSP, STOP, TERM}
 use Rattle.junior.specs.Configuration.{test, fixed, eval}
 use Rattle.junior.specs.Term.{prog, fresh, leave}
 use Rattle.junior.specs.Rules.{r1-on, r2, r3, r4, r4-on, r5, r8, r12, r4-loop, r5-loop, r15, r4-repeat, r16}
 use Rattle.junior.specs.Rules.{r22, r24, r25, r30, r31-on, r32, r34}
 use Rattle.junior.specs.Instant.{r47, r48}
 use Rattle.junior.specs.Visits.{below, visits-by-pass, next, no-more, CountedSo}
-use Rattle.junior.proofs.Little.{STOP≢SUSP, TERM≢SUSP, TERM≢STOP}
-
-SUSP≢TERM : SUSP ≢ TERM
-SUSP≢TERM e = TERM≢SUSP (sym e)
-
-STOP≢TERM : STOP ≢ TERM
-STOP≢TERM e = TERM≢STOP (sym e)
+use Rattle.junior.proofs.Little.{STOP≢SUSP, TERM≢SUSP, SUSP≢TERM, STOP≢TERM}
 
 pub counted-so : CountedSo
 unfolding visits-by-pass below put test fixed eval prog fresh leave

@@ -10,7 +10,7 @@ use Rattle.events.specs.Events.{Events, put}
 use Rattle.junior.specs.declared.Flag.{Flag}
 use Rattle.junior.specs.declared.Flag.the-variants.{SUSP, STOP, TERM}
 use Rattle.junior.specs.Flags.{γ, δ₁, δ₂}
-use Rattle.junior.specs.Configuration.{Event, Env, eval}
+use Rattle.junior.specs.Configuration.{Env}
 use Rattle.junior.specs.Program.{Program, Nothing, Stop, Atom, Seq, Par, Loop, Repeat, Generate, Await, When}
 use Rattle.junior.specs.Program.{Until, Control, Local}
 use Rattle.junior.specs.Term.{Term, done, nothing, stop, atom, generate, await, seq0, seq2, par, loop0, loop1}
@@ -26,7 +26,7 @@ use Rattle.junior.specs.Course.{_⊆_}
 use Rattle.junior.specs.AtRest.{AtRest, Waiting, Over}
 use Rattle.junior.specs.Inside.{Suspended, RemainsIf, Remains, Controlled, Going}
 use Rattle.junior.proofs.Kept.{kept}
-use Rattle.junior.proofs.Verdicts.{lasts, as-it-is, present}
+use Rattle.junior.proofs.Verdicts.{present, absent}
 use Rattle.junior.proofs.Grows.{grows}
 
 pub fresh-at-rest : (p : Program) → AtRest (fresh p)
@@ -195,7 +195,7 @@ again-going X n (suc k) p h = (omega arith, fresh-going X p)
 
 pub stands : {free : Allowed} {P : Place} {t : Term} {E : Env} {r : Result} → Rewrites free P t E r → Going (E .now) t
     → Remains (r .flag) (r .env .now) (r .to)
-unfolding Going AtRest eval
+unfolding Going AtRest
 stands r1 g = (Nothing, refl)
 stands (r1-on {p = p}) g = (p, refl)
 stands r2 g = tt
@@ -238,8 +238,7 @@ stands (r26 {E = E} {s = s} {t = t} {r = r} h d) g =
     let f = subst (λ b. Controlled b (Going (r .env .now) (r .to)) (r .to)) (sym (grows d s on)) in
     under-stands r _ f (λ x. x) (stands d (subst (λ b. Controlled b (Going (E .now) t) t) on g))
 stands (r27 {E = E} {s = s} {t = t} h) g =
-    let off : E .now s ≡ false = lasts (Event s) E (E .now) h (as-it-is E) in
-    subst (λ b. Controlled b (Going (E .now) t) t) off g
+    subst (λ b. Controlled b (Going (E .now) t) t) (absent s E h) g
 stands (r28 h) g = g
 stands (r29 {r = r} d h) g = under-stands r _ (λ x. x) (λ x. x) (stands d g)
 stands (r30 d e) g = stands e (stands d g)

@@ -55,7 +55,7 @@ or-else true b f h = absurd (false≢true (f refl))
 or-else false b f h = h
 
 -- what is needed only if possible, where it is possible
-needed : {a b : Bool} → a ≡ true → only-if a b ≡ true → b ≡ true
+pub needed : {a b : Bool} → a ≡ true → only-if a b ≡ true → b ≡ true
 needed e h = rw e at h
 
 -- how `live` goes with the shapes of the rules' answers

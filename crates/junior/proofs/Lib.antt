@@ -16,6 +16,14 @@ pub mod Held
 pub mod Figures
 pub mod Exists
 pub mod Instants
+pub mod Freer
+pub mod Settle
+pub mod Fits
+pub mod Meets
+pub mod Hidden
+pub mod Agree
+pub mod Ending
+pub mod Order
 pub mod Visits
 pub mod Counted
 pub mod AsPrinted

@@ -20,6 +20,12 @@ TERM≢SUSP e = let z : _≡_ {A = ℕ} 0 1 = cc in omega arith
 pub TERM≢STOP : TERM ≢ STOP
 TERM≢STOP e = let z : _≡_ {A = ℕ} 0 1 = cc in omega arith
 
+pub SUSP≢TERM : SUSP ≢ TERM
+SUSP≢TERM e = TERM≢SUSP (sym e)
+
+pub STOP≢TERM : STOP ≢ TERM
+STOP≢TERM e = TERM≢STOP (sym e)
+
 pub neither : (a b : Bool) → (a || b) ≡ false → (a ≡ false) × (b ≡ false)
 neither true b h = absurd (false≢true (sym h))
 neither false b h = (refl, h)

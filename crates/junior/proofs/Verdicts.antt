@@ -223,6 +223,10 @@ pub present : (s : ℕ) (E : Env) → test (Event s) E ≡ Sat → E .now s ≡ 
 unfolding eval
 present s E v = lasts (Event s) E (E .now) v (as-it-is E)
 
+pub absent : (s : ℕ) (E : Env) → test (Event s) E ≡ Unsat → E .now s ≡ false
+unfolding eval
+absent s E v = lasts (Event s) E (E .now) v (as-it-is E)
+
 -- a verdict that a configuration can have early, true and false being possible so
 abbrev Early : Bool → Bool → Verdict → Type 0
 Early can-true can-false Sat = can-true ≡ true

@@ -13,6 +13,7 @@ pub mod Inside
 pub mod Decided
 pub mod Activations
 pub mod Demand3
+pub mod Order
 pub mod Printed
 pub mod Visits
 pub mod StoppedBefore

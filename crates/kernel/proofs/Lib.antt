@@ -9,6 +9,7 @@ pub mod Demand1
 pub mod Demand2
 pub mod Demand3
 pub mod NeverRoundTwice
+pub mod AnyOrder
 pub mod Bounds
 pub mod OneAnswer
 pub mod Lines

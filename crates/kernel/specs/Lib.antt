@@ -4,6 +4,7 @@ pub mod Demand1
 pub mod Demand2
 pub mod Demand3
 pub mod NeverRoundTwice
+pub mod AnyOrder
 pub mod Bounds
 pub mod Bench
 pub mod Exports

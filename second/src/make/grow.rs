@@ -24,6 +24,15 @@ pub fn lasting(r: &mut Random) -> Records {
     records(r, true)
 }
 
+/// A random program of many branches that share few events, so that the order in which they run tells.
+pub fn woven(r: &mut Random) -> Records {
+    let events = r.between(2, 4);
+    let conds = (0..r.between(1, 4)).map(|_| cond(r, events, 3)).collect();
+    let branches = r.between(2, 8);
+    let program = Ground { r, events, conds }.weave(branches);
+    Records::sharing(events as u16, &program)
+}
+
 fn records(r: &mut Random, lasting: bool) -> Records {
     let events = match r.weigh(&[10, 30, 25, 15, 10, 6, 4]) {
         5 => r.between(6, 20),
@@ -211,6 +220,45 @@ impl Ground<'_> {
             };
         }
         whole
+    }
+
+    /// So many branches side by side, each a few steps long, with now and then a form round those so far.
+    fn weave(&mut self, branches: usize) -> Draft {
+        let mut whole = self.thread();
+        for _ in 1..branches {
+            let other = self.thread();
+            whole = if self.r.chance(50) { par(whole, other) } else { par(other, whole) };
+            whole = match self.r.below(30) {
+                0 => local(self.event(), whole),
+                1 => until(self.test(), whole, self.step()),
+                2 => seq(whole, self.step()),
+                3 => seq(self.step(), whole),
+                4 => repeat(2, whole),
+                5 => forever(seq(whole, stop())),
+                6 => control(self.event(), whole),
+                7 => when(self.test(), whole, self.step()),
+                _ => whole,
+            };
+        }
+        whole
+    }
+
+    fn thread(&mut self) -> Draft {
+        let steps = self.r.between(1, 4);
+        (1..steps).fold(self.step(), |before, _| seq(before, self.step()))
+    }
+
+    fn step(&mut self) -> Draft {
+        match self.r.weigh(&[26, 26, 20, 4, 7, 7, 4, 6]) {
+            0 => generate(self.event()),
+            1 => wait(self.test()),
+            2 => self.atom(),
+            3 => stop(),
+            4 => when(self.test(), self.leaf(), self.leaf()),
+            5 => until(self.test(), seq(self.leaf(), stop()), self.leaf()),
+            6 => control(self.event(), self.leaf()),
+            _ => local(self.event(), par(self.leaf(), self.leaf())),
+        }
     }
 
     /// Divides nodes among two children, each at least one.

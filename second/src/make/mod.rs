@@ -9,11 +9,23 @@ mod limits;
 pub mod listings;
 mod loop_edges;
 pub mod loops;
+pub mod orders;
 mod print_edges;
-mod random;
+pub mod random;
 mod rest;
 mod spoil;
 pub mod text_edges;
 pub mod texts;
 mod wide;
 mod write;
+
+/// As many random lines of a sort as asked for, the same for the same seed.
+pub fn lines(sort: &str, cases: usize, seed: u64) -> Option<Box<dyn Iterator<Item = String>>> {
+    match sort {
+        "calls" => Some(Box::new(calls::lines(cases, seed))),
+        "loops" => Some(Box::new(loops::lines(cases, seed))),
+        "orders" => Some(Box::new(orders::lines(cases, seed))),
+        "texts" => Some(Box::new(texts::lines(cases, seed))),
+        _ => None,
+    }
+}

@@ -6,7 +6,7 @@ use crate::env::Env;
 use crate::figures;
 use crate::make::draft::short::*;
 use crate::make::loops;
-use crate::rules::Actions;
+use crate::rules::Course;
 use crate::state;
 use crate::table::{self, Node, Written};
 use crate::term::Flag;
@@ -184,7 +184,7 @@ fn what_stops_does_not_end_at_once() {
         for node in subtree(&program.root).into_iter().filter(|node| node.size <= 40) {
             for bits in 0..4u8 {
                 let handed = (0..2).filter(|s| bits >> s & 1 == 1).collect();
-                let (answer, ..) = instant::passes(state::fresh(node), handed, &mut Actions::new());
+                let (answer, ..) = instant::passes(state::fresh(node), handed, &mut Course::new(&mut || false));
                 let finished = answer == Flag::Term;
                 assert!(!(finished && figures::stops(node)), "{node:?} {handed:?}");
                 stopped += usize::from(figures::stops(node));

@@ -6,6 +6,7 @@ mod early;
 mod laws;
 mod listings;
 mod loops;
+mod orders;
 mod readings;
 mod rules;
 mod text_laws;

@@ -1,0 +1,36 @@
+-- L6 of every answer: by the contract of `instant`, demand 2 and the theorem of the definitions.
+use Prim.Native.Nat.{ℕ}
+use mathlib.Core.Path.{ap, sym, _∙_}
+use mathlib.Core.List.{List}
+use Rattle.events.specs.Events.{Events}
+use Rattle.junior.specs.Order.{often}
+use Rattle.junior.proofs.Order.{order-free}
+use Rattle.kernel.specs.declared.Answer.{Answer}
+use Rattle.kernel.specs.Answer.{ended, Answered}
+use Rattle.kernel.specs.Demand2.{Premises}
+use Rattle.kernel.specs.AnyOrder.{AnyOrder}
+use Rattle.kernel.proofs.Accepted.{admitted}
+use Rattle.kernel.proofs.Demand2.{runs, stands, gives}
+use Rattle.state.specs.StateBytes.{stateBytes}
+
+pub any-order : {t s : List ℕ} {X : Events} {row s′ row′ : List ℕ} {a : Answer} → Premises t s X row → Answered t s X row s′ row′ a
+    → AnyOrder t s X s′ row′ a
+any-order {t} {X = X} p o =
+    let ran = o .outcome-is ∙ sym (runs p) in
+    let r = o .ran ran in
+    let free = order-free (r .term) X (rw (r .program) (admitted t (p .accepted) .loops)) (r .at-rest) in
+    let given = gives p r in
+    record {
+      ran = ran;
+      term = r .term;
+      stands = stands r;
+      order-free = free;
+      gives = λ i.
+          let same = free .same (free .kernel-order (r .instant)) i in
+          record {
+            event-set = given .event-set ∙ same .event-set;
+            finished = given .finished ∙ ap ended (same .answer);
+            end-state = given .next-state ∙ ap stateBytes (same .end-state);
+            equally-often = λ n. ap (often n) (given .actions) ∙ same .equally-often n;
+          };
+    }

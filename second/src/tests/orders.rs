@@ -1,0 +1,148 @@
+//! L6: the order in which the branches of Par run doesn't choose the outcome. Its examples, typed in, and all orders of many instants.
+
+use super::*;
+use crate::make::draft::short::*;
+use crate::make::{edges, orders};
+use crate::words::{event as number, read_hex};
+
+/// What no order may change: event set, finished answer, end state, and the atoms, however ordered.
+type Outcome = (Vec<u8>, bool, Vec<u8>, Vec<u16>);
+
+/// The outcome of an instant and its passes, each Par with two suspended branches asking which one runs first.
+fn outcome(table: &[u8], state: &[u8], handed: Events, second_first: &mut dyn FnMut() -> bool) -> (Outcome, usize) {
+    let (mut state, mut row) = (state.to_vec(), vec![0; 4_096]);
+    let report = instant::in_any_order(table, &mut state, handed, &mut row, second_first).expect("no refusal");
+    row.truncate(report.atoms);
+    row.sort();
+    ((report.events.rising().collect(), report.finished, state, row), report.passes)
+}
+
+/// The outcomes and passes of every order, or of the first so many: each sequence of choices in its turn.
+fn orders_of(table: &[u8], state: &[u8], handed: Events, most: usize) -> Vec<(Outcome, usize)> {
+    let mut found = vec![];
+    let mut choices: Vec<bool> = vec![];
+    while found.len() < most {
+        let mut asked = 0;
+        let mut second_first = || {
+            if asked == choices.len() {
+                choices.push(false);
+            }
+            asked += 1;
+            choices[asked - 1]
+        };
+        found.push(outcome(table, state, handed, &mut second_first));
+        while choices.last() == Some(&true) {
+            choices.pop();
+        }
+        match choices.last_mut() {
+            Some(last) => *last = true,
+            None => break,
+        }
+    }
+    found
+}
+
+/// A program whose every order in the first instant has this outcome and takes these passes, the first branch first leading.
+fn any_order(events: u16, program: Draft, handed: &[u8], wanted: (&[u8], bool, &[u8], &[u16]), passes: &[usize]) {
+    let table = Records::new(events, &program).bytes();
+    let (present, finished, state, atoms) = wanted;
+    let orders = orders_of(&table, &vec![0; state.len()], set(handed), 1_000);
+    for (outcome, _) in &orders {
+        assert_eq!(*outcome, (present.to_vec(), finished, state.to_vec(), atoms.to_vec()));
+    }
+    assert_eq!(orders.iter().map(|(_, passes)| *passes).collect::<Vec<_>>(), passes);
+}
+
+/// A finished program of this many nodes.
+fn done(nodes: usize) -> Vec<u8> {
+    let mut state = vec![0; 4 * nodes];
+    state[0] = 3;
+    state
+}
+
+/// The second branch of example 2.
+fn p_left() -> Draft {
+    seq(wait(event(0)), seq(atom(7), generate(1)))
+}
+
+// Examples 1 and 2: P and P with its branches exchanged, one pass or two.
+#[test]
+fn p_in_both_orders() {
+    any_order(2, par(p_left(), wait(event(1))), &[0], (&[0, 1], true, &done(7), &[7]), &[1, 2]);
+    any_order(2, par(wait(event(1)), p_left()), &[0], (&[0, 1], true, &done(7), &[7]), &[2, 1]);
+}
+
+// Examples 3 and 4: Until* waits for the other branch, or finds its event at once.
+#[test]
+fn until_in_both_orders() {
+    let until = || until(event(0), stop(), atom(3));
+    any_order(1, par(until(), generate(0)), &[], (&[0], true, &done(5), &[3]), &[2, 1]);
+    any_order(1, par(generate(0), until()), &[], (&[0], true, &done(5), &[3]), &[1, 2]);
+}
+
+// Examples 5 and 6: first unknown, then false early, or false early at once.
+#[test]
+fn absence_in_both_orders() {
+    let first = [0, 8, 0, 0, 0, 0, 0, 0, 3, 0, 0, 0];
+    any_order(1, par(wait(not(event(0))), generate(0)), &[], (&[0], false, &first, &[]), &[2, 1]);
+    let second = [0, 2, 0, 0, 3, 0, 0, 0, 0, 0, 0, 0];
+    any_order(1, par(generate(0), wait(not(event(0)))), &[], (&[0], false, &second, &[]), &[1, 2]);
+}
+
+// Example 7: the order of atoms follows the branches, how often each occurs doesn't.
+#[test]
+fn atoms_in_both_orders() {
+    let program = || par(seq(generate(0), atom(1)), atom(2));
+    any_order(1, program(), &[], (&[0], true, &done(5), &[1, 2]), &[1, 1]);
+    let table = Records::new(1, &program()).bytes();
+    for (second_first, atoms) in [(false, [1, 2]), (true, [2, 1])] {
+        let mut row = [0; 2];
+        assert!(instant::in_any_order(&table, &mut [0; 20], Events::none(), &mut row, &mut || second_first).is_ok());
+        assert_eq!(row, atoms);
+    }
+}
+
+// L6.1: the choice is made anew in each pass, also in the one after the end; a Par with one suspended branch makes none.
+#[test]
+fn when_a_choice_is_made() {
+    let asked = |program: Draft| {
+        let records = Records::new(2, &program);
+        let mut times = 0;
+        outcome(&records.bytes(), &vec![0; 4 * records.nodes.len()], Events::none(), &mut || {
+            times += 1;
+            false
+        });
+        times
+    };
+    // The quiet pass and the pass after the end.
+    assert_eq!(asked(par(wait(event(0)), wait(event(1)))), 2);
+    // One pass more, for the move.
+    assert_eq!(asked(par(wait(event(0)), seq(generate(1), wait(event(0))))), 3);
+    // From the second pass on the first branch alone is suspended.
+    assert_eq!(asked(par(wait(event(0)), generate(1))), 1);
+    assert_eq!(asked(par(stop(), nothing())), 1);
+    // Two of them in a pass; the inner one isn't asked again once both of its branches have ended.
+    assert_eq!(asked(par(wait(event(0)), par(wait(event(1)), wait(event(0))))), 4);
+    assert_eq!(asked(par(wait(event(0)), par(nothing(), atom(1)))), 2);
+}
+
+// Every order, or the first 64 of them, of random and edge instants has one outcome; often not in the same passes.
+#[test]
+fn one_outcome() {
+    let (mut instants, mut many, mut unlike) = (0, 0, 0);
+    for line in orders::lines(3_000, 4).chain(edges::lines()) {
+        let words: Vec<&str> = line.split(' ').collect();
+        let ["instant", table, state, events, _] = words[..] else { continue };
+        let (Some(table), Some(state)) = (read_hex(table.as_bytes()), read_hex(state.as_bytes())) else { continue };
+        let handed: Events = events.split(',').filter_map(|word| number(word.as_bytes())).collect();
+        if table.len() > 1_000 || instant::instant(&table, &mut state.clone(), handed, &mut [0; 4_096]).is_err() {
+            continue;
+        }
+        let orders = orders_of(&table, &state, handed, 64);
+        assert!(orders.iter().all(|(outcome, _)| *outcome == orders[0].0), "{line}");
+        instants += 1;
+        many += usize::from(orders.len() > 1);
+        unlike += usize::from(orders.iter().any(|(_, passes)| *passes != orders[0].1));
+    }
+    assert!(instants > 2_500 && many > 1_000 && unlike > 200, "{instants} {many} {unlike}");
+}

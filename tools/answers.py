@@ -1,0 +1,11 @@
+"""Answer lines of the calls program."""
+
+
+def without_order(line):
+    """An answer as far as the order of branches may not change it (L6): an instant's without its passes, its atoms sorted."""
+    words = line.split(b" ")
+    if len(words) != 10:
+        return line
+    atoms, state, row = int(words[5]), words[8], words[9]
+    sorted_atoms = sorted(row[4 * k:4 * k + 4] for k in range(atoms))
+    return b" ".join(words[:7] + [state, b"".join(sorted_atoms) + row[4 * atoms:]])
