@@ -65,18 +65,18 @@ second-part t c (Or d e, h, l) k n =
     record { there = (e, h .3, omega arith); less = omega (arith, written t (secondPart t c) e (h .3), h .1, some-record d) }
 
 -- what stands at byte c, by its kind
-data ReadAs (t : List ℕ) (c : ℕ) : ℕ → Config → Type 0 where
-  event : {s : ℕ} → partEvent t c ≡ s → ReadAs t c 0 (Event s)
-  negation : {d : Config} → Configured t (c + 4) d → ReadAs t c 1 (Not d)
-  conjunction : {d e : Config} → Configured t (c + 4) d → Configured t (secondPart t c) e → ReadAs t c 2 (And d e)
-  disjunction : {d e : Config} → Configured t (c + 4) d → Configured t (secondPart t c) e → ReadAs t c 3 (Or d e)
+data MadeOf (t : List ℕ) (c : ℕ) : ℕ → Config → Type 0 where
+  event : {s : ℕ} → partEvent t c ≡ s → MadeOf t c 0 (Event s)
+  negation : {d : Config} → Configured t (c + 4) d → MadeOf t c 1 (Not d)
+  conjunction : {d e : Config} → Configured t (c + 4) d → Configured t (secondPart t c) e → MadeOf t c 2 (And d e)
+  disjunction : {d e : Config} → Configured t (c + 4) d → Configured t (secondPart t c) e → MadeOf t c 3 (Or d e)
 
-read-as : {t : List ℕ} {c k : ℕ} (d : Config) → partKind t c ≡ k → Configured t c d → ReadAs t c k d
+made-of : {t : List ℕ} {c k : ℕ} (d : Config) → partKind t c ≡ k → Configured t c d → MadeOf t c k d
 unfolding Configured
-read-as (Event s) k h = rw (sym k ∙ h .0) (event (h .2))
-read-as (Not d) k h = rw (sym k ∙ h .0) (negation (h .2))
-read-as (And d e) k h = rw (sym k ∙ h .0) (conjunction (h .2) (h .3))
-read-as (Or d e) k h = rw (sym k ∙ h .0) (disjunction (h .2) (h .3))
+made-of (Event s) k h = rw (sym k ∙ h .0) (event (h .2))
+made-of (Not d) k h = rw (sym k ∙ h .0) (negation (h .2))
+made-of (And d e) k h = rw (sym k ∙ h .0) (conjunction (h .2) (h .3))
+made-of (Or d e) k h = rw (sym k ∙ h .0) (disjunction (h .2) (h .3))
 
 -- ranks of three-valued logic
 rank-event : (present ended : Bool) → cond present 2 (absentRank ended) ≡ rank (verdict (present || ended) present)
@@ -134,33 +134,33 @@ module _ (t : List ℕ) (c : ℕ) (words : List ℕ) (absent : ℕ) where
 
   pub ranks-event : (event r : ℕ) → partKind t c ≡ 0 → event ≡ partEvent t c → r ≡ cond (marks words event) 2 absent
       → RanksAs t c words absent r
-  ranks-event n r k f e d ended moved h a = e ∙ go (read-as d k h)
+  ranks-event n r k f e d ended moved h a = e ∙ go (made-of d k h)
     where
       E : Env
       E = environment words ended moved
 
-      go : {d : Config} → ReadAs t c 0 d → cond (marks words n) 2 absent ≡ rank (test d E)
+      go : {d : Config} → MadeOf t c 0 d → cond (marks words n) 2 absent ≡ rank (test d E)
       go (event {s} g) = rw (f, g, a, test-event s E) (rank-event (marks words s) ended)
 
   pub ranks-not : (f : ℕ) → partKind t c ≡ 1 → RanksAs t (c + 4) words absent f → RanksAs t c words absent (2 - f)
-  ranks-not f k first d ended moved h a = go (read-as d k h)
+  ranks-not f k first d ended moved h a = go (made-of d k h)
     where
       E : Env
       E = environment words ended moved
 
-      go : {d : Config} → ReadAs t c 1 d → 2 - f ≡ rank (test d E)
+      go : {d : Config} → MadeOf t c 1 d → 2 - f ≡ rank (test d E)
       go (negation {d} e) = rw (test-not d E, first d ended moved e a) (rank-not (test d E))
 
   module _ (f : ℕ) (not-event : partKind t c ≡ 0 → ⊥) (not-not : partKind t c ≡ 1 → ⊥)
       (first : RanksAs t (c + 4) words absent f) where
     pub ranks-both : (k g r : ℕ) → k ≡ partKind t c → RanksAs t (secondPart t c) words absent g → r ≡ joinedRank k f g
         → RanksAs t c words absent r
-    ranks-both k g r same second e d ended moved h a = e ∙ rw same (go not-event not-not (read-as d refl h))
+    ranks-both k g r same second e d ended moved h a = e ∙ rw same (go not-event not-not (made-of d refl h))
       where
         E : Env
         E = environment words ended moved
 
-        go : {k : ℕ} {d : Config} → (k ≡ 0 → ⊥) → (k ≡ 1 → ⊥) → ReadAs t c k d → joinedRank k f g ≡ rank (test d E)
+        go : {k : ℕ} {d : Config} → (k ≡ 0 → ⊥) → (k ≡ 1 → ⊥) → MadeOf t c k d → joinedRank k f g ≡ rank (test d E)
         go n m (event e) = absurd (n refl)
         go n m (negation e) = absurd (m refl)
         go n m (conjunction {d} {e} x y) =
@@ -170,12 +170,12 @@ module _ (t : List ℕ) (c : ℕ) (words : List ℕ) (absent : ℕ) where
 
     -- the first part decides an and by 0, an or by 2
     pub ranks-first : f ≡ 2 * (partKind t c - 2) → RanksAs t c words absent f
-    ranks-first decided d ended moved h a = go not-event not-not decided (read-as d refl h)
+    ranks-first decided d ended moved h a = go not-event not-not decided (made-of d refl h)
       where
         E : Env
         E = environment words ended moved
 
-        go : {k : ℕ} {d : Config} → (k ≡ 0 → ⊥) → (k ≡ 1 → ⊥) → f ≡ 2 * (k - 2) → ReadAs t c k d → f ≡ rank (test d E)
+        go : {k : ℕ} {d : Config} → (k ≡ 0 → ⊥) → (k ≡ 1 → ⊥) → f ≡ 2 * (k - 2) → MadeOf t c k d → f ≡ rank (test d E)
         go n m z (event e) = absurd (n refl)
         go n m z (negation e) = absurd (m refl)
         go n m z (conjunction {d} {e} x y) =
