@@ -36,7 +36,8 @@ use Rattle.table.proofs.Tree.{size-pos}
 use Rattle.state.specs.StateBytes.{zeros, below, stateBytes}
 use Rattle.state.proofs.Parts.{len-bytes}
 use Rattle.steps.specs.Running.{atoms-done, envOf, Any, Ready, Ran, Wrote}
-use Rattle.steps.specs.Numbers.{event-words, moved-at, ended-at, places-of-row, wordsOf, tallyOf, firstNumbers, nextNumbers, Numbers}
+use Rattle.table.specs.Reading.{event-words}
+use Rattle.steps.specs.Numbers.{moved-at, ended-at, places-of-row, wordsOf, tallyOf, firstNumbers, nextNumbers, Numbers}
 use Rattle.steps.specs.Flags.{flagOf}
 use Rattle.steps.specs.Kinds.{all-seen}
 use Rattle.steps.specs.Lent.{lent, Stands, Went, CanRun, HasRun}

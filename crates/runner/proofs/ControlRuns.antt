@@ -21,7 +21,8 @@ use Rattle.steps.specs.Kinds.{OfKind, control-kind}
 use Rattle.steps.specs.Flags.{flagOf}
 use Rattle.steps.specs.Lent.{lent, Stands, Went, CanRun, HasRun}
 use Rattle.steps.proofs.Context.{outer}
-use Rattle.steps.proofs.Row.{kept-same, mark-in-words}
+use Rattle.table.proofs.ByParts.{mark-in-words}
+use Rattle.steps.proofs.Row.{kept-same}
 use Rattle.steps.proofs.Dispatch.{phase-is, to-kind}
 use Rattle.runner.proofs.Falling.{weigh, child-rank, form-rank, smaller-by}
 use Rattle.steps.proofs.ChildContext.{child-stands}

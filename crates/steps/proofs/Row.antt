@@ -14,7 +14,8 @@ use Rattle.events.specs.Members.{places, marks}
 use Rattle.events.proofs.Bits.{digits}
 use Rattle.events.proofs.Words.{marks-put}
 use Rattle.table.specs.Records.{nodes}
-use Rattle.steps.specs.Numbers.{event-words, atoms-at, moved-at, ended-at, base-at, places-of-row}
+use Rattle.table.specs.Reading.{event-words}
+use Rattle.steps.specs.Numbers.{atoms-at, moved-at, ended-at, base-at, places-of-row}
 use Rattle.steps.specs.Numbers.{wordsOf, tallyOf, withWords, firstNumbers, nextNumbers, Numbers, Kept, Put}
 
 pub kept-same : (numbers : List ℕ) → Kept numbers numbers
@@ -27,16 +28,12 @@ kept-then k l = record { long = l .long ∙ k .long; ended = l .ended ∙ k .end
 pub still : {table m m′ : List ℕ} → Numbers table m → Kept m m′ → Numbers table m′
 still n k = record { long = k .long ∙ n .long; ended-below = rw (k .ended) (n .ended-below); base = k .base ∙ n .base }
 
--- the words of a row, and an event's mark there
+-- the words of a row
 pub words-long : {table m : List ℕ} → Numbers table m → length (wordsOf m) ≡ event-words
 words-long {m = m} n = length-take-le event-words m (omega (arith, n .long))
 
 pub words-wide : {table m : List ℕ} → Numbers table m → 64 * length (wordsOf m) ≡ places
 words-wide n = ap (λ (k : ℕ). 64 * k) (words-long n)
-
-pub mark-in-words : (m : List ℕ) (e : ℕ) → e < places → marks m e ≡ marks (wordsOf m) e
-unfolding marks
-mark-in-words m e l = let h : e / 64 < event-words = omega arith in rw (getD-take event-words m (e / 64) 0 h)
 
 -- a number is written behind the words
 pub words-stay : (m : List ℕ) (k v : ℕ) → event-words ≤ k → wordsOf (set m k v) ≡ wordsOf m

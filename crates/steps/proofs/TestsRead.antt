@@ -17,7 +17,7 @@ use Rattle.steps.specs.Running.{TestRead}
 use Rattle.steps.proofs.LoadedNode.{test-inside}
 use Rattle.steps.specs.Numbers.{moved-at, ended-at, base-at, wordsOf, tallyOf}
 use Rattle.steps.specs.Tests.{CanTest, loneEvent}
-use Rattle.steps.proofs.Row.{mark-in-words}
+use Rattle.table.proofs.ByParts.{mark-in-words}
 
 module _ {table : List ℕ} {i : ℕ} {m : List ℕ} (h : CanTest table i m) where
   pub test-here : (a : ℕ) → a ≡ argumentAt table i → getD m base-at 0 + 4 * a ≡ tested table i
@@ -42,7 +42,7 @@ not-zero (suc n) = rw (ne-eqb (suc n) 0 (λ e. omega arith), lt-ltb 0 (suc n) (o
 
 -- what the reader of configurations answers is what the node's test is read as
 pub test-ranked : {table : List ℕ} {i : ℕ} {m : List ℕ} → CanTest table i m → {c : ℕ} → c ≡ tested table i
-    → {words : List ℕ} → words ≡ wordsOf m → {v : Verdict} → ReadAs table c words (not (eqb (getD m ended-at 0) 0)) v
+    → {v : Verdict} → ReadAs table c m (not (eqb (getD m ended-at 0) 0)) v
     → {w : Verdict} → v ≡ w → TestRead table i (wordsOf m) (tallyOf m) w
-test-ranked {m = m} h at is reads w d s =
-    sym w ∙ (reads d (ltb 0 (getD m moved-at 0)) (rw at s) ∙ rw (is, not-zero (getD m ended-at 0)))
+test-ranked {m = m} h at reads w d s =
+    sym w ∙ (reads d (ltb 0 (getD m moved-at 0)) (rw at s) ∙ rw (not-zero (getD m ended-at 0)))

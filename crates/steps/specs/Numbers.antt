@@ -1,6 +1,6 @@
 -- The row of numbers that a pass carries: the event words, then one number each for how many atoms are done, whether something moved, whether
 -- the end is declared, and the byte of the table where the configurations begin. A number more is a place more here.
-use Prim.Native.Nat.{ℕ, _+_, _*_, _/_, _<_}
+use Prim.Native.Nat.{ℕ, _+_, _*_, _<_}
 use mathlib.Core.Bool.{Bool}
 use mathlib.Core.Path.{_≡_}
 use mathlib.Core.List.{List, [], _∷_, _++_}
@@ -8,13 +8,11 @@ use mir.Val.{boolByte}
 use lib.Dec.{eqb}
 use lib.ListN.{length, getD, take, drop, set, replicate}
 use Rattle.events.specs.Events.{put}
-use Rattle.events.specs.Members.{places, marks}
+use Rattle.events.specs.Members.{marks}
 use Rattle.table.specs.Records.{nodes}
+use Rattle.table.specs.Reading.{event-words}
 
--- how many event words there are, and the places behind them
-abbrev pub event-words : ℕ
-event-words = places / 64
-
+-- the places behind the event words
 abbrev pub atoms-at : ℕ
 atoms-at = event-words
 

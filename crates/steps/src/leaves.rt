@@ -15,7 +15,6 @@ use crate::numbers::BASE;
 use crate::numbers::ENDED;
 use crate::numbers::MOVED;
 use crate::numbers::NUMBERS;
-use crate::numbers::events_of;
 use crate::numbers::put_event;
 use crate::phases::GONE;
 use events::marked;
@@ -206,9 +205,8 @@ pub fn test_rank(table: &[u8], i: usize, numbers: &[u64; NUMBERS]) -> u8
     ensures { λ r. ⌜ TestRanked (now (table .entry)) i (now (numbers .entry)) r ⌝ }
 {
     let c = numbers[BASE] as usize + 4 * argument_at(table, i);
-    let events = events_of(numbers);
     let ended = numbers[ENDED] != 0;
-    let v = read_configuration(table, c, &events.words, ended);
+    let v = read_configuration(table, c, numbers, ended);
     match v {
         Verdict::Unsat => UNSAT,
         Verdict::Unknown => UNKNOWN,

@@ -8,6 +8,7 @@ ghost use Rattle.events.proofs.Bits.{digits};
 ghost use Rattle.steps.specs.Numbers.{Put, places-of-row, wordsOf, withWords, firstNumbers, nextNumbers};
 use events::EventSet;
 use events::WORDS;
+use table::reading::ROW;
 
 // How many atoms are done.
 pub const ATOMS: usize = WORDS;
@@ -22,7 +23,7 @@ pub const ENDED: usize = WORDS + 2;
 pub const BASE: usize = WORDS + 3;
 
 // How many numbers the row has.
-pub const NUMBERS: usize = WORDS + 4;
+pub const NUMBERS: usize = ROW;
 
 // The events, taken out of the row.
 pub fn events_of(numbers: &[u64; NUMBERS]) -> EventSet

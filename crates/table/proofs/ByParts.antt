@@ -1,18 +1,19 @@
 -- Reading a configuration by its parts: what stands at its parts, that these are smaller, and the rank of the whole.
-use Prim.Native.Nat.{ℕ, _+_, _-_, _*_, _≤_, _<_, min, max}
+use Prim.Native.Nat.{ℕ, _+_, _-_, _*_, _/_, _≤_, _<_, min, max}
 use mathlib.Core.Bool.{Bool, true, false, cond, _||_}
 use mathlib.Core.Path.{_≡_, refl, sym, ap, _∙_}
 use mathlib.Core.List.{List}
 use native.Mathlib.Omega.{arith}
-use lib.ListN.{length}
-use Rattle.events.specs.Members.{marks}
+use lib.ListN.{length, take}
+use lib.Seq.{getD-take}
+use Rattle.events.specs.Members.{places, marks}
 use Rattle.junior.specs.declared.Verdict.{Verdict}
 use Rattle.junior.specs.declared.Verdict.the-variants.{Sat, Unsat, Unknown}
 use Rattle.junior.specs.Configuration.{Config, Event, Not, And, Or, Env, verdict, test}
 use Rattle.junior.proofs.Verdicts.{not₃, and₃, or₃, test-event, test-not, test-and, test-or}
 use Rattle.table.specs.Records.{partKind, partEvent, partSize, secondPart}
 use Rattle.table.specs.Spells.{Configured, weight}
-use Rattle.table.specs.Reading.{ConfigurationAt, environment, ReadAs}
+use Rattle.table.specs.Reading.{ConfigurationAt, event-words, environment, ReadAs}
 use Rattle.table.specs.Inside.Ranks.{rank, unranked, absentRank, joinedRank, RanksAs, IsAbsentRank}
 
 -- the written size is the number of records
@@ -122,43 +123,48 @@ ranked Sat = refl
 ranked Unsat = refl
 ranked Unknown = refl
 
-module _ (t : List ℕ) (c : ℕ) (words : List ℕ) (absent : ℕ) where
+-- an event's mark is in the row's first words
+pub mark-in-words : (numbers : List ℕ) (e : ℕ) → e < places → marks numbers e ≡ marks (take event-words numbers) e
+unfolding marks
+mark-in-words numbers e l = let h : e / 64 < event-words = omega arith in rw (getD-take event-words numbers (e / 64) 0 h)
+
+module _ (t : List ℕ) (c : ℕ) (numbers : List ℕ) (absent : ℕ) where
   -- a rank is at most 2
-  pub ranks-most : (r : ℕ) → ConfigurationAt t c → IsAbsentRank absent → RanksAs t c words absent r → r ≤ 2
-  ranks-most r (d, h, l) (ended, a) f = rw (f d ended false h a) (rank-most (test d (environment words ended false)))
+  pub ranks-most : (r : ℕ) → ConfigurationAt t c → IsAbsentRank absent → RanksAs t c numbers absent r → r ≤ 2
+  ranks-most r (d, h, l) (ended, a) f = rw (f d ended false h a) (rank-most (test d (environment numbers ended false)))
 
-  pub ranks-read : (r : ℕ) (v : Verdict) (ended : Bool) → RanksAs t c words absent r → absent ≡ absentRank ended
-      → v ≡ unranked r → ReadAs t c words ended v
+  pub ranks-read : (r : ℕ) (v : Verdict) (ended : Bool) → RanksAs t c numbers absent r → absent ≡ absentRank ended
+      → v ≡ unranked r → ReadAs t c numbers ended v
   ranks-read r v ended f a e d moved h =
-      e ∙ (ap unranked (f d ended moved h a) ∙ ranked (test d (environment words ended moved)))
+      e ∙ (ap unranked (f d ended moved h a) ∙ ranked (test d (environment numbers ended moved)))
 
-  pub ranks-event : (event r : ℕ) → partKind t c ≡ 0 → event ≡ partEvent t c → r ≡ cond (marks words event) 2 absent
-      → RanksAs t c words absent r
+  pub ranks-event : (event r : ℕ) → partKind t c ≡ 0 → event ≡ partEvent t c → r ≡ cond (marks (take event-words numbers) event) 2 absent
+      → RanksAs t c numbers absent r
   ranks-event n r k f e d ended moved h a = e ∙ go (made-of d k h)
     where
       E : Env
-      E = environment words ended moved
+      E = environment numbers ended moved
 
-      go : {d : Config} → MadeOf t c 0 d → cond (marks words n) 2 absent ≡ rank (test d E)
-      go (event {s} g) = rw (f, g, a, test-event s E) (rank-event (marks words s) ended)
+      go : {d : Config} → MadeOf t c 0 d → cond (marks (take event-words numbers) n) 2 absent ≡ rank (test d E)
+      go (event {s} g) = rw (f, g, a, test-event s E) (rank-event (marks (take event-words numbers) s) ended)
 
-  pub ranks-not : (f : ℕ) → partKind t c ≡ 1 → RanksAs t (c + 4) words absent f → RanksAs t c words absent (2 - f)
+  pub ranks-not : (f : ℕ) → partKind t c ≡ 1 → RanksAs t (c + 4) numbers absent f → RanksAs t c numbers absent (2 - f)
   ranks-not f k first d ended moved h a = go (made-of d k h)
     where
       E : Env
-      E = environment words ended moved
+      E = environment numbers ended moved
 
       go : {d : Config} → MadeOf t c 1 d → 2 - f ≡ rank (test d E)
       go (negation {d} e) = rw (test-not d E, first d ended moved e a) (rank-not (test d E))
 
   module _ (f : ℕ) (not-event : partKind t c ≡ 0 → ⊥) (not-not : partKind t c ≡ 1 → ⊥)
-      (first : RanksAs t (c + 4) words absent f) where
-    pub ranks-both : (k g r : ℕ) → k ≡ partKind t c → RanksAs t (secondPart t c) words absent g → r ≡ joinedRank k f g
-        → RanksAs t c words absent r
+      (first : RanksAs t (c + 4) numbers absent f) where
+    pub ranks-both : (k g r : ℕ) → k ≡ partKind t c → RanksAs t (secondPart t c) numbers absent g → r ≡ joinedRank k f g
+        → RanksAs t c numbers absent r
     ranks-both k g r same second e d ended moved h a = e ∙ rw same (go not-event not-not (made-of d refl h))
       where
         E : Env
-        E = environment words ended moved
+        E = environment numbers ended moved
 
         go : {k : ℕ} {d : Config} → (k ≡ 0 → ⊥) → (k ≡ 1 → ⊥) → MadeOf t c k d → joinedRank k f g ≡ rank (test d E)
         go n m (event e) = absurd (n refl)
@@ -169,11 +175,11 @@ module _ (t : List ℕ) (c : ℕ) (words : List ℕ) (absent : ℕ) where
             rw (test-or d e E, first d ended moved x a, second e ended moved y a) (rank-or (test d E) (test e E))
 
     -- the first part decides an and by 0, an or by 2
-    pub ranks-first : f ≡ 2 * (partKind t c - 2) → RanksAs t c words absent f
+    pub ranks-first : f ≡ 2 * (partKind t c - 2) → RanksAs t c numbers absent f
     ranks-first decided d ended moved h a = go not-event not-not decided (made-of d refl h)
       where
         E : Env
-        E = environment words ended moved
+        E = environment numbers ended moved
 
         go : {k : ℕ} {d : Config} → (k ≡ 0 → ⊥) → (k ≡ 1 → ⊥) → f ≡ 2 * (k - 2) → MadeOf t c k d → f ≡ rank (test d E)
         go n m z (event e) = absurd (n refl)

@@ -1,10 +1,10 @@
 -- What reading a configuration asks and gives: leaves of the runner cite this file.
-use Prim.Native.Nat.{ℕ, _+_, _*_, _≤_}
+use Prim.Native.Nat.{ℕ, _+_, _*_, _≤_, _/_}
 use mathlib.Core.Bool.{Bool}
 use mathlib.Core.Path.{_≡_}
 use mathlib.Core.List.{List}
-use lib.ListN.{length}
-use Rattle.events.specs.Members.{marks}
+use lib.ListN.{length, take}
+use Rattle.events.specs.Members.{places, marks}
 use Rattle.junior.specs.declared.Verdict.{Verdict}
 use Rattle.junior.specs.Configuration.{Config, Env, test}
 use Rattle.table.specs.Spells.{Configured, weight}
@@ -13,11 +13,15 @@ use Rattle.table.specs.Spells.{Configured, weight}
 abbrev pub ConfigurationAt : List ℕ → ℕ → Type 0
 ConfigurationAt t c = (d : Config) × Configured t c d × (c + 4 * weight d ≤ length t)
 
--- the environment of these words
-abbrev pub environment : List ℕ → Bool → Bool → Env
-environment words ended moved = record { now = marks words; eoi = ended; move = moved }
+-- how many words of a row of numbers mark the events: its first
+abbrev pub event-words : ℕ
+event-words = places / 64
 
--- whatever configuration stands at byte c, it is read as r in the events of the words, whether or not something moved
+-- the environment of such a row
+abbrev pub environment : List ℕ → Bool → Bool → Env
+environment numbers ended moved = record { now = marks (take event-words numbers); eoi = ended; move = moved }
+
+-- whatever configuration stands at byte c, it is read as r in the events of the row, whether or not something moved
 abbrev pub ReadAs : List ℕ → ℕ → List ℕ → Bool → Verdict → Type 0
-ReadAs t c words ended r =
-    (d : Config) (moved : Bool) → Configured t c d → r ≡ test d (environment words ended moved)
+ReadAs t c numbers ended r =
+    (d : Config) (moved : Bool) → Configured t c d → r ≡ test d (environment numbers ended moved)

@@ -11,7 +11,8 @@ use Rattle.events.proofs.Sets.{whole}
 use Rattle.junior.specs.Figures.{G}
 use Rattle.junior.proofs.Little.{STOP≢SUSP, TERM≢SUSP}
 use Rattle.table.specs.Spells.{treeOf}
-use Rattle.steps.specs.Numbers.{event-words, wordsOf, tallyOf, Numbers}
+use Rattle.table.specs.Reading.{event-words}
+use Rattle.steps.specs.Numbers.{wordsOf, tallyOf, Numbers}
 use Rattle.steps.proofs.FlagNumbers.{is-stop, is-term}
 use Rattle.kernel.specs.Passes.{Startable}
 use Rattle.kernel.proofs.Passing.{Underway, few-passes, handed-words, begins-by, can-pass, ran-by, row-holds, goes-by}

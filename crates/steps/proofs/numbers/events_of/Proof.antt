@@ -7,7 +7,7 @@ use mathlib.Core.List.{_++_, append-nil}
 use native.Mathlib.Omega.{arith}
 use native.Mathlib.Numerals.{add-one}
 use lib.ListN.{take, drop}
-use Rattle.steps.specs.Numbers.{event-words}
+use Rattle.table.specs.Reading.{event-words}
 use Rattle.steps.proofs.Row.{copy-more}
 
 abbrev Inv-loop : tie.InvT-loop

@@ -8,7 +8,7 @@ use native.Mathlib.Omega.{arith}
 use native.Mathlib.Numerals.{add-one}
 use lib.ListN.{length, take, drop}
 use lib.Seq.{take-all}
-use Rattle.steps.specs.Numbers.{event-words}
+use Rattle.table.specs.Reading.{event-words}
 use Rattle.steps.proofs.Row.{copy-more}
 
 abbrev Inv-loop : tie.InvT-loop

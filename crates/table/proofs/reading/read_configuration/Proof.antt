@@ -6,7 +6,7 @@ use mathlib.Core.Path.{sym, _∙_}
 use native.Mathlib.Omega.{arith}
 use Rattle.table.proofs.ByParts.{own-inside, ranks-read, ranks-event}
 
--- return verdict_of(event_rank(words, part_event(table, c), absent));
+-- return verdict_of(event_rank(numbers, part_event(table, c), absent));
 returns : tie.Need-returns
 returns c =
     let start = c .before .before .before .before .before .before .before in
@@ -18,7 +18,7 @@ returns c =
     let verdict-of = c .verdict-of in
     let a = start .args in
     let t = a .table .now in
-    let w = a .words .now in
+    let w = a .numbers .now in
     let kind = sym (part-kind .ensures .0) ∙ if1 .taken in
     let rank = ranks-event t (a .c) w _ _ _ kind (part-event .ensures .0) (event-rank .ensures) in
     ranks-read t (a .c) w _ _ _ (a .ended) rank (absent-rank .ensures) (verdict-of .ensures)
@@ -31,7 +31,7 @@ returns-2 c =
     let read-parts = c .before .read-parts in
     let verdict-of2 = c .verdict-of2 in
     let a = start .args in
-    ranks-read (a .table .now) (a .c) (a .words .now) _ _ _ (a .ended)
+    ranks-read (a .table .now) (a .c) (a .numbers .now) _ _ _ (a .ended)
     (read-parts .ensures) (absent-rank .ensures) (verdict-of2 .ensures)
 
 pub read-configuration-spec : {M : Type 1} → statement M
@@ -43,6 +43,6 @@ read-configuration-spec =
     (λ c κs. search needs)  -- event-rank-requires
     (λ c κs. search needs)  -- verdict-of-requires
     returns
-    (λ c κs. search needs)  -- read-parts-requires: verdict_of(read_parts(table, c, words, absent))
+    (λ c κs. search needs)  -- read-parts-requires: verdict_of(read_parts(table, c, numbers, absent))
     (λ c κs. search needs)  -- verdict-of-requires-2
     returns-2)

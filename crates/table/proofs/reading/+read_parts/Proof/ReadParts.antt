@@ -35,13 +35,13 @@ module _ (t : ℕ) where
   -- the first part's rank, by either way
   first-ranked : (c : lts.Joined1 given (exactly lts.ps μ-read-parts Pre t) Post)
       → let a = c .before .before .before .args in
-      RanksAs (a .table .now) (a .c + 4) (a .words .now) (a .absent) (c .if1 .first)
+      RanksAs (a .table .now) (a .c + 4) (a .numbers .now) (a .absent) (c .if1 .first)
   first-ranked c =
       let a = c .before .before .before .args in
       let kind = c .before .part-kind .ensures .0 in
       ⊎-elim
       (λ w.
-      ranks-event (a .table .now) (a .c + 4) (a .words .now) (a .absent) _ _
+      ranks-event (a .table .now) (a .c + 4) (a .numbers .now) (a .absent) _ _
       (sym kind ∙ w .0 .taken) (w .1 .ensures .0) (w .3 ∙ w .2 .ensures))
       (λ w. rw (w .2) (w .1 .ensures))
       (c .if1 .came)
@@ -53,14 +53,14 @@ module _ (t : ℕ) where
       let p = first-part _ _ (start .pre .1 .0) (start .pre .1 .1 .0) in
       omega (arith, own-inside _ _ (p .there))
 
-  -- event_rank(words, part_event(table, one), absent)
+  -- event_rank(numbers, part_event(table, one), absent)
   part-event-requires : Of lts.Need-part-event-requires
   part-event-requires c κs =
       let start = c .before .before .before in
       let p = first-part _ _ (start .pre .1 .0) (start .pre .1 .1 .0) in
       omega (arith, own-inside _ _ (p .there))
 
-  -- read_parts(table, one, words, absent)
+  -- read_parts(table, one, numbers, absent)
   read-parts-requires : Of lts.Need-read-parts-requires
   read-parts-requires c κs =
       let start = c .before .before .before in
@@ -76,7 +76,7 @@ module _ (t : ℕ) where
       let start = c .before .before .before .before .before .before in
       let p = first-part _ _ (start .pre .1 .0) (start .pre .1 .1 .0) in
       let first = first-ranked (c .before .before .before) in
-      ranks-most _ _ (start .args .words .now) _ _ (p .there) (start .pre .1 .1 .1) first
+      ranks-most _ _ (start .args .numbers .now) _ _ (p .there) (start .pre .1 .1 .1) first
 
   returns : Of lts.Need-returns
   returns c =
@@ -85,7 +85,7 @@ module _ (t : ℕ) where
       let if2 = c .before .if2 in
       let a = start .args in
       let first = first-ranked (c .before .before .before) in
-      ranks-not (a .table .now) (a .c) (a .words .now) (a .absent) _ (sym (part-kind2 .ensures .0) ∙ if2 .taken) first
+      ranks-not (a .table .now) (a .c) (a .numbers .now) (a .absent) _ (sym (part-kind2 .ensures .0) ∙ if2 .taken) first
 
   -- return first;
   returns-2 : Of lts.Need-returns-2
@@ -96,7 +96,7 @@ module _ (t : ℕ) where
       let if3 = c .if3 in
       let a = start .args in
       let first = first-ranked (c .before .before .before) in
-      ranks-first (a .table .now) (a .c) (a .words .now) (a .absent) _ (start .pre .1 .1 .0)
+      ranks-first (a .table .now) (a .c) (a .numbers .now) (a .absent) _ (start .pre .1 .1 .0)
       (λ e. if2 .left (part-kind2 .ensures .0 ∙ e))
       first
       (if3 .taken ∙ ap (λ (k : ℕ). 2 * (k - 2)) (part-kind2 .ensures .0))
@@ -119,7 +119,7 @@ module _ (t : ℕ) where
       let p = second-part _ _ (start .pre .1 .0) (start .pre .1 .1 .0) (λ e. if2 .left (kind ∙ e)) in
       rw (part-size .ensures .0) (omega (arith, own-inside _ _ (p .there)))
 
-  -- let second = event_rank(words, part_event(table, two), absent);
+  -- let second = event_rank(numbers, part_event(table, two), absent);
   part-event-requires-2 : Of lts.Need-part-event-requires-2
   part-event-requires-2 c κs =
       let start = c .before .before .before .before .before .before .before .before .before in
@@ -145,15 +145,15 @@ module _ (t : ℕ) where
       let a = start .args in
       let kind = sym (part-kind3 .ensures .0) ∙ if4 .taken in
       let second =
-      ranks-event (a .table .now) _ (a .words .now) (a .absent) _ _
+      ranks-event (a .table .now) _ (a .numbers .now) (a .absent) _ _
       kind (part-event2 .ensures .0) (event-rank2 .ensures) in
       let first = first-ranked (c .before .before .before .before .before .before .before .before .before) in
-      ranks-both (a .table .now) (a .c) (a .words .now) (a .absent) _ (start .pre .1 .1 .0)
+      ranks-both (a .table .now) (a .c) (a .numbers .now) (a .absent) _ (start .pre .1 .1 .0)
       (λ e. if2 .left (part-kind2 .ensures .0 ∙ e))
       first
       _ _ _ (part-kind2 .ensures .0) (rw (part-size .ensures .0) at second) (joined-rank .ensures)
 
-  -- joined_rank(kind, first, read_parts(table, two, words, absent))
+  -- joined_rank(kind, first, read_parts(table, two, numbers, absent))
   read-parts-requires-2 : Of lts.Need-read-parts-requires-2
   read-parts-requires-2 c κs =
       let start = c .before .before .before .before .before .before .before .before .before in
@@ -179,7 +179,7 @@ module _ (t : ℕ) where
       let joined-rank2 = c .joined-rank2 in
       let a = start .args in
       let first = first-ranked (c .before .before .before .before .before .before .before .before) in
-      ranks-both (a .table .now) (a .c) (a .words .now) (a .absent) _ (start .pre .1 .1 .0)
+      ranks-both (a .table .now) (a .c) (a .numbers .now) (a .absent) _ (start .pre .1 .1 .0)
       (λ e. if2 .left (part-kind2 .ensures .0 ∙ e))
       first
       _ _ _ (part-kind2 .ensures .0) (rw (part-size .ensures .0) at (read-parts2 .ensures)) (joined-rank2 .ensures)
