@@ -20,7 +20,8 @@ use Rattle.builder.proofs.PlacedByPrograms.{piece-placed}
 use Rattle.builder.proofs.PlacedGrows.{room-at}
 use Rattle.builder.proofs.Depth.{depth-at}
 use Rattle.builder.proofs.Regions.{sets-right, sets-all}
-use Rattle.builder.proofs.NamedEvents.{named-small}
+use Rattle.form.proofs.MadeNamed.{named-most}
+use Rattle.form.proofs.SaysInForm.{says-in-form}
 
 -- a whole program, with nothing behind it
 whole-placed :
@@ -202,7 +203,7 @@ module _ {text : List ℕ} {n m v room : ℕ} {p : Program} (g : Measured text n
         let b = g .m-is in
         let c = g .v-is in
         let s = g .small in
-        let k = named-small (g .says) in
+        let k = named-most p (says-in-form (g .says)) in
         let w : List ℕ = big n ++ (big m ++ (big v ++ (big (6 * n + 4 * m) ++ big (4 * m)))) in
         let x : List ℕ = held .tests-there .behind in
         let h = nodes-length 0 p in

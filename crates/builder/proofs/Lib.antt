@@ -13,5 +13,4 @@ pub mod Depth
 pub mod Stacks
 pub mod TableHolds
 pub mod PlacedByFunctions
-pub mod NamedEvents
 pub mod BuiltWhole

@@ -11,7 +11,8 @@ use lib.Seq.{drop-cons, getD-drop}
 use Rattle.letters.specs.Decimal.{decimal}
 use Rattle.table.specs.Records.{byte}
 use Rattle.form.specs.Inside.Machine.{isDigit}
-use Rattle.form.proofs.Digits.{is-digit, Reader, reads-decimal}
+use Rattle.letters.proofs.ReadsDecimal.{Reader, reads-decimal}
+use Rattle.form.proofs.Digits.{is-digit}
 use Rattle.builder.specs.Building.{number}
 
 -- what no digit changes, no number changes

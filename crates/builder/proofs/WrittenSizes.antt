@@ -7,30 +7,23 @@ use native.Mathlib.Omega.{arith}
 use lib.ListN.{length}
 use lib.Seq.{getD-append-add}
 use Rattle.junior.specs.Configuration.{Config, Event, Not, And, Or}
-use Rattle.junior.specs.Program.{Program, Nothing, Stop, Atom, Seq, Par, Loop, Repeat, Generate, Await, When, Until}
-use Rattle.junior.specs.Program.{Control, Local, size, kind}
+use Rattle.junior.specs.Program.{Program, Parts, no-part, one-part, two-parts, parts, size, kind}
 use Rattle.table.specs.Records.{byte, word}
 use Rattle.table.specs.Spells.{weight}
-use Rattle.form.specs.Made.{nodesFrom, testRecords}
+use Rattle.table.proofs.Parts.{by-kind}
+use Rattle.form.specs.Made.{nodesFromParts, nodesFrom, testRecords}
 use Rattle.form.proofs.MadeLength.{nodes-length, test-length}
 use Rattle.builder.specs.Building.{joinedSize}
 
 -- its own size is written in it
+size-in : (j : ℕ) {p : Program} (v : Parts p) (x : List ℕ) → word (nodesFromParts j v ++ x) 4 ≡ size p
+size-in j {p} (no-part f) x = div-add-mod' (size p) 256
+size-in j {p} (one-part f q) x = div-add-mod' (size p) 256
+size-in j {p} (two-parts f q r) x = div-add-mod' (size p) 256
+
 pub size-there : (j : ℕ) (p : Program) (x : List ℕ) → word (nodesFrom j p ++ x) 4 ≡ size p
 unfolding nodesFrom
-size-there j Nothing x = div-add-mod' (size Nothing) 256
-size-there j Stop x = div-add-mod' (size Stop) 256
-size-there j (Atom a) x = div-add-mod' (size (Atom a)) 256
-size-there j (Seq p q) x = div-add-mod' (size (Seq p q)) 256
-size-there j (Par p q) x = div-add-mod' (size (Par p q)) 256
-size-there j (Loop p) x = div-add-mod' (size (Loop p)) 256
-size-there j (Repeat n p) x = div-add-mod' (size (Repeat n p)) 256
-size-there j (Generate s) x = div-add-mod' (size (Generate s)) 256
-size-there j (Await c) x = div-add-mod' (size (Await c)) 256
-size-there j (When c p q) x = div-add-mod' (size (When c p q)) 256
-size-there j (Until c p q) x = div-add-mod' (size (Until c p q)) 256
-size-there j (Control s p) x = div-add-mod' (size (Control s p)) 256
-size-there j (Local s p) x = div-add-mod' (size (Local s p)) 256
+size-there j p x = size-in j (parts p) x
 
 pub weight-there : (c : Config) (x : List ℕ) → word (testRecords c ++ x) 2 ≡ weight c
 unfolding testRecords weight
@@ -39,22 +32,15 @@ weight-there (Not c) x = div-add-mod' (1 + weight c) 256
 weight-there (And c d) x = div-add-mod' (1 + weight c + weight d) 256
 weight-there (Or c d) x = div-add-mod' (1 + weight c + weight d) 256
 
--- it has a kind
+-- and its kind
+kind-in : (j : ℕ) {p : Program} (v : Parts p) (x : List ℕ) → byte (nodesFromParts j v ++ x) 0 ≡ kind p
+kind-in j (no-part f) x = refl
+kind-in j (one-part f q) x = refl
+kind-in j (two-parts f q r) x = refl
+
 pub kind-small : (j : ℕ) (p : Program) (x : List ℕ) → byte (nodesFrom j p ++ x) 0 < 13
-unfolding nodesFrom kind
-kind-small j Nothing x = omega arith
-kind-small j Stop x = omega arith
-kind-small j (Atom a) x = omega arith
-kind-small j (Seq p q) x = omega arith
-kind-small j (Par p q) x = omega arith
-kind-small j (Loop p) x = omega arith
-kind-small j (Repeat n p) x = omega arith
-kind-small j (Generate s) x = omega arith
-kind-small j (Await c) x = omega arith
-kind-small j (When c p q) x = omega arith
-kind-small j (Until c p q) x = omega arith
-kind-small j (Control s p) x = omega arith
-kind-small j (Local s p) x = omega arith
+unfolding nodesFrom
+kind-small j p x = omega (arith, kind-in j (parts p) x, by-kind p .known)
 
 -- bytes behind the first n
 pub word-behind : (a x : List ℕ) (n i : ℕ) → length a ≡ n → word (a ++ x) (n + i) ≡ word x i

@@ -1,4 +1,5 @@
--- The words of the calls program's lines: BYTES and ROW are numbers in lowercase hexadecimal, two and four digits each, EVENTS are joined by commas; `-` for none.
+-- The words of the calls program's lines: BYTES and ROW are numbers in lowercase hexadecimal, two and four digits each, EVENTS are
+-- joined by commas; `-` for none.
 use Prim.Native.Nat.{ℕ, zero, suc, _+_, _-_, _*_, _/_, _%_, _≤_, _<_}
 use mathlib.Core.Path.{_≡_}
 use mathlib.Core.Bool.{Bool, true, false, cond, _&&_}

@@ -4,9 +4,9 @@ ghost use mathlib.Core.List.{_++_, _∷_, []};
 ghost use Prim.Native.Nat.{_+_, _*_, _<_, _≤_};
 ghost use lib.ListN.{length};
 ghost use lib.Seq.{sets};
-ghost use Rattle.listing.specs.Inside.{Puts};
+ghost use Rattle.letters.specs.Rooms.{Puts};
 ghost use Rattle.calls.specs.Words.{digit, hexByte, hexNumber, word, spaced};
-use listing::put_number;
+use letters::put_number;
 
 // Puts bytes and the byte behind them.
 pub fn put_bytes(room: &mut [u8], at: usize, list: &[u8], end: u8) -> usize
@@ -31,6 +31,7 @@ pub fn put_bytes(room: &mut [u8], at: usize, list: &[u8], end: u8) -> usize
 pub fn put_row(room: &mut [u8], at: usize, list: &[u16], end: u8) -> usize
     requires { ⌜ at + 4 * length (now list) + 2 ≤ length (now room) ⌝ }
     ensures { λ r. ⌜ Puts (now (room .entry)) (now (room .exit)) at (word hexNumber (now (list .entry)) ++ (end ∷ [])) r ⌝ }
+    ensures { λ r. ⌜ r ≤ at + 4 * length (now (list .entry)) + 2 ⌝ }
 {
     if list.len() == 0 {
         room[at] = 45;
@@ -38,9 +39,7 @@ pub fn put_row(room: &mut [u8], at: usize, list: &[u16], end: u8) -> usize
         return at + 2;
     }
     for i in 0..list.len() {
-        let n = list[i] as usize;
-        put_byte(room, at + 4 * i, n / 256);
-        put_byte(room, at + 4 * i + 2, n % 256);
+        put_two_bytes(room, at + 4 * i, list[i] as usize);
     }
     let to = at + 4 * list.len();
     room[to] = end;
@@ -58,6 +57,14 @@ pub fn put_numbers(room: &mut [u8], at: usize, list: &[u64]) -> usize
         to = put_number(room, to, list[i], 32);
     }
     to
+}
+
+fn put_two_bytes(room: &mut [u8], at: usize, n: usize)
+    requires { ⌜ (n < 65536) × (at + 3 < length (now room)) ⌝ }
+    ensures { λ r. ⌜ now (room .exit) ≡ sets (now (room .entry)) at (hexNumber n) ⌝ }
+{
+    put_byte(room, at, n / 256);
+    put_byte(room, at + 2, n % 256);
 }
 
 fn put_byte(room: &mut [u8], at: usize, b: usize)

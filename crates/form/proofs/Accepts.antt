@@ -13,7 +13,7 @@ use Rattle.form.specs.Form.{more-of-seq, says-par, last-of-par, more-of-
 use Rattle.form.specs.Form.{says-generate, says-await, says-when, says-until, says-control, says-local}
 use Rattle.form.specs.Inside.Machine.{End, close, comma, space, endByte, Number, event, plain, limit, Stack}
 use Rattle.form.specs.Inside.Machine.{byte, prog, parts, conf, inner, joint, num, tail, on, step, run}
-use Rattle.form.proofs.Digits.{Reader, reads-decimal}
+use Rattle.letters.proofs.ReadsDecimal.{Reader, reads-decimal}
 use Rattle.form.proofs.Steps.{digit, step-num, step-conf, step-inner, step-tail, step-end}
 
 pub run-end : (n : Number) (v : ℕ) (e : End) (σ : Stack) (x : List ℕ) → run (tail n v e ∷ σ) (endByte e ∷ x) ≡ run σ x

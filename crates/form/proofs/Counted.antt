@@ -1,9 +1,10 @@
 -- What the reading machine counts on a text of the form is the program's size, tests and events.
-use Prim.Native.Nat.{ℕ, suc, _+_, _≤_, _<_, max}
+use Prim.Native.Nat.{ℕ, suc, _+_, _-_, _≤_, _<_, max}
 use mathlib.Core.Path.{_≡_, refl, sym, _∙_}
 use mathlib.Core.List.{List, [], _∷_, _++_, append-assoc, append-nil}
 use native.Mathlib.Omega.{arith}
 use borrow.Author.Tests.{eq-eqb, ne-eqb}
+use Rattle.events.specs.Members.{places}
 use Rattle.letters.specs.Decimal.{decimal}
 use Rattle.junior.specs.Configuration.{Config}
 use Rattle.junior.specs.Program.{Program, size}
@@ -16,7 +17,7 @@ use Rattle.form.specs.Made.{larger, namedIn, named, tests}
 use Rattle.form.specs.Inside.Machine.{End, close, comma, space, endByte, Number, event, plain, limit, Stack}
 use Rattle.form.specs.Inside.Machine.{byte, prog, conf, inner, joint, num, tail, on, step}
 use Rattle.form.specs.Inside.Counted.{Counts, counts, none, a-node, a-test, an-event, counted, tally}
-use Rattle.form.proofs.Digits.{Reader, reads-decimal}
+use Rattle.letters.proofs.ReadsDecimal.{Reader, reads-decimal}
 use Rattle.form.proofs.Steps.{digit, step-num, step-conf, step-inner, step-tail, step-end, no-end}
 use Rattle.form.proofs.Accepts.{wants}
 use Rattle.form.proofs.MadeNamed.{larger-max, named-least}
@@ -76,7 +77,7 @@ number-reader n e σ τ k k′ f g =
       more = λ v d x a h l. rw (step-tail n v e τ d a h l, counted-digit n v e τ d k′);
     }
 
-tally-event : (e : End) (σ : Stack) (x : List ℕ) (k : Counts) (s : ℕ) → s < 256
+tally-event : (e : End) (σ : Stack) (x : List ℕ) (k : Counts) (s : ℕ) → s < places
     → tally (num event e ∷ σ) (decimal s ++ (endByte e ∷ x)) k ≡ tally σ x (an-event s k)
 unfolding counted
 tally-event e σ x k s h =
@@ -91,12 +92,12 @@ tally-number e σ x k a h =
     reads-decimal r a h (endByte e ∷ x) ∙ tally-plain a e σ x k
 
 conf-reader : (e : End) (σ : Stack) (k : Counts)
-    → Reader 255 (λ w. tally (conf e ∷ σ) w k) (λ v w. tally (tail event v e ∷ σ) w (a-test k))
+    → Reader (places - 1) (λ w. tally (conf e ∷ σ) w k) (λ v w. tally (tail event v e ∷ σ) w (a-test k))
 unfolding counted
 conf-reader e σ k = number-reader event e (conf e ∷ σ) σ k (a-test k) (step-conf e σ) (λ d _. refl)
 
 inner-reader : (σ : Stack) (k : Counts)
-    → Reader 255 (λ w. tally (inner ∷ σ) w k) (λ v w. tally (tail event v space ∷ joint ∷ σ) w (a-test k))
+    → Reader (places - 1) (λ w. tally (inner ∷ σ) w k) (λ v w. tally (tail event v space ∷ joint ∷ σ) w (a-test k))
 unfolding counted
 inner-reader σ k =
     number-reader event space (inner ∷ σ) (joint ∷ σ) k (a-test k) (step-inner σ)

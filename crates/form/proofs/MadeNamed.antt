@@ -1,10 +1,11 @@
--- V is at least 1, and at most 256 for a program in form.
+-- V is at least 1, and at most the number of places for a program in form.
 use Prim.Native.Nat.{ℕ, suc, _≤_, max}
 use mathlib.Core.Bool.{Bool, true, false, cond}
 use mathlib.Core.Path.{_≡_, refl}
 use native.Mathlib.Omega.{arith}
 use lib.Dec.{leb}
 use borrow.Author.Tests.{leb-true, leb-false}
+use Rattle.events.specs.Members.{places}
 use Rattle.junior.specs.Configuration.{Config, Event, Not, And, Or}
 use Rattle.junior.specs.Program.{Program, Argument, no-argument, number, event, configuration, argument}
 use Rattle.junior.specs.Program.{Parts, no-part, one-part, two-parts, parts}
@@ -52,25 +53,25 @@ named-least p = least (parts p)
 at-most : (k m n : ℕ) → m ≤ k → n ≤ k → larger m n ≤ k
 at-most k m n h g = omega (arith, larger-max m n)
 
-named-in-most : (c : Config) → TestInForm c → namedIn c ≤ 256
+named-in-most : (c : Config) → TestInForm c → namedIn c ≤ places
 unfolding namedIn
 named-in-most (Event s) h = h
 named-in-most (Not c) h = named-in-most c h
-named-in-most (And c d) (h, g) = at-most 256 _ _ (named-in-most c h) (named-in-most d g)
-named-in-most (Or c d) (h, g) = at-most 256 _ _ (named-in-most c h) (named-in-most d g)
+named-in-most (And c d) (h, g) = at-most places _ _ (named-in-most c h) (named-in-most d g)
+named-in-most (Or c d) (h, g) = at-most places _ _ (named-in-most c h) (named-in-most d g)
 
-with-most : (a : Argument) (v : ℕ) → ArgumentInForm a → v ≤ 256 → namedWith a v ≤ 256
+with-most : (a : Argument) (v : ℕ) → ArgumentInForm a → v ≤ places → namedWith a v ≤ places
 with-most no-argument v h l = l
 with-most (number n) v h l = l
-with-most (event s) v h l = at-most 256 _ _ h l
-with-most (configuration c) v h l = at-most 256 _ _ (named-in-most c h) l
+with-most (event s) v h l = at-most places _ _ h l
+with-most (configuration c) v h l = at-most places _ _ (named-in-most c h) l
 
-most : {p : Program} (v : Parts p) → PartsInForm v → namedParts v ≤ 256
+most : {p : Program} (v : Parts p) → PartsInForm v → namedParts v ≤ places
 most {p} (no-part f) h = with-most (argument p) 1 h (omega arith)
 most {p} (one-part f q) (h, x) = with-most (argument p) (namedParts q) h (most q x)
 most {p} (two-parts f q r) (h, x, y) =
-    with-most (argument p) (larger (namedParts q) (namedParts r)) h (at-most 256 _ _ (most q x) (most r y))
+    with-most (argument p) (larger (namedParts q) (namedParts r)) h (at-most places _ _ (most q x) (most r y))
 
-pub named-most : (p : Program) → InForm p → named p ≤ 256
+pub named-most : (p : Program) → InForm p → named p ≤ places
 unfolding named
 named-most p h = most (parts p) h

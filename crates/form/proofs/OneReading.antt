@@ -1,11 +1,12 @@
 -- Every text has at most one reading: the reading machine's steps make it.
-use Prim.Native.Nat.{ℕ, _+_, _≤_, _<_}
+use Prim.Native.Nat.{ℕ, _+_, _-_, _≤_, _<_}
 use mathlib.Core.Bool.{false}
 use mathlib.Core.Path.{_≡_, refl, ap, sym, _∙_}
 use mathlib.Core.List.{List, [], _∷_, _++_, append-assoc, append-nil}
 use native.Mathlib.Omega.{arith}
 use lib.Dec.{eqb}
 use borrow.Author.Tests.{eq-eqb, ne-eqb}
+use Rattle.events.specs.Members.{places}
 use Rattle.letters.specs.Decimal.{decimal}
 use Rattle.junior.specs.Configuration.{Config, Event, Not, And, Or}
 use Rattle.junior.specs.Program.{Program, Nothing, Seq, Par, Await, When, Until}
@@ -15,7 +16,7 @@ use Rattle.form.specs.Form.{more-of-seq, says-par, last-of-par, more-of-
 use Rattle.form.specs.Form.{says-generate, says-await, says-when, says-until, says-control, says-local}
 use Rattle.form.specs.Inside.Machine.{End, close, comma, space, endByte, Number, event, plain, limit, Stack}
 use Rattle.form.specs.Inside.Machine.{byte, prog, conf, inner, joint, num, tail, on, step}
-use Rattle.form.proofs.Digits.{Reader, reads-decimal}
+use Rattle.letters.proofs.ReadsDecimal.{Reader, reads-decimal}
 use Rattle.form.proofs.Steps.{digit, step-num, step-conf, step-inner, step-tail, step-end, no-end}
 use Rattle.form.proofs.Accepts.{wants}
 use Rattle.form.proofs.Making.{Item, program, test, value, programOf, testOf, item, Maker, nested, Bracket}
@@ -50,14 +51,14 @@ make-number n e σ x k a h =
     reads-decimal r a h (endByte e ∷ x) ∙ make-end n a e σ x k
 
 conf-reader : (e : End) (σ : Stack) (k : List Bracket)
-    → Reader 255 (λ w. make (conf e ∷ σ) w k) (λ v w. make (tail event v e ∷ σ) w k)
+    → Reader (places - 1) (λ w. make (conf e ∷ σ) w k) (λ v w. make (tail event v e ∷ σ) w k)
 unfolding marked
 conf-reader e σ k =
     number-reader event e (conf e ∷ σ) σ k (step-conf e σ)
     (λ d _. simp (ne-eqb (48 + d) 40 (λ z. omega arith), no-bracket d))
 
 inner-reader : (σ : Stack) (k : List Bracket)
-    → Reader 255 (λ w. make (inner ∷ σ) w k) (λ v w. make (tail event v space ∷ joint ∷ σ) w k)
+    → Reader (places - 1) (λ w. make (inner ∷ σ) w k) (λ v w. make (tail event v space ∷ joint ∷ σ) w k)
 unfolding marked
 inner-reader σ k =
     number-reader event space (inner ∷ σ) (joint ∷ σ) k (step-inner σ)

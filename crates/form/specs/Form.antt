@@ -2,6 +2,7 @@
 -- `not` and round `and` and `or`; no other blank. Numbers are decimal without leading zeros: events below 256, others at most 65,535.
 use Prim.Native.Nat.{ℕ, _<_, _≤_}
 use mathlib.Core.List.{List, _++_}
+use Rattle.events.specs.Members.{places}
 use Rattle.letters.specs.Decimal.{decimal}
 use Rattle.letters.specs.Text.{bytes}
 use Rattle.junior.specs.Configuration.{Config, Event, Not, And, Or}
@@ -10,7 +11,7 @@ use Rattle.junior.specs.Program.{Control, Local}
 
 -- a configuration is a number, `(not C)`, `(C and C)` or `(C or C)`
 pub data SaysTest : Config → List ℕ → Type 0 where
-  says-event : {s : ℕ} → s < 256 → SaysTest (Event s) (decimal s)
+  says-event : {s : ℕ} → s < places → SaysTest (Event s) (decimal s)
   says-not : {c : Config} {u : List ℕ} → SaysTest c u → SaysTest (Not c) (bytes "(not " ++ (u ++ bytes ")"))
   says-and :
       {c d : Config} {u v : List ℕ} → SaysTest c u → SaysTest d v → SaysTest (And c d) (bytes "(" ++ (u ++ (bytes " and " ++ (v ++ bytes ")"))))
@@ -48,7 +49,7 @@ pub data Says : Piece → List ℕ → Type 0 where
       → n ≤ 65535
       → Says (whole p) u
       → Says (whole (Repeat n p)) (bytes "Jr.Repeat(" ++ (decimal n ++ (bytes ", " ++ (u ++ bytes ")"))))
-  says-generate : {s : ℕ} → s < 256 → Says (whole (Generate s)) (bytes "Jr.Generate(" ++ (decimal s ++ bytes ")"))
+  says-generate : {s : ℕ} → s < places → Says (whole (Generate s)) (bytes "Jr.Generate(" ++ (decimal s ++ bytes ")"))
   says-await : {c : Config} {u : List ℕ} → SaysTest c u → Says (whole (Await c)) (bytes "Jr.Await(" ++ (u ++ bytes ")"))
   says-when :
       {c : Config} {p q : Program} {u v w : List ℕ}
@@ -64,11 +65,11 @@ pub data Says : Piece → List ℕ → Type 0 where
       → Says (whole (Until c p q)) (bytes "Jr.Until(" ++ (u ++ (bytes ", " ++ (v ++ (bytes ", " ++ (w ++ bytes ")"))))))
   says-control :
       {s : ℕ} {p : Program} {u : List ℕ}
-      → s < 256
+      → s < places
       → Says (whole p) u
       → Says (whole (Control s p)) (bytes "Jr.Control(" ++ (decimal s ++ (bytes ", " ++ (u ++ bytes ")"))))
   says-local :
       {s : ℕ} {p : Program} {u : List ℕ}
-      → s < 256
+      → s < places
       → Says (whole p) u
       → Says (whole (Local s p)) (bytes "Jr.Local(" ++ (decimal s ++ (bytes ", " ++ (u ++ bytes ")"))))

@@ -1,11 +1,12 @@
 -- A program that the written form can say: its numbers are within the form's limits.
 use Prim.Native.Nat.{_<_, _≤_}
+use Rattle.events.specs.Members.{places}
 use Rattle.junior.specs.Configuration.{Config, Event, Not, And, Or}
 use Rattle.junior.specs.Program.{Program, Argument, no-argument, number, event, configuration, argument}
 use Rattle.junior.specs.Program.{Parts, no-part, one-part, two-parts, parts}
 
 abbrev pub TestInForm : Config → Type 0
-TestInForm (Event s) = s < 256
+TestInForm (Event s) = s < places
 TestInForm (Not c) = TestInForm c
 TestInForm (And c d) = TestInForm c × TestInForm d
 TestInForm (Or c d) = TestInForm c × TestInForm d
@@ -13,7 +14,7 @@ TestInForm (Or c d) = TestInForm c × TestInForm d
 abbrev pub ArgumentInForm : Argument → Type 0
 ArgumentInForm no-argument = Unit {0}
 ArgumentInForm (number n) = n ≤ 65535
-ArgumentInForm (event s) = s < 256
+ArgumentInForm (event s) = s < places
 ArgumentInForm (configuration c) = TestInForm c
 
 -- its argument and its parts

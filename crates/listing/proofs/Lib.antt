@@ -1,9 +1,7 @@
-pub mod Decimal
 pub mod Lines
 pub mod Lists
 pub mod Once
-pub mod Puts
 pub mod Reading
 pub mod Rising
 pub mod Room
-pub mod Tokens
+pub mod NumberAt

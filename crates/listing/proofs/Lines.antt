@@ -10,8 +10,8 @@ use borrow.Author.Tests.{le-leb, lt-leb}
 use Rattle.letters.specs.Text.{bytes, newline, space, led, joined}
 use Rattle.letters.proofs.Rooms.{sets-front}
 use Rattle.listing.specs.Output.{line, Written}
-use Rattle.listing.specs.Inside.{Puts}
-use Rattle.listing.proofs.Puts.{puts-then}
+use Rattle.letters.specs.Rooms.{Puts}
+use Rattle.letters.proofs.Puts.{puts-then}
 
 -- a field, and the rest of the line
 pub puts-field : {a b c : List ℕ} {x r s : ℕ} (w v : List ℕ) (l : List (List ℕ)) → Puts a b x (w ++ (space ∷ [])) r → Puts b c r (line (v ∷ l)) s
@@ -28,13 +28,15 @@ pub flag-length : (b : Bool) → length (cond b (bytes "TERM") (bytes "STOP") ++
 flag-length true = refl
 flag-length false = refl
 
-pub written : {least : ℕ} {text old new : List ℕ} {r : ℕ} → least ≤ length old → Puts old new 0 text r → Written least text old new r
-written {least} {text} {old} {r = r} h p =
+-- a line that fits into every room which is long enough was written
+pub written : {least : ℕ} {text old new : List ℕ} {r : ℕ} → length text ≤ least → least ≤ length old → Puts old new 0 text r
+    → Written least text old new r
+written {least} {text} {old} {r = r} f h p =
     let whole : r ≡ length text = p .next ∙ zero-add (length text) in
     record {
       answer = simp (le-leb least (length old) h) whole;
-      room = simp (le-leb least (length old) h) (p .room ∙ sets-front old text (omega (arith, p .within)));
-      within = p .within;
+      room = simp (le-leb least (length old) h) (p .room ∙ sets-front old text (omega arith));
+      within = omega arith;
     }
 
 pub unwritten : {least : ℕ} (text : List ℕ) {old : List ℕ} → length old < least → Written least text old old 0

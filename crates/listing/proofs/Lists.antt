@@ -10,8 +10,9 @@ use Rattle.letters.specs.Decimal.{decimal}
 use Rattle.letters.specs.Text.{comma, led, joined}
 use Rattle.letters.proofs.Rooms.{sets-append}
 use Rattle.listing.specs.Output.{listed}
-use Rattle.listing.specs.Inside.{Puts, items}
-use Rattle.listing.proofs.Puts.{puts-long, puts-then}
+use Rattle.letters.specs.Rooms.{Puts}
+use Rattle.listing.specs.Inside.{items}
+use Rattle.letters.proofs.Puts.{puts-then}
 
 pub items-append : (l m : List ℕ) → items (l ++ m) ≡ items l ++ items m
 unfolding items
@@ -46,11 +47,11 @@ items-listed n l =
 
 module _ {room old : List ℕ} {from to : ℕ} (last : ℕ) where
   -- no number: a dash, and the byte behind the list
-  pub dash-ends : (l : List ℕ) → Puts room old from (items l) to → from ≡ to → to + 1 < length old
+  pub dash-ends : (l : List ℕ) → Puts room old from (items l) to → from ≡ to
       → Puts room (set (set old to 45) (to + 1) last) from (listed l ++ (last ∷ [])) (to + 2)
   unfolding items listed
-  dash-ends [] p e h = record { next = omega arith; room = rw (p .room, ← e, add-one from); within = omega (arith, puts-long p) }
-  dash-ends (n ∷ l) p e h = absurd (omega (arith, p .next, length-append (decimal n) (comma ∷ items l)))
+  dash-ends [] p e = record { next = omega arith; room = rw (p .room, ← e, add-one from) }
+  dash-ends (n ∷ l) p e = absurd (omega (arith, p .next, length-append (decimal n) (comma ∷ items l)))
 
   -- some: that byte in place of the last comma
   pub comma-ends : (l : List ℕ) → Puts room old from (items l) to → (from ≡ to → ⊥)
@@ -66,5 +67,4 @@ module _ {room old : List ℕ} {from to : ℕ} (last : ℕ) where
         room =
             rw (place, p .room, items-listed n l, sets-append room from w (comma ∷ []), sets-append room from w (last ∷ []))
             (set-set (sets room from w) (from + length w) comma last);
-        within = p .within;
       }

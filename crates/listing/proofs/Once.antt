@@ -12,7 +12,7 @@ use Rattle.events.specs.Members.{places, members, Whole}
 use Rattle.events.proofs.Sets.{same-members}
 use Rattle.letters.specs.Decimal.{decimal}
 use Rattle.letters.specs.Text.{space, led, joined}
-use Rattle.listing.specs.Input.{Under, withAll, Reading}
+use Rattle.listing.specs.Input.{longest, Under, withAll, Reading}
 use Rattle.listing.specs.Inside.{figure, tokenAt, Named}
 use Rattle.listing.specs.declared.LineRead.{LineRead}
 use Rattle.listing.proofs.Reading.{spelled-some, empty-line, long-line, other-line, stops-end, heads}
@@ -96,11 +96,11 @@ some-goes (suc f) line at X h =
     (ltb at (length line)) refl
 
 pub decided : (line : List ℕ) → (good : Bool) × (X : Events) × Reading line good X
-decided line = long (leb (length line) 1024) refl (ltb 0 (length line)) refl
+decided line = long (leb (length line) longest) refl (ltb 0 (length line)) refl
   where
-    long : (b : Bool) → leb (length line) 1024 ≡ b → (c : Bool) → ltb 0 (length line) ≡ c → (good : Bool) × (X : Events) × Reading line good X
+    long : (b : Bool) → leb (length line) longest ≡ b → (c : Bool) → ltb 0 (length line) ≡ c → (good : Bool) × (X : Events) × Reading line good X
     long true e true d =
         let whole = some-goes (length line) line 0 none (omega arith) in
-        (whole .0, whole .1, other-line line (ltb-true 0 (length line) d) (leb-true (length line) 1024 e) (whole .2))
+        (whole .0, whole .1, other-line line (ltb-true 0 (length line) d) (leb-true (length line) longest e) (whole .2))
     long true e false d = (true, none, empty-line line (let least = ltb-false 0 (length line) d in omega arith))
-    long false e c d = (false, none, long-line line (leb-false (length line) 1024 e))
+    long false e c d = (false, none, long-line line (leb-false (length line) longest e))

@@ -14,10 +14,10 @@ use Rattle.events.specs.Members.{places, marks}
 use Rattle.letters.specs.Decimal.{decimal}
 use Rattle.letters.specs.Text.{space, led, joined}
 use Rattle.letters.proofs.Decimal.{decimal-some}
-use Rattle.listing.specs.Input.{Under, Names, withAll, Reading}
+use Rattle.listing.specs.Input.{longest, Under, Names, withAll, Reading}
 use Rattle.listing.specs.Inside.{figure, tokenAt, Named}
 use Rattle.listing.specs.declared.input.Token.{Token}
-use Rattle.listing.proofs.Tokens.{figure-of, here, behind, stands, found}
+use Rattle.listing.proofs.NumberAt.{here, behind, stands, found}
 
 -- events that are named take at least a byte
 pub spelled-some : (c e : ℕ) (l : List ℕ) → 0 < length (joined c (map decimal (e ∷ l)))
@@ -30,10 +30,10 @@ unfolding joined withAll
 empty-line [] e = Reading.good-line [] (record { spelled = refl; below = tt; short = omega arith })
 empty-line (b ∷ line) e = absurd (omega arith)
 
-pub long-line : (line : List ℕ) → 1024 < length line → Reading line false none
+pub long-line : (line : List ℕ) → longest < length line → Reading line false none
 long-line line h = Reading.bad-line (λ l n. let short = n .short in omega arith)
 
-pub other-line : (line : List ℕ) → 0 < length line → length line ≤ 1024 → {good : Bool} {X : Events} → Named space none line good X → Reading line good X
+pub other-line : (line : List ℕ) → 0 < length line → length line ≤ longest → {good : Bool} {X : Events} → Named space none line good X → Reading line good X
 unfolding joined
 other-line line some short (Named.names e l b s) = Reading.good-line (e ∷ l) (record { spelled = s; below = b; short = short })
 other-line line some short (Named.stops n) = Reading.bad-line go
@@ -48,7 +48,7 @@ stops-end c line at X h =
     Named.stops (λ e l b s. let none-left = sym (ap length s) ∙ ap length (drop-of-length-le line h) in omega (arith, spelled-some c e l))
 
 -- an event is marked in the words of a set
-pub marked : (words new : List ℕ) (e : ℕ) → length words ≡ 4 → e < places → marks new ≡ put e (true && ltb e (64 * length words)) (marks words)
+pub marked : (words new : List ℕ) (e : ℕ) → 64 * length words ≡ places → e < places → marks new ≡ put e (true && ltb e (64 * length words)) (marks words)
     → marks new ≡ put e true (marks words)
 marked words new e long h m = m ∙ rw (long, lt-ltb e places h)
 
@@ -66,7 +66,7 @@ module _ (c : ℕ) (plain : figure c ≡ 10) (line : List ℕ) (at : ℕ) (t : T
 
   -- and stands there
   here-stands : t .event < places → drop at line ≡ decimal (t .event) ++ drop (t .next) line
-  here-stands = rw is (stands line at _ _ _ (figure-of _) (figure-of _) (figure-of _))
+  here-stands = rw is (stands line at)
 
   -- less of the line is left behind it
   pub shorter : at < length line → t .event < places → length line - (t .next + 1) < length line - at

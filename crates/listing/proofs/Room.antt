@@ -11,19 +11,20 @@ use Rattle.events.specs.Members.{places}
 use Rattle.letters.specs.Decimal.{decimal}
 use Rattle.letters.specs.Text.{bytes, comma, led, joined}
 use Rattle.letters.proofs.Decimal.{decimal-length}
-use Rattle.listing.specs.Output.{rising, listed, line, ranLine, enough}
+use Rattle.listing.specs.Output.{rising, listed, line, ranLine, badLine, refusedLine, tableRefusedLine, enough}
 use Rattle.listing.specs.Inside.{items}
 use Rattle.listing.proofs.Lists.{items-append, items-listed}
 
--- with a comma behind each, events take 4 bytes each and atoms 6
-events-length : (n : ℕ) (X : Events) → n ≤ 1000 → length (items (rising n X)) ≤ 4 * n
+-- with a comma behind each, events and atoms take 6 bytes each
+events-length : (n : ℕ) (X : Events) → n ≤ 65536 → length (items (rising n X)) ≤ 6 * n
 unfolding rising items
 events-length zero X h = omega arith
 events-length (suc n) X h =
-    rw (items-append (rising n X) (cond (X n) (n ∷ []) []), length-append (items (rising n X)) (items (cond (X n) (n ∷ []) []))) (go (X n) (events-length n X (omega arith)))
+    rw (items-append (rising n X) (cond (X n) (n ∷ []) []), length-append (items (rising n X)) (items (cond (X n) (n ∷ []) [])))
+    (go (X n) (events-length n X (omega arith)))
   where
-    go : (b : Bool) → length (items (rising n X)) ≤ 4 * n → length (items (rising n X)) + length (items (cond b (n ∷ []) [])) ≤ 4 * suc n
-    go true k = omega (arith, length-append (decimal n) (comma ∷ []), decimal-length 2 n (omega arith))
+    go : (b : Bool) → length (items (rising n X)) ≤ 6 * n → length (items (rising n X)) + length (items (cond b (n ∷ []) [])) ≤ 6 * suc n
+    go true k = omega (arith, length-append (decimal n) (comma ∷ []), decimal-length 4 n (omega arith))
     go false k = omega arith
 
 atoms-length : (l : List ℕ) → ((i : ℕ) → getD l i 0 < 65536) → length (items l) ≤ 6 * length l
@@ -50,8 +51,8 @@ flag-four : (b : Bool) → length (cond b (bytes "TERM") (bytes "STOP")) ≡ 4
 flag-four true = refl
 flag-four false = refl
 
-pub ran-fits : (number passes : ℕ) (finished : Bool) (X : Events) (atoms : List ℕ) → number < 2 ^ 64 → passes < 2 ^ 64 → ((i : ℕ) → getD atoms i 0 < 65536)
-    → length (ranLine number passes finished X atoms) ≤ enough (length atoms)
+pub ran-fits : (number passes : ℕ) (finished : Bool) (X : Events) (atoms : List ℕ) → number < 2 ^ 64 → passes < 2 ^ 64
+    → ((i : ℕ) → getD atoms i 0 < 65536) → length (ranLine number passes finished X atoms) ≤ enough (length atoms)
 unfolding ranLine
 ran-fits number passes finished X atoms h k a =
     simp (field-length, last-length)
@@ -65,6 +66,29 @@ ran-fits number passes finished X atoms h k a =
       atoms-length atoms a,
       listed-length atoms,
     ))
+
+-- nor is a line without atoms longer
+pub bad-fits : (number : ℕ) → number < 2 ^ 64 → length (badLine number) ≤ enough 0
+unfolding badLine
+bad-fits number h = simp (field-length, last-length) (omega (arith, decimal-length 19 number (omega arith)))
+
+pub refused-fits : (number refusal index : ℕ) → number < 2 ^ 64 → refusal < 2 ^ 64 → index < 2 ^ 64
+    → length (refusedLine number refusal index) ≤ enough 0
+unfolding refusedLine
+refused-fits number refusal index h k l =
+    simp (field-length, last-length)
+    (omega (
+      arith,
+      decimal-length 19 number (omega arith),
+      decimal-length 19 refusal (omega arith),
+      decimal-length 19 index (omega arith),
+    ))
+
+pub table-refused-fits : (refusal index : ℕ) → refusal < 2 ^ 64 → index < 2 ^ 64 → length (tableRefusedLine refusal index) ≤ enough 0
+unfolding tableRefusedLine
+table-refused-fits refusal index k l =
+    simp (field-length, last-length)
+    (omega (arith, decimal-length 19 refusal (omega arith), decimal-length 19 index (omega arith)))
 
 pub enough-4096 : enough 4096 ≤ 32768
 enough-4096 = lit≤ tt

@@ -14,11 +14,15 @@ abbrev pub Under : ℕ → List ℕ → Type 0
 Under b [] = Unit {0}
 Under b (n ∷ l) = (n < b) × Under b l
 
--- the form: event numbers in decimal without leading zeros, one space between; at most 1,024 bytes. An empty line names none
+-- the longest line that can be good has so many bytes
+abbrev pub longest : ℕ
+longest = 1024
+
+-- the form: event numbers in decimal without leading zeros, one space between. An empty line names none
 pub record Names (line events : List ℕ) : Type 0 where
   pub spelled : line ≡ joined space (map decimal events)
   pub below : Under places events
-  pub short : length line ≤ 1024
+  pub short : length line ≤ longest
 
 -- X with every event of the list, one that is repeated counting once
 unfoldable pub withAll : List ℕ → Events → Events

@@ -43,9 +43,9 @@ refusedLine number refusal index = line (decimal number ∷ bytes "refused" ∷ 
 unfoldable pub tableRefusedLine : ℕ → ℕ → List ℕ
 tableRefusedLine refusal index = line (bytes "table" ∷ bytes "refused" ∷ decimal refusal ∷ decimal index ∷ [])
 
--- a room for every line with n atoms (proofs/Room.antt): 25,656 bytes where n is 4,096
+-- a room for every line with n atoms (proofs/Room.antt): a number of 16 bits and the byte behind it take at most 6
 abbrev pub enough : ℕ → ℕ
-enough n = 6 * (n + 180)
+enough n = 6 * (n + (places + 10))
 
 -- A room of at least `least` bytes then begins with the line, its other bytes are as before, and the line's length is answered.
 -- A shorter room stays as it was, and 0 is answered.

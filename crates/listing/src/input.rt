@@ -5,7 +5,7 @@ ghost use Prim.Native.Nat.{_≤_, _<_};
 ghost use lib.ListN.{length, getD};
 ghost use Rattle.events.specs.Events.{none};
 ghost use Rattle.events.specs.Members.{members};
-ghost use Rattle.listing.specs.Inside.{figure, tokenAt, Named};
+ghost use Rattle.listing.specs.Inside.{figure, goesOn, tokenAt, Named};
 use crate::LineRead;
 use events::EventSet;
 use events::WORDS;
@@ -58,37 +58,31 @@ fn event_at(line: &[u8], at: usize) -> Token
     requires { ⌜ at < length (now line) ⌝ }
     ensures { λ r. ⌜ r ≡ tokenAt (now (line .entry)) at ⌝ }
 {
-    let a = figure_at(line, at);
-    if 9 < a {
+    let first = figure_at(line, at);
+    if 9 < first {
         return Token {
             event: EventSet::PLACES,
             next: at,
         };
     }
-    if a == 0 {
-        return Token {
-            event: a,
-            next: at + 1,
-        };
+    let mut event = first;
+    let mut next = at + 1;
+    while next < line.len() {
+        let d = figure_at(line, next);
+        if goes_on(event, d) {
+            event = 10 * event + d;
+            next += 1;
+        } else {
+            return Token { event, next };
+        }
     }
-    let b = figure_at(line, at + 1);
-    if 9 < b {
-        return Token {
-            event: a,
-            next: at + 1,
-        };
-    }
-    let c = figure_at(line, at + 2);
-    if 9 < c {
-        return Token {
-            event: 10 * a + b,
-            next: at + 2,
-        };
-    }
-    Token {
-        event: 100 * a + 10 * b + c,
-        next: at + 3,
-    }
+    Token { event, next }
+}
+
+fn goes_on(v: usize, d: usize) -> bool
+    ensures { λ r. ⌜ r ≡ goesOn v d ⌝ }
+{
+    ((0 < v) & (v < EventSet::PLACES)) & (d < 10)
 }
 
 // The value of the digit at byte `at`; 10 if there is none.

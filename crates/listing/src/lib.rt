@@ -5,18 +5,23 @@ ghost use Rattle.listing.specs.Input.{Reading};
 ghost use Rattle.listing.specs.Output.{ranLine, badLine, refusedLine, tableRefusedLine, enough, Written};
 
 mod input;
-mod number;
 mod output;
 
 use events::EventSet;
 use input::bad_line;
 pub use input::read_events;
-pub use number::put_number;
+use letters::put_number;
 use output::put_atoms;
 pub use output::put_events;
 use output::put_flag;
 use output::put_refusal;
 use output::put_text;
+
+// The bytes of the longest input line that can be good.
+pub const LONGEST: usize = 1024;
+
+// A room has enough for a line if it has 6 bytes for each atom, and for so many numbers more: the events, and the line's other fields.
+pub const MORE: usize = EventSet::PLACES + 10;
 
 // What a line is read as: the events that it hands in if it is good, else none.
 pub struct LineRead {
@@ -34,7 +39,7 @@ pub fn read_line(line: &[u8]) -> LineRead
             events: EventSet::empty(),
         };
     }
-    if line.len() <= 1024 {
+    if line.len() <= LONGEST {
         return read_events(line, 32);
     }
     bad_line()
@@ -58,7 +63,7 @@ pub fn write_ran(
         (now (room .exit))
         r ⌝ }
 {
-    if room.len() / 6 < atoms.len() + 180 {
+    if room.len() / 6 < atoms.len() + MORE {
         return 0;
     }
     let a = put_number(room, 0, number, 32);
@@ -72,7 +77,7 @@ pub fn write_ran(
 pub fn write_bad(room: &mut [u8], number: u64) -> usize
     ensures { λ r. ⌜ Written (enough 0) (badLine number) (now (room .entry)) (now (room .exit)) r ⌝ }
 {
-    if room.len() < 1080 {
+    if room.len() / 6 < MORE {
         return 0;
     }
     let a = put_number(room, 0, number, 32);
@@ -84,7 +89,7 @@ pub fn write_refused(room: &mut [u8], number: u64, refusal: usize, index: usize)
     ensures { λ r.
         ⌜ Written (enough 0) (refusedLine number refusal index) (now (room .entry)) (now (room .exit)) r ⌝ }
 {
-    if room.len() < 1080 {
+    if room.len() / 6 < MORE {
         return 0;
     }
     let a = put_number(room, 0, number, 32);
@@ -96,7 +101,7 @@ pub fn write_table_refused(room: &mut [u8], refusal: usize, index: usize) -> usi
     ensures { λ r.
         ⌜ Written (enough 0) (tableRefusedLine refusal index) (now (room .entry)) (now (room .exit)) r ⌝ }
 {
-    if room.len() < 1080 {
+    if room.len() / 6 < MORE {
         return 0;
     }
     let a = put_text(room, 0, b"table ");

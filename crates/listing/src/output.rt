@@ -5,11 +5,12 @@ ghost use Prim.Native.Nat.{_+_, _*_, _≤_, _<_};
 ghost use lib.ListN.{length};
 ghost use Rattle.events.specs.Members.{places, members};
 ghost use Rattle.listing.specs.Output.{rising, listed};
-ghost use Rattle.listing.specs.Inside.{Puts, items, eventsOf, Ended, refusalEnd};
+ghost use Rattle.listing.specs.Inside.{items, eventsOf, Ended, refusalEnd};
+ghost use Rattle.letters.specs.Rooms.{Puts};
 ghost use Rattle.letters.specs.Text.{bytes, newline, space};
-use crate::number::put_number;
 use events::EventSet;
 use events::WORDS;
+use letters::put_number;
 
 pub fn put_text(room: &mut [u8], at: usize, text: &[u8]) -> usize
     requires { ⌜ at + length (now text) ≤ length (now room) ⌝ }
@@ -51,7 +52,7 @@ pub fn put_refusal(room: &mut [u8], at: usize, refusal: usize, index: usize) -> 
 
 // Puts the list of a set's events and a space.
 pub fn put_events(room: &mut [u8], at: usize, events: EventSet) -> usize
-    requires { ⌜ at + 1026 ≤ length (now room) ⌝ }
+    requires { ⌜ at + 6 * places + 2 ≤ length (now room) ⌝ }
     ensures { λ r.
         ⌜ Puts
         (now (room .entry))
@@ -59,7 +60,7 @@ pub fn put_events(room: &mut [u8], at: usize, events: EventSet) -> usize
         at
         (listed (rising places (members events)) ++ (space ∷ []))
         r
-        × (r ≤ at + 1026) ⌝ }
+        × (r ≤ at + 6 * places + 2) ⌝ }
 {
     let mut to = at;
     for i in 0..WORDS {
@@ -70,9 +71,9 @@ pub fn put_events(room: &mut [u8], at: usize, events: EventSet) -> usize
 
 // Puts the events of one word, a comma behind each.
 fn put_word(room: &mut [u8], at: usize, base: usize, word: u64) -> usize
-    requires { ⌜ (base ≤ 192) × (at + 256 ≤ length (now room)) ⌝ }
+    requires { ⌜ (base + 64 ≤ places) × (at + 6 * 64 ≤ length (now room)) ⌝ }
     ensures { λ r.
-        ⌜ Puts (now (room .entry)) (now (room .exit)) at (items (eventsOf base word)) r × (r ≤ at + 256) ⌝ }
+        ⌜ Puts (now (room .entry)) (now (room .exit)) at (items (eventsOf base word)) r × (r ≤ at + 6 * 64) ⌝ }
 {
     let mut to = at;
     let mut left = word;

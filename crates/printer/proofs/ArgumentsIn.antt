@@ -10,23 +10,26 @@ use lib.ListN.{length, getD}
 use borrow.Author.Tests.{leb-true, eq-eqb, ne-eqb, le-leb, lt-leb}
 use Rattle.letters.specs.Decimal.{decimal}
 use Rattle.junior.specs.Configuration.{Config}
-use Rattle.junior.specs.Program.{Program, Nothing, Stop, Atom, Seq, Par, Loop, Repeat, Generate, Await, When, Until}
-use Rattle.junior.specs.Program.{Control, Local, kind}
+use Rattle.junior.specs.Program.{Program, Argument, number, event, configuration, kind}
+use Rattle.junior.specs.Program.{no-argument as argues-nothing, argument as own}
 use Rattle.table.specs.Records.{configurations, kindAt, argumentAt}
 use Rattle.table.specs.Good.{argumentLimit}
-use Rattle.table.specs.Spells.{Spells, Configured, tested}
+use Rattle.table.specs.Spells.{Argues, Spells, Configured, tested}
 use Rattle.table.specs.Inside.{Placed}
-use Rattle.table.proofs.Grown.{Kind, k0, k1, k2, k3, k4, k5, k6, k7, k8, k9, k10, k11, k12}
-use Rattle.table.proofs.Tree.{kind-is}
+use Rattle.table.proofs.Parts.{limitOf, by-kind}
+use Rattle.table.proofs.Tree.{kind-is, argued as argues}
 use Rattle.table.proofs.TestParts.{Test, ends-inside}
 use Rattle.table.proofs.Loaded.{fine-at}
-use Rattle.form.specs.Spelling.{spellTest}
+use Rattle.form.specs.Spelling.{spellArgument, spellTest}
 use Rattle.form.specs.Names.{opening}
 use Rattle.form.specs.Inside.Rows.{names, formRow, kinds, nameEnd, inside}
 use Rattle.form.proofs.Tested.{all, all-at}
-use Rattle.printer.specs.Printing.{Fits, Puts, linked, link, takesTest, takesNumber, argument, head}
+use Rattle.letters.specs.Rooms.{Puts}
+use Rattle.printer.specs.Printing.{Fits, linked, link, takesTest, takesNumber, argument, head}
 use Rattle.printer.specs.Printing.{Standing, Shows, Testable, ShowsTest}
-use Rattle.printer.proofs.Puts.{puts-none, puts-then, fits-first, fits-on}
+use Rattle.letters.proofs.Puts.{puts-none, puts-then}
+use Rattle.printer.proofs.SpelledBy.{Takes, takes-none, takes-number, takes-event, takes-test, codes-tell}
+use Rattle.printer.proofs.FitsInParts.{fits-first, fits-on}
 
 -- what a kind takes, and how its argument is written
 pub data Argued (t : List ℕ) (i : ℕ) (p : Program) : Bool → Bool → Type 0 where
@@ -39,21 +42,17 @@ pub data Argued (t : List ℕ) (i : ℕ) (p : Program) : Bool → Bool → Type 
       → argument p ≡ spellTest d
       → Argued t i p true false
 
+-- the argument that the record holds, by what its kind takes
+argued-so : (t : List ℕ) (i : ℕ) (p : Program) (a : Argument) {x y : Bool} → own p ≡ a → Takes a x y → Argues t i a
+    → argumentLimit t (kind p) ≡ limitOf t a → Argued t i p x y
+unfolding argument
+argued-so t i p argues-nothing e takes-none h l = no-argument (ap spellArgument e)
+argued-so t i p (number n) e takes-number h l = a-number (ap spellArgument e ∙ ap decimal (sym h))
+argued-so t i p (event s) e takes-event h l = a-number (ap spellArgument e ∙ ap decimal (sym h))
+argued-so t i p (configuration c) e takes-test h l = a-test c h l (ap spellArgument e)
+
 pub argued : (t : List ℕ) (i : ℕ) (p : Program) → Spells t i p → Argued t i p (takesTest (kind p)) (takesNumber (kind p))
-unfolding Spells kind argument takesTest takesNumber argumentLimit
-argued t i Nothing h = no-argument refl
-argued t i Stop h = no-argument refl
-argued t i (Atom a) h = a-number (ap decimal (sym (h .1)))
-argued t i (Seq p q) h = no-argument refl
-argued t i (Par p q) h = no-argument refl
-argued t i (Loop p) h = no-argument refl
-argued t i (Repeat n p) h = a-number (ap decimal (sym (h .1)))
-argued t i (Generate s) h = a-number (ap decimal (sym (h .1)))
-argued t i (Await c) h = a-test c (h .1) refl refl
-argued t i (When c p q) h = a-test c (h .1) refl refl
-argued t i (Until c p q) h = a-test c (h .1) refl refl
-argued t i (Control s p) h = a-number (ap decimal (sym (h .1)))
-argued t i (Local s p) h = a-number (ap decimal (sym (h .1)))
+argued t i p h = argued-so t i p (own p) refl (codes-tell p .takes) (argues t i p h) (by-kind p .limit-is t)
 
 pub argued-at : {t : List ℕ} {i : ℕ} {p : Program} {a b : Bool} → Spells t i p → takesTest (kindAt t i) ≡ a
     → takesNumber (kindAt t i) ≡ b → Argued t i p a b
@@ -141,28 +140,13 @@ module _ {t : List ℕ} {i : ℕ} where
     pub puts-no-argument : takesNumber (kindAt t i) ≡ false → {a : List ℕ} {at : ℕ} → Shows argument t i a a at at
     puts-no-argument f {a} {at} = record { puts = λ p h. rw (none-of (argued-at h e f)) (puts-none a at) }
 
--- a known kind, and its name is short
-pub known-kind : {k : ℕ} → Kind k → k < kinds
-known-kind k0 = omega arith
-known-kind k1 = omega arith
-known-kind k2 = omega arith
-known-kind k3 = omega arith
-known-kind k4 = omega arith
-known-kind k5 = omega arith
-known-kind k6 = omega arith
-known-kind k7 = omega arith
-known-kind k8 = omega arith
-known-kind k9 = omega arith
-known-kind k10 = omega arith
-known-kind k11 = omega arith
-known-kind k12 = omega arith
-
+-- the name of a kind is short
 unfoldable brief : ℕ → Bool
 brief k = leb (length (opening k)) 12
 
-pub name-short : {k : ℕ} → Kind k → length (opening k) ≤ 12
+pub name-short : (p : Program) → length (opening (kind p)) ≤ 12
 unfolding all brief opening
-name-short {k} h = leb-true _ 12 (all-at kinds brief refl k (known-kind h))
+name-short p = leb-true _ 12 (all-at kinds brief refl (kind p) (omega (arith, by-kind p .known)))
 
 -- the name, the argument, and what links it to a part
 module _ {t : List ℕ} {i k : ℕ} (e : k ≡ kindAt t i) where
@@ -177,7 +161,7 @@ module _ {t : List ℕ} {i k : ℕ} (e : k ≡ kindAt t i) where
     whole = rw k-is at (h .fits)
 
     pub kind-few : k < kinds
-    kind-few = omega (arith, k-is, known-kind (fine-at (h .placed) .known))
+    kind-few = omega (arith, k-is, by-kind p .known)
 
     pub name-fits : Fits at (opening k)
     name-fits = fits-first (opening k) (argument p ++ link k) whole

@@ -1,5 +1,5 @@
 -- The laws, in the order in which they lean on one another.
-pub mod Puts
+pub mod FitsInParts
 pub mod SpelledBy
 pub mod TestsIn
 pub mod Bounds

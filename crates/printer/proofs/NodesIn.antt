@@ -1,6 +1,6 @@
 -- Printing a program by its node and its parts: where they stand, that they are smaller, that their texts fit, and the whole text.
 use Prim.Native.Nat.{ℕ, _+_, _*_, _≤_, _<_}
-use mathlib.Core.Path.{_≡_, refl, sym, ap, subst, _∙_}
+use mathlib.Core.Path.{_≡_, refl, subst}
 use mathlib.Core.List.{List, _++_}
 use native.Mathlib.Omega.{arith}
 use lib.ListN.{length}
@@ -10,34 +10,36 @@ use Rattle.table.specs.Records.{nodes, kindAt, sizeAt, secondAt}
 use Rattle.table.specs.Good.{children}
 use Rattle.table.specs.Spells.{Spells}
 use Rattle.table.specs.Inside.{Placed}
-use Rattle.table.proofs.Tree.{kind-is, written, size-pos}
+use Rattle.table.proofs.Parts.{of-one, of-two}
+use Rattle.table.proofs.Tree.{Tree, leaf, one, two, tree, spelled, written, size-pos}
 use Rattle.form.specs.Spelling.{spell}
-use Rattle.printer.specs.Printing.{Fits, Puts, head, rest, Standing, Shows}
-use Rattle.printer.proofs.SpelledBy.{spelled-by, Parts, no-part, one-part, two-parts, parts-of}
-use Rattle.printer.proofs.Puts.{puts-then, fits-first, fits-on}
+use Rattle.letters.specs.Rooms.{Puts}
+use Rattle.printer.specs.Printing.{Fits, head, rest, Standing, Shows}
+use Rattle.printer.proofs.SpelledBy.{spelled-by, rest-none, rest-one, rest-two}
+use Rattle.letters.proofs.Puts.{puts-then}
+use Rattle.printer.proofs.FitsInParts.{fits-first, fits-on}
 
--- its parts, by how many its record says there are
-parts-at : {t : List ℕ} {i n : ℕ} {p : Program} → Spells t i p → children (kindAt t i) ≡ n → Parts t i p n
-parts-at {t} {i} {p = p} h e =
-    subst (λ (m : ℕ). Parts t i p m) (ap children (sym (kind-is t i p h)) ∙ e) (parts-of t i p h)
+-- what stands at a node, by how many parts its record says there are
+tree-at : {t : List ℕ} {i n : ℕ} {p : Program} → Spells t i p → children (kindAt t i) ≡ n → Tree t i n p
+tree-at {t} {i} {p = p} h e = subst (λ (m : ℕ). Tree t i m p) e (tree t i p h)
 
 -- no part; some, the first of which comes first; one; two
-rest-none : {t : List ℕ} {i : ℕ} {p : Program} → Parts t i p 0 → rest p ≡ bytes ")"
-rest-none (no-part s e) = e
+leaf-rest : {t : List ℕ} {i : ℕ} {p : Program} → Tree t i 0 p → rest p ≡ bytes ")"
+leaf-rest (leaf h f) = rest-none f
 
-record Some (t : List ℕ) (i : ℕ) (p : Program) : Type 0 where
+record SomeParts (t : List ℕ) (i : ℕ) (p : Program) : Type 0 where
   first : Program
   more : List ℕ
   there : Spells t (i + 1) first
   less : size first < size p
   rest-is : rest p ≡ spell first ++ more
 
-record One (t : List ℕ) (i : ℕ) (p : Program) : Type 0 where
+record OnePart (t : List ℕ) (i : ℕ) (p : Program) : Type 0 where
   only : Program
   there : Spells t (i + 1) only
   rest-is : rest p ≡ spell only ++ bytes ")"
 
-record Two (t : List ℕ) (i : ℕ) (p : Program) : Type 0 where
+record TwoParts (t : List ℕ) (i : ℕ) (p : Program) : Type 0 where
   first : Program
   second : Program
   there : Spells t (i + 1) first
@@ -45,19 +47,27 @@ record Two (t : List ℕ) (i : ℕ) (p : Program) : Type 0 where
   sizes : size p ≡ 1 + size first + size second
   rest-is : rest p ≡ spell first ++ (bytes ", " ++ (spell second ++ bytes ")"))
 
-some : {t : List ℕ} {i n : ℕ} {p : Program} → (n ≡ 0 → ⊥) → Parts t i p n → Some t i p
-some a (no-part s e) = absurd (a refl)
-some a (one-part q x s e) = record { first = q; more = bytes ")"; there = x; less = omega arith; rest-is = e }
-some a (two-parts q r x y s e) =
-    record { first = q; more = bytes ", " ++ (spell r ++ bytes ")"); there = x; less = omega arith; rest-is = e }
+some-parts : {t : List ℕ} {i n : ℕ} {p : Program} → (n ≡ 0 → ⊥) → Tree t i n p → SomeParts t i p
+some-parts a (leaf h f) = absurd (a refl)
+some-parts a (one {q = q} h f x) =
+    record { first = q; more = bytes ")"; there = spelled x; less = omega (arith, of-one f .size-is); rest-is = rest-one f }
+some-parts a (two {q = q} {r = r} h f x y) =
+    record {
+      first = q;
+      more = bytes ", " ++ (spell r ++ bytes ")");
+      there = spelled x;
+      less = omega (arith, of-two f .size-is);
+      rest-is = rest-two f;
+    }
 
-one : {t : List ℕ} {i : ℕ} {p : Program} → Parts t i p 1 → One t i p
-one (one-part q x s e) = record { only = q; there = x; rest-is = e }
+one-part : {t : List ℕ} {i : ℕ} {p : Program} → Tree t i 1 p → OnePart t i p
+one-part (one {q = q} h f x) = record { only = q; there = spelled x; rest-is = rest-one f }
 
-two : {t : List ℕ} {i n : ℕ} {p : Program} → (n ≡ 0 → ⊥) → (n ≡ 1 → ⊥) → Parts t i p n → Two t i p
-two a b (no-part s e) = absurd (a refl)
-two a b (one-part q x s e) = absurd (b refl)
-two a b (two-parts q r x y s e) = record { first = q; second = r; there = x; behind = y; sizes = s; rest-is = e }
+two-parts : {t : List ℕ} {i n : ℕ} {p : Program} → (n ≡ 0 → ⊥) → (n ≡ 1 → ⊥) → Tree t i n p → TwoParts t i p
+two-parts a b (leaf h f) = absurd (a refl)
+two-parts a b (one h f x) = absurd (b refl)
+two-parts a b (two {q = q} {r = r} h f x y) =
+    record { first = q; second = r; there = spelled x; behind = spelled y; sizes = of-two f .size-is; rest-is = rest-two f }
 
 -- the texts of the node and of its parts fit
 module _ {t : List ℕ} {i at : ℕ} (h : Standing spell t i at) where
@@ -67,38 +77,38 @@ module _ {t : List ℕ} {i at : ℕ} (h : Standing spell t i at) where
   whole : Fits at (head p ++ rest p)
   whole = rw (spelled-by p) at (h .fits)
 
-  parts : Parts t i p (children (kindAt t i))
-  parts = parts-at (h .placed .spelled) refl
+  here : Tree t i (children (kindAt t i)) p
+  here = tree t i p (h .placed .spelled)
 
   pub head-fits : Standing head t i at
   head-fits = record { program = p; placed = h .placed; fits = fits-first (head p) (rest p) whole }
 
   pub first-less : (children (kindAt t i) ≡ 0 → ⊥) → sizeAt t (i + 1) < sizeAt t i
-  first-less n = let s = some n parts in omega (arith, s .less, written t (i + 1) (s .first) (s .there), written t i p (h .placed .spelled))
+  first-less n = let s = some-parts n here in omega (arith, s .less, written t (i + 1) (s .first) (s .there), written t i p (h .placed .spelled))
 
   module _ {a b : List ℕ} {x : ℕ} (u : Shows head t i a b at x) where
     rest-fits : Fits x (rest p)
     rest-fits = fits-on (head p) (rest p) whole (u .puts p (h .placed .spelled))
 
     pub none-closes : children (kindAt t i) ≡ 0 → Fits x (bytes ")")
-    none-closes e = rw (rest-none (parts-at (h .placed .spelled) e)) at rest-fits
+    none-closes e = rw (leaf-rest (tree-at (h .placed .spelled) e)) at rest-fits
 
     pub first-part : (children (kindAt t i) ≡ 0 → ⊥) → Standing spell t (i + 1) x
     first-part n =
-        let s = some n parts in
+        let s = some-parts n here in
         let f : Fits x (spell (s .first) ++ s .more) = rw (s .rest-is) at rest-fits in
         let d : Placed t (i + 1) (s .first) = record { loaded = h .placed .loaded; spelled = s .there; inside = omega (arith, h .placed .inside, s .less) } in
         record { program = s .first; placed = d; fits = fits-first (spell (s .first)) (s .more) f }
 
     pub one-closes : children (kindAt t i) ≡ 1 → {c : List ℕ} {y : ℕ} → Shows spell t (i + 1) b c x y → Fits y (bytes ")")
     one-closes e v =
-        let o = one (parts-at (h .placed .spelled) e) in
+        let o = one-part (tree-at (h .placed .spelled) e) in
         let f : Fits x (spell (o .only) ++ bytes ")") = rw (o .rest-is) at rest-fits in
         fits-on (spell (o .only)) (bytes ")") f (v .puts (o .only) (o .there))
 
   module _ (n : children (kindAt t i) ≡ 0 → ⊥) (n′ : children (kindAt t i) ≡ 1 → ⊥) where
-    o : Two t i p
-    o = two n n′ parts
+    o : TwoParts t i p
+    o = two-parts n n′ here
 
     pub second-inside : 6 * i + 11 < length t
     second-inside =
@@ -139,14 +149,14 @@ module _ {t : List ℕ} {i at : ℕ} (h : Standing spell t i at) where
 module _ {t : List ℕ} {i : ℕ} {a b : List ℕ} {at x : ℕ} (u : Shows head t i a b at x) where
   pub puts-leaf : children (kindAt t i) ≡ 0 → {c : List ℕ} {r : ℕ} → Puts b c x (bytes ")") r → Shows spell t i a c at r
   puts-leaf e v =
-      record { puts = λ p h. rw (spelled-by p, rest-none (parts-at h e)) (puts-then (u .puts p h) v) }
+      record { puts = λ p h. rw (spelled-by p, leaf-rest (tree-at h e)) (puts-then (u .puts p h) v) }
 
   pub puts-one : children (kindAt t i) ≡ 1 → {c d : List ℕ} {y r : ℕ} → Shows spell t (i + 1) b c x y
       → Puts c d y (bytes ")") r → Shows spell t i a d at r
   puts-one e v w =
       record {
         puts = λ p h.
-            let o = one (parts-at h e) in
+            let o = one-part (tree-at h e) in
             rw (spelled-by p, o .rest-is) (puts-then (u .puts p h) (puts-then (v .puts (o .only) (o .there)) w));
       }
 
@@ -156,7 +166,7 @@ module _ {t : List ℕ} {i : ℕ} {a b : List ℕ} {at x : ℕ} (u : Shows head 
   puts-two n n′ v w k l =
       record {
         puts = λ p h.
-            let o = two n n′ (parts-at h refl) in
+            let o = two-parts n n′ (tree-at h refl) in
             rw (spelled-by p, o .rest-is)
             (puts-then (u .puts p h) (puts-then (v .puts (o .first) (o .there)) (puts-then w (puts-then (k .puts (o .second) (o .behind)) l))));
       }

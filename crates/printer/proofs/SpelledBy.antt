@@ -1,57 +1,90 @@
--- A program's spelling by what its own record has and by its parts: `spelled-by`, and the parts by how many a kind has.
-use Prim.Native.Nat.{ℕ, _+_}
-use mathlib.Core.Path.{_≡_, refl}
-use mathlib.Core.List.{List, _++_, append-assoc}
+-- A program's spelling is what its own record tells and the rest: `spelled-by`; and what the codes of its kind tell of its argument.
+use mathlib.Core.Bool.{Bool, true, false}
+use mathlib.Core.Path.{_≡_, refl, ap, _∙_}
+use mathlib.Core.List.{List, [], _++_, append-assoc}
+use Prim.Native.Nat.{ℕ}
 use Rattle.letters.specs.Text.{bytes}
+use Rattle.junior.specs.Configuration.{Config}
 use Rattle.junior.specs.Program.{Program, Nothing, Stop, Atom, Seq, Par, Loop, Repeat, Generate, Await, When, Until}
-use Rattle.junior.specs.Program.{Control, Local, size, kind}
-use Rattle.table.specs.Records.{secondAt}
-use Rattle.table.specs.Good.{children}
-use Rattle.table.specs.Spells.{Spells}
+use Rattle.junior.specs.Program.{Control, Local, Argument, no-argument, number, event, configuration, argument as own, kind}
+use Rattle.junior.specs.Program.{Leaf, One, Two, Parts, no-part, one-part, two-parts, parts}
+use Rattle.junior.proofs.Parts.{parts-none, parts-one, parts-two}
 use Rattle.form.specs.Names.{opening}
-use Rattle.form.specs.Spelling.{spell}
-use Rattle.printer.specs.Printing.{argument, link, head, rest}
+use Rattle.form.specs.Spelling.{spellArgument, before, spellParts, spell}
+use Rattle.printer.specs.Printing.{takesTest, takesNumber, argument, link, head, restOf, rest}
+
+-- an argument, and whether a form that has it takes a test, and a number
+pub data Takes : Argument → Bool → Bool → Type 0 where
+  takes-none : Takes no-argument false false
+  takes-number : {n : ℕ} → Takes (number n) false true
+  takes-event : {s : ℕ} → Takes (event s) false true
+  takes-test : {c : Config} → Takes (configuration c) true false
+
+-- what stands behind the argument if parts follow
+abbrev linkAfter : Argument → List ℕ
+linkAfter no-argument = []
+linkAfter (number n) = bytes ", "
+linkAfter (event s) = bytes ", "
+linkAfter (configuration c) = bytes ", "
+
+abbrev between : {p : Program} → Parts p → List ℕ
+between (no-part f) = []
+between {p} (one-part f q) = linkAfter (own p)
+between {p} (two-parts f q r) = linkAfter (own p)
+
+-- the codes of each form's kind tell these
+pub record CodesTell (p : Program) : Type 0 where
+  pub takes : Takes (own p) (takesTest (kind p)) (takesNumber (kind p))
+  pub link-is : link (kind p) ≡ between (parts p)
+
+pub codes-tell : (p : Program) → CodesTell p
+unfolding kind takesTest takesNumber link
+codes-tell Nothing = record { takes = takes-none; link-is = refl }
+codes-tell Stop = record { takes = takes-none; link-is = refl }
+codes-tell (Atom a) = record { takes = takes-number; link-is = refl }
+codes-tell (Seq p q) = record { takes = takes-none; link-is = refl }
+codes-tell (Par p q) = record { takes = takes-none; link-is = refl }
+codes-tell (Loop p) = record { takes = takes-none; link-is = refl }
+codes-tell (Repeat n p) = record { takes = takes-number; link-is = refl }
+codes-tell (Generate s) = record { takes = takes-event; link-is = refl }
+codes-tell (Await c) = record { takes = takes-test; link-is = refl }
+codes-tell (When c p q) = record { takes = takes-test; link-is = refl }
+codes-tell (Until c p q) = record { takes = takes-test; link-is = refl }
+codes-tell (Control s p) = record { takes = takes-event; link-is = refl }
+codes-tell (Local s p) = record { takes = takes-event; link-is = refl }
+
+before-is : (a : Argument) (w : List ℕ) → before a w ≡ spellArgument a ++ (linkAfter a ++ w)
+before-is no-argument w = refl
+before-is (number n) w = refl
+before-is (event s) w = refl
+before-is (configuration c) w = refl
+
+-- what is before the rest w, in one
+regroup : (o a l w : List ℕ) → o ++ (a ++ (l ++ w)) ≡ (o ++ (a ++ l)) ++ w
+regroup o a l w = simp append-assoc
+
+by-parts : {p : Program} (v : Parts p) → spellParts v ≡ (opening (kind p) ++ (spellArgument (own p) ++ between v)) ++ restOf v
+by-parts {p} (no-part f) = regroup (opening (kind p)) (spellArgument (own p)) [] (bytes ")")
+by-parts {p} (one-part f q) =
+    let w = restOf (one-part f q) in
+    ap (λ (x : List ℕ). opening (kind p) ++ x) (before-is (own p) w) ∙ regroup (opening (kind p)) (spellArgument (own p)) (linkAfter (own p)) w
+by-parts {p} (two-parts f q r) =
+    let w = restOf (two-parts f q r) in
+    ap (λ (x : List ℕ). opening (kind p) ++ x) (before-is (own p) w) ∙ regroup (opening (kind p)) (spellArgument (own p)) (linkAfter (own p)) w
 
 pub spelled-by : (p : Program) → spell p ≡ head p ++ rest p
-unfolding spell kind opening argument link rest
-spelled-by Nothing = refl
-spelled-by Stop = refl
-spelled-by (Atom a) = simp append-assoc
-spelled-by (Seq p q) = refl
-spelled-by (Par p q) = refl
-spelled-by (Loop p) = refl
-spelled-by (Repeat n p) = simp append-assoc
-spelled-by (Generate s) = simp append-assoc
-spelled-by (Await c) = simp append-assoc
-spelled-by (When c p q) = simp append-assoc
-spelled-by (Until c p q) = simp append-assoc
-spelled-by (Control s p) = simp append-assoc
-spelled-by (Local s p) = simp append-assoc
+unfolding spell argument rest
+spelled-by p = rw (codes-tell p .link-is) (by-parts (parts p))
 
--- the parts of the program p at node i, by how many there are
-pub data Parts (t : List ℕ) (i : ℕ) (p : Program) : ℕ → Type 0 where
-  no-part : size p ≡ 1 → rest p ≡ bytes ")" → Parts t i p 0
-  one-part : (q : Program) → Spells t (i + 1) q → size p ≡ 1 + size q → rest p ≡ spell q ++ bytes ")" → Parts t i p 1
-  two-parts :
-      (q r : Program)
-      → Spells t (i + 1) q
-      → Spells t (secondAt t i) r
-      → size p ≡ 1 + size q + size r
-      → rest p ≡ spell q ++ (bytes ", " ++ (spell r ++ bytes ")"))
-      → Parts t i p 2
+-- the rest of a form of no part, one or two
+pub rest-none : {p : Program} → Leaf p → rest p ≡ bytes ")"
+unfolding rest
+rest-none f = ap restOf (parts-none f)
 
-pub parts-of : (t : List ℕ) (i : ℕ) (p : Program) → Spells t i p → Parts t i p (children (kind p))
-unfolding Spells kind size children rest
-parts-of t i Nothing h = no-part refl refl
-parts-of t i Stop h = no-part refl refl
-parts-of t i (Atom a) h = no-part refl refl
-parts-of t i (Seq p q) h = two-parts p q (h .2) (h .3) refl refl
-parts-of t i (Par p q) h = two-parts p q (h .2) (h .3) refl refl
-parts-of t i (Loop p) h = one-part p (h .2) refl refl
-parts-of t i (Repeat n p) h = one-part p (h .2) refl refl
-parts-of t i (Generate s) h = no-part refl refl
-parts-of t i (Await c) h = no-part refl refl
-parts-of t i (When c p q) h = two-parts p q (h .2) (h .3) refl refl
-parts-of t i (Until c p q) h = two-parts p q (h .2) (h .3) refl refl
-parts-of t i (Control s p) h = one-part p (h .2) refl refl
-parts-of t i (Local s p) h = one-part p (h .2) refl refl
+pub rest-one : {p q : Program} → One p q → rest p ≡ spell q ++ bytes ")"
+unfolding rest spell
+rest-one f = ap restOf (parts-one f)
+
+pub rest-two : {p q r : Program} → Two p q r → rest p ≡ spell q ++ (bytes ", " ++ (spell r ++ bytes ")"))
+unfolding rest spell
+rest-two f = ap restOf (parts-two f)

@@ -1,6 +1,6 @@
 -- Printing a configuration by its parts: where they stand, that they are smaller, that their texts fit, and the whole text.
 use Prim.Native.Nat.{ℕ, _+_, _≤_, _<_}
-use mathlib.Core.Path.{_≡_, refl, sym, ap}
+use mathlib.Core.Path.{_≡_, refl, sym, ap, _∙_}
 use mathlib.Core.List.{List, _++_}
 use native.Mathlib.Omega.{arith}
 use lib.ListN.{length}
@@ -11,8 +11,14 @@ use Rattle.table.specs.Records.{partKind, partEvent, partSize, secondPart}
 use Rattle.table.specs.Spells.{Configured, weight}
 use Rattle.table.proofs.ByParts.{written, own-inside}
 use Rattle.form.specs.Spelling.{spellTest}
-use Rattle.printer.specs.Printing.{Fits, Puts, joint, Testable, ShowsTest}
-use Rattle.printer.proofs.Puts.{puts-then, fits-first, fits-on}
+use Rattle.letters.specs.Rooms.{Puts}
+use Rattle.printer.specs.Printing.{Fits, joint, Testable, ShowsTest}
+use Rattle.letters.proofs.Puts.{puts-then}
+use Rattle.printer.proofs.FitsInParts.{fits-first, fits-on}
+
+-- what was read is no m, so what stands there is none
+pub unlike : {x y m : ℕ} → x ≡ y → (x ≡ m → ⊥) → y ≡ m → ⊥
+unlike e other f = other (e ∙ f)
 
 -- its own record lies within the table
 pub test-inside : {t : List ℕ} {c at : ℕ} → Testable t c at → c + 4 ≤ length t

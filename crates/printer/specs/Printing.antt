@@ -5,26 +5,19 @@ use mathlib.Core.Path.{_≡_}
 use mathlib.Core.List.{List, [], _++_}
 use lib.ListN.{length}
 use lib.Dec.{eqb, leb}
-use lib.Seq.{sets}
-use Rattle.letters.specs.Decimal.{decimal}
+use Rattle.letters.specs.Rooms.{Puts}
 use Rattle.letters.specs.Text.{bytes}
 use Rattle.junior.specs.Configuration.{Config}
-use Rattle.junior.specs.Program.{Program, Nothing, Stop, Atom, Seq, Par, Loop, Repeat, Generate, Await, When, Until}
-use Rattle.junior.specs.Program.{Control, Local, kind}
+use Rattle.junior.specs.Program.{Program, argument as own, kind, Parts, no-part, one-part, two-parts, parts}
 use Rattle.table.specs.Spells.{Spells, Configured, weight}
 use Rattle.table.specs.Inside.{Placed}
 use Rattle.form.specs.Names.{opening}
-use Rattle.form.specs.Spelling.{spell, spellTest}
+use Rattle.form.specs.Spelling.{spellTest, spellArgument, spellParts}
 use Rattle.form.specs.Inside.Rows.{inside}
 
 -- the place behind the text w at `at` is a number of 64 bits
 pub record Fits (at : ℕ) (w : List ℕ) : Type 0 where
   pub below : at + length w < 18446744073709551616
-
--- w was put at `at`, as far as there is room, and r is the place behind it
-pub record Puts (old new : List ℕ) (at : ℕ) (w : List ℕ) (r : ℕ) : Type 0 where
-  pub next : r ≡ at + length w
-  pub room : new ≡ sets old at w
 
 -- A program's spelling in two, what its own record tells and the rest; the law `spelled-by` says that these are all. The record tells the
 -- name of its kind with the bracket, its argument, and the comma behind the argument if parts follow. The first code in the brackets of a kind
@@ -38,19 +31,7 @@ unfolding inside
 takesNumber k = leb 138 (inside k 0)
 
 unfoldable pub argument : Program → List ℕ
-argument Nothing = []
-argument Stop = []
-argument (Atom a) = decimal a
-argument (Seq p q) = []
-argument (Par p q) = []
-argument (Loop p) = []
-argument (Repeat n p) = decimal n
-argument (Generate s) = decimal s
-argument (Await c) = spellTest c
-argument (When c p q) = spellTest c
-argument (Until c p q) = spellTest c
-argument (Control s p) = decimal s
-argument (Local s p) = decimal s
+argument p = spellArgument (own p)
 
 -- between the argument and a part, by the first two codes
 unfoldable pub linked : ℕ → ℕ → List ℕ
@@ -63,20 +44,13 @@ link k = linked (inside k 0) (inside k 1)
 abbrev pub head : Program → List ℕ
 head p = opening (kind p) ++ (argument p ++ link (kind p))
 
+abbrev pub restOf : {p : Program} → Parts p → List ℕ
+restOf (no-part f) = bytes ")"
+restOf (one-part f q) = spellParts q ++ bytes ")"
+restOf (two-parts f q r) = spellParts q ++ (bytes ", " ++ (spellParts r ++ bytes ")"))
+
 unfoldable pub rest : Program → List ℕ
-rest Nothing = bytes ")"
-rest Stop = bytes ")"
-rest (Atom a) = bytes ")"
-rest (Seq p q) = spell p ++ (bytes ", " ++ (spell q ++ bytes ")"))
-rest (Par p q) = spell p ++ (bytes ", " ++ (spell q ++ bytes ")"))
-rest (Loop p) = spell p ++ bytes ")"
-rest (Repeat n p) = spell p ++ bytes ")"
-rest (Generate s) = bytes ")"
-rest (Await c) = bytes ")"
-rest (When c p q) = spell p ++ (bytes ", " ++ (spell q ++ bytes ")"))
-rest (Until c p q) = spell p ++ (bytes ", " ++ (spell q ++ bytes ")"))
-rest (Control s p) = spell p ++ bytes ")"
-rest (Local s p) = spell p ++ bytes ")"
+rest p = restOf (parts p)
 
 -- the word of a configuration of two parts, by its kind
 unfoldable pub joint : ℕ → List ℕ

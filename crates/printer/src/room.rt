@@ -4,8 +4,13 @@ ghost use Prim.Native.Nat.{_-_, _≤_};
 ghost use lib.ListN.{set, take, drop};
 ghost use Rattle.letters.specs.Decimal.{decimal};
 ghost use Rattle.form.specs.Inside.Rows.{TheNames, long, names as names-are};
-ghost use Rattle.printer.specs.Printing.{Fits, Puts};
+ghost use Rattle.letters.specs.Rooms.{Puts};
+ghost use Rattle.printer.specs.Printing.{Fits};
 use form::names::LONG;
+use letters::put_digits;
+
+// The digits of the largest number.
+const DIGITS: usize = 20;
 
 // Puts a text at `at`; the answer is the place behind it.
 pub fn put(room: &mut [u8], at: usize, w: &[u8]) -> usize
@@ -43,13 +48,9 @@ pub fn put_number(room: &mut [u8], at: usize, n: usize) -> usize
     requires { ⌜ Fits at (decimal n) ⌝ }
     ensures { λ r. ⌜ Puts (now (room .entry)) (now (room .exit)) at (decimal n) r ⌝ }
 {
-    if n < 10 {
-        put_byte(room, at, 48 + n as u8);
-        return at + 1;
-    }
-    let last = put_number(room, at, n / 10);
-    put_byte(room, last, 48 + (n % 10) as u8);
-    last + 1
+    let mut digits = [0u8; DIGITS];
+    let long = put_digits(&mut digits, 0, n as u64);
+    put(room, at, &digits[..long])
 }
 
 fn put_byte(room: &mut [u8], at: usize, b: u8)

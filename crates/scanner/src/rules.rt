@@ -7,6 +7,7 @@ ghost use Rattle.form.specs.Inside.Rows.{TheNames, rowAt, formRow, kinds, long,
 ghost use Rattle.form.specs.Inside.Machine.{limit, sortOf};
 ghost use Rattle.scanner.specs.Turns.{otherTurn, literalTurn, digitTurn, testTurn, innerTurn, partsTurn, jointTurn};
 ghost use Rattle.scanner.specs.Turns.{symbolTurn, numberTurn, turnOf};
+use events::EventSet;
 use form::digit_value;
 use form::is_digit;
 use form::names::EVENT;
@@ -40,7 +41,7 @@ const BEHIND_O: usize = ROW * (FIRST_WORD + 3) + 1;
 const BEHIND_COMMA: usize = ROW * (FIRST_FORM + 3) + 6;
 
 // The largest number of an event, and of anything else.
-const LARGEST_EVENT: usize = 255;
+const LARGEST_EVENT: usize = EventSet::PLACES - 1;
 
 const LARGEST: usize = 65535;
 

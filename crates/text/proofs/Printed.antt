@@ -12,9 +12,10 @@ use Rattle.table.proofs.Accepted.{accepted}
 use Rattle.text.specs.declared.TextPrinted.the-variants as told
 use Rattle.form.specs.Spelling.{spell}
 use Rattle.text.specs.Answers.{Prints, no-room, printed}
-use Rattle.printer.specs.Printing.{Puts, Standing, Shows}
+use Rattle.letters.specs.Rooms.{Puts}
+use Rattle.printer.specs.Printing.{Standing, Shows}
 use Rattle.letters.proofs.Rooms.{sets-front}
-use Rattle.printer.proofs.Puts.{sets-none}
+use Rattle.printer.proofs.FitsInParts.{sets-none}
 use Rattle.printer.proofs.Short.{whole-fits}
 
 module _ (t : List ℕ) (e : numberOf (verdictOf t) ≡ 0) where

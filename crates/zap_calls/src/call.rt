@@ -103,7 +103,7 @@ fn put_check(output: &mut [u8], refusal: Refusal, g: usize, a: usize, w: usize) 
             a as u64,
         ],
     );
-    listing::put_number(output, to, w as u64, 10)
+    letters::put_number(output, to, w as u64, 10)
 }
 
 fn answer_start(words: &[u8], table: &mut [u8], state: &mut [u8], output: &mut [u8]) -> usize

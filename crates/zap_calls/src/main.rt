@@ -4,12 +4,12 @@ ghost use mathlib.Core.Path.{_≡_};
 ghost use Prim.Native.Nat.{_+_, _≤_};
 ghost use lib.ListN.{length};
 ghost use Rattle.zap_calls.specs.Rooms.{Rooms};
-use blocks::TURNS;
-use blocks::keep_rest;
-use blocks::read_some;
-use blocks::write_out;
 use call::LONGEST;
 use call::answer_call;
+use console::TURNS;
+use console::keep_rest;
+use console::read_some;
+use console::write_out;
 
 mod call;
 

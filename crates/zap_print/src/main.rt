@@ -2,9 +2,9 @@
 // can't be read counts as empty; a refused one prints as in the listing program.
 ghost use mathlib.Core.Path.{_≡_};
 ghost use lib.ListN.{length};
-use blocks::read_table;
-use blocks::tell_table_refused;
+use console::read_table;
 use io::write_all;
+use listing::write_table_refused;
 use text::TextPrinted;
 use text::numbers::refusal_of_print;
 use text::print::print;
@@ -26,7 +26,8 @@ fn main() {
         }
         _ => {
             let refusal = refusal_of_print(answer);
-            tell_table_refused(refusal.number, refusal.index);
+            let n = write_table_refused(&mut text, refusal.number, refusal.index);
+            write_all(1, &text[..n]);
         }
     }
 }

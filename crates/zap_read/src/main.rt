@@ -3,8 +3,8 @@
 ghost use Prim.Native.Nat.{_<_};
 ghost use mathlib.Core.Path.{_≡_};
 ghost use lib.ListN.{length};
-use blocks::tell_table_refused;
 use io::write_all;
+use listing::write_table_refused;
 use text::TextRead;
 use text::numbers::refusal_of_read;
 use text::read::read;
@@ -52,7 +52,8 @@ fn read_text(text: &mut [u8], long: usize)
         TextRead::Read(n) => write_table(&table[..n]),
         _ => {
             let refusal = refusal_of_read(answer);
-            tell_table_refused(refusal.number, refusal.index);
+            let n = write_table_refused(&mut table, refusal.number, refusal.index);
+            write_all(1, &table[..n]);
         }
     }
 }

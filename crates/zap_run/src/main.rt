@@ -3,13 +3,17 @@
 ghost use mathlib.Core.Path.{_≡_};
 ghost use Prim.Native.Nat.{_+_, _<_, _≤_};
 ghost use lib.ListN.{length};
+ghost use Rattle.listing.specs.Input.{longest};
+ghost use Rattle.listing.specs.Output.{enough};
 use answer::answer_line;
-use blocks::TURNS;
-use blocks::keep_rest;
-use blocks::read_some;
-use blocks::read_table;
-use blocks::tell_table_refused;
-use blocks::write_out;
+use console::TURNS;
+use console::keep_rest;
+use console::read_some;
+use console::read_table;
+use console::write_out;
+use listing::LONGEST;
+use listing::MORE;
+use listing::write_table_refused;
 
 mod answer;
 
@@ -23,11 +27,8 @@ const ROW: usize = 4096;
 
 const BLOCK: usize = 65536;
 
-// The bytes of the longest line that can be good.
-const LONGEST: usize = 1024;
-
 // The room that an output line can take at most.
-const LINE: usize = 25656;
+const LINE: usize = 6 * (ROW + MORE);
 
 fn main() {
     let mut table = [0u8; TABLE];
@@ -39,7 +40,8 @@ fn main() {
     let outcome = kernel::start(&table[..length], &mut state);
     let refusal = kernel::numbers::refusal_of(outcome);
     if refusal.number != 0 {
-        tell_table_refused(refusal.number, refusal.index);
+        let n = write_table_refused(&mut output, refusal.number, refusal.index);
+        write_out(&output[..n]);
         return;
     }
     list_lines(
@@ -106,7 +108,7 @@ fn list_block(
 ) -> Place
     requires { ⌜ (length (now row) ≤ 4096) × (length (now input) ≡ 65536) × (length (now output) ≡ 65536) ⌝ }
     requires { ⌜ (held ≤ to) × (to ≤ length (now input)) × (number + length (now input) < 18446744073709551616) ⌝ }
-    ensures { λ r. ⌜ (r .held ≤ 1025) × (r .number ≤ number + length (now (input .entry))) ⌝ }
+    ensures { λ r. ⌜ (r .held ≤ longest + 1) × (r .number ≤ number + length (now (input .entry))) ⌝ }
 {
     let mut next = number;
     let mut from = 0;
@@ -136,7 +138,7 @@ fn list_block(
 // Where the next output line goes: where the block has no room for it behind the lines there, these are written out.
 fn room_for_line(output: &[u8], filled: usize) -> usize
     requires { ⌜ (filled ≤ length (now output)) × (length (now output) ≡ 65536) ⌝ }
-    ensures { λ r. ⌜ r + 25656 ≤ length (now (output .entry)) ⌝ }
+    ensures { λ r. ⌜ r + enough 4096 ≤ length (now (output .entry)) ⌝ }
 {
     if filled + LINE <= output.len() {
         return filled;

@@ -6,6 +6,7 @@ use mathlib.Core.Bool.{Bool, true, false, cond, _&&_}
 use mathlib.Core.List.{List, [], _∷_, _++_}
 use lib.Dec.{eqb, ltb, leb}
 use lib.ListN.{getD}
+use Rattle.events.specs.Members.{places}
 use Rattle.letters.specs.Text.{bytes}
 use Rattle.form.specs.Inside.Rows.{codes, inName, firstName, home, placeOf}
 
@@ -23,7 +24,7 @@ pub data Number : Type 0 where
   event plain : Number
 
 abbrev pub limit : Number → ℕ
-limit event = 255
+limit event = places - 1
 limit plain = 65535
 
 -- What is still to come. A number or configuration has the byte behind it in its symbol, so that every stack can

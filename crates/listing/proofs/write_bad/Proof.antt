@@ -7,7 +7,8 @@ use Rattle.letters.specs.Decimal.{decimal}
 use Rattle.letters.specs.Text.{bytes}
 use Rattle.letters.proofs.Decimal.{decimal-length}
 use Rattle.listing.specs.Output.{badLine}
-use Rattle.listing.proofs.Puts.{number-end}
+use Rattle.letters.proofs.Puts.{number-end}
+use Rattle.listing.proofs.Room.{bad-fits}
 use Rattle.listing.proofs.Lines.{puts-field, puts-last, written, unwritten}
 use Rattle.listing.proofs.write_bad.Statement.{statement}
 use Rattle.listing.proofs.write_bad.Tie as tie
@@ -39,7 +40,8 @@ returns-2 c =
     let put-number = c .before .before .before .before .before .before .before .put-number in
     let put-text = c .before .before .put-text in
     let number = decimal (start .args .number) in
-    written (omega arith) (puts-field number (bytes "bad-line") [] (put-number .ensures) (puts-last (bytes "bad-line") (put-text .ensures)))
+    written (bad-fits (start .args .number) (omega arith)) (omega arith)
+    (puts-field number (bytes "bad-line") [] (put-number .ensures) (puts-last (bytes "bad-line") (put-text .ensures)))
 
 pub write-bad-spec : {M : Type 1} → statement M
 write-bad-spec =

@@ -1,18 +1,21 @@
 -- `write_ran` meets its contract: five fields, in a room that has enough for them.
+use Rattle.listing.proofs.write_ran.Statement.{statement}
+use Rattle.listing.proofs.write_ran.Tie as tie
+use borrow.Author.Needs.{needs}
 use mathlib.Core.Path.{_∙_}
 use mathlib.Core.Bool.{cond}
 use mathlib.Core.List.{[], _∷_}
+use Prim.Native.Nat.{ℕ, _<_}
 use native.Mathlib.Omega.{arith}
-use borrow.Author.Needs.{needs}
+use lib.ListN.{getD}
 use Rattle.events.specs.Members.{places, members}
 use Rattle.letters.specs.Decimal.{decimal}
 use Rattle.letters.specs.Text.{bytes}
 use Rattle.letters.proofs.Decimal.{decimal-length}
 use Rattle.listing.specs.Output.{rising, listed, ranLine}
-use Rattle.listing.proofs.Puts.{number-end}
+use Rattle.letters.proofs.Puts.{number-end}
+use Rattle.listing.proofs.Room.{ran-fits}
 use Rattle.listing.proofs.Lines.{puts-field, puts-last, flag-length, written, unwritten}
-use Rattle.listing.proofs.write_ran.Statement.{statement}
-use Rattle.listing.proofs.write_ran.Tie as tie
 
 -- let a = put_number(room, 0, number, 32);
 put-number-requires : tie.Need-put-number-requires
@@ -67,10 +70,12 @@ put-events-requires c κs =
 -- put_atoms(room, d, atoms)
 put-atoms-requires : tie.Need-put-atoms-requires
 put-atoms-requires c κs =
-    let start = c .before .before .before .before .before .before .before .before .before .before .before .before .before .before .before .before .before .before .before .before in
-    let if1 = c .before .before .before .before .before .before .before .before .before .before .before .before .before .before .before .before .before .if1 in
-    let put-number = c .before .before .before .before .before .before .before .before .before .before .before .before .before .before .before .put-number in
-    let put-number2 = c .before .before .before .before .before .before .before .before .before .before .before .put-number2 in
+    let c8 = c .before .before .before .before .before .before .before .before in
+    let c16 = c8 .before .before .before .before .before .before .before .before in
+    let start = c16 .before .before .before .before in
+    let if1 = c16 .before .if1 in
+    let put-number = c8 .before .before .before .before .before .before .before .put-number in
+    let put-number2 = c8 .before .before .before .put-number2 in
     let put-flag = c .before .before .before .before .before .before .before .put-flag in
     let put-events = c .before .before .before .put-events in
     omega (
@@ -90,9 +95,11 @@ put-atoms-requires c κs =
 -- pub fn write_ran
 same-length : tie.Need-same-length
 same-length c =
-    let put-number = c .before .before .before .before .before .before .before .before .before .before .before .before .before .before .before .before .before .before .put-number in
-    let put-number2 = c .before .before .before .before .before .before .before .before .before .before .before .before .before .before .put-number2 in
-    let put-flag = c .before .before .before .before .before .before .before .before .before .before .put-flag in
+    let c8 = c .before .before .before .before .before .before .before .before in
+    let c16 = c8 .before .before .before .before .before .before .before .before in
+    let put-number = c16 .before .before .put-number in
+    let put-number2 = c8 .before .before .before .before .before .before .put-number2 in
+    let put-flag = c8 .before .before .put-flag in
     let put-events = c .before .before .before .before .before .before .put-events in
     let put-atoms = c .before .before .put-atoms in
     put-atoms .kept .0 ∙ (put-events .kept .0 ∙ (put-flag .kept .0 ∙ (put-number2 .kept .0 ∙ put-number .kept .0)))
@@ -100,11 +107,14 @@ same-length c =
 returns-2 : tie.Need-returns-2
 unfolding ranLine
 returns-2 c =
-    let start = c .before .before .before .before .before .before .before .before .before .before .before .before .before .before .before .before .before .before .before .before .before .before .before in
-    let if1 = c .before .before .before .before .before .before .before .before .before .before .before .before .before .before .before .before .before .before .before .before .if1 in
-    let put-number = c .before .before .before .before .before .before .before .before .before .before .before .before .before .before .before .before .before .before .put-number in
-    let put-number2 = c .before .before .before .before .before .before .before .before .before .before .before .before .before .before .put-number2 in
-    let put-flag = c .before .before .before .before .before .before .before .before .before .before .put-flag in
+    let c8 = c .before .before .before .before .before .before .before .before in
+    let c16 = c8 .before .before .before .before .before .before .before .before in
+    let start = c16 .before .before .before .before .before .before .before in
+    let shared-slice-known = c16 .before .before .before .before .before .shared-slice-known in
+    let if1 = c16 .before .before .before .before .if1 in
+    let put-number = c16 .before .before .put-number in
+    let put-number2 = c8 .before .before .before .before .before .before .put-number2 in
+    let put-flag = c8 .before .before .put-flag in
     let put-events = c .before .before .before .before .before .before .put-events in
     let put-atoms = c .before .before .put-atoms in
     let number = decimal (start .args .number) in
@@ -112,7 +122,11 @@ returns-2 c =
     let flag = cond (start .args .finished) (bytes "TERM") (bytes "STOP") in
     let events = listed (rising places (members (start .args .events))) in
     let atoms = listed (start .args .atoms .now) in
-    written (omega (arith, if1 .left))
+    let small : (i : ℕ) → getD (start .args .atoms .now) i 0 < 65536 =
+    λ i. omega (arith, shared-slice-known .given i) in
+    let fits = ran-fits (start .args .number) (start .args .passes) (start .args .finished) (members (start .args .events)) (start .args .atoms .now)
+    (omega arith) (omega arith) small in
+    written fits (omega (arith, if1 .left))
     (puts-field number passes (flag ∷ events ∷ atoms ∷ []) (put-number .ensures)
     (puts-field passes flag (events ∷ atoms ∷ []) (put-number2 .ensures)
     (puts-field flag events (atoms ∷ []) (put-flag .ensures)
@@ -121,7 +135,7 @@ returns-2 c =
 pub write-ran-spec : {M : Type 1} → statement M
 write-ran-spec =
     tie.close (tie.spec
-    (λ c. search needs)  -- add-if1: if room.len() / 6 < atoms.len() + 180 {
+    (λ c. search needs)  -- add-if1: if room.len() / 6 < atoms.len() + MORE {
     (λ c. unwritten _ (omega arith))  -- returns: return 0;
     put-number-requires
     put-number-requires-2

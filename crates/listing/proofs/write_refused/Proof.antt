@@ -6,7 +6,8 @@ use Rattle.letters.specs.Decimal.{decimal}
 use Rattle.letters.specs.Text.{bytes}
 use Rattle.letters.proofs.Decimal.{decimal-length}
 use Rattle.listing.specs.Output.{refusedLine}
-use Rattle.listing.proofs.Puts.{number-end}
+use Rattle.letters.proofs.Puts.{number-end}
+use Rattle.listing.proofs.Room.{refused-fits}
 use Rattle.listing.proofs.Lines.{puts-field, written, unwritten}
 use Rattle.listing.proofs.write_refused.Statement.{statement}
 use Rattle.listing.proofs.write_refused.Tie as tie
@@ -38,7 +39,8 @@ returns-2 c =
     let put-number = c .before .before .before .before .before .before .put-number in
     let put-refusal = c .before .before .put-refusal in
     let refusal = decimal (start .args .refusal) ∷ decimal (start .args .index) ∷ [] in
-    written (omega arith) (puts-field (decimal (start .args .number)) (bytes "refused") refusal (put-number .ensures) (put-refusal .ensures))
+    written (refused-fits (start .args .number) (start .args .refusal) (start .args .index) (omega arith) (omega arith) (omega arith)) (omega arith)
+    (puts-field (decimal (start .args .number)) (bytes "refused") refusal (put-number .ensures) (put-refusal .ensures))
 
 pub write-refused-spec : {M : Type 1} → statement M
 write-refused-spec =

@@ -6,6 +6,7 @@ use borrow.Author.Needs.{needs}
 use Rattle.letters.specs.Decimal.{decimal}
 use Rattle.letters.specs.Text.{bytes}
 use Rattle.listing.specs.Output.{tableRefusedLine}
+use Rattle.listing.proofs.Room.{table-refused-fits}
 use Rattle.listing.proofs.Lines.{puts-field, written, unwritten}
 use Rattle.listing.proofs.write_table_refused.Statement.{statement}
 use Rattle.listing.proofs.write_table_refused.Tie as tie
@@ -30,7 +31,8 @@ returns-2 c =
     let put-text = c .before .before .before .before .before .before .put-text in
     let put-refusal = c .before .before .put-refusal in
     let refusal = decimal (start .args .refusal) ∷ decimal (start .args .index) ∷ [] in
-    written (omega arith) (puts-field (bytes "table") (bytes "refused") refusal (put-text .ensures) (put-refusal .ensures))
+    written (table-refused-fits (start .args .refusal) (start .args .index) (omega arith) (omega arith)) (omega arith)
+    (puts-field (bytes "table") (bytes "refused") refusal (put-text .ensures) (put-refusal .ensures))
 
 pub write-table-refused-spec : {M : Type 1} → statement M
 write-table-refused-spec =

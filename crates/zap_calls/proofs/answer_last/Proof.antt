@@ -9,8 +9,6 @@ use borrow.Author.Needs.{needs}
 -- write_out(&output[..n]);
 slice-aggregate-write-out : tie.Need-slice-aggregate-write-out
 slice-aggregate-write-out c =
-    let start = c .before .before .before .before .before .before .before .before .before .before .before .before .before .before .before .before .before .before .before .before .before .before .before .before in
-    let if1 = c .before .before .before .before .before .before .before .before .before .before .before .before .before .before .before .before .before .if1 in
     let answer-call = c .before .before .before .before .before .before .before .before .before .before .before .answer-call in
     sym (length-take-le (answer-call .result) (answer-call .last .1 .1 .1 .1 .1 .0) (omega (arith, answer-call .ensures, answer-call .kept .1 .1 .1 .1 .1 .0)))
 

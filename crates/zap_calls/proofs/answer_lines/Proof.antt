@@ -26,7 +26,6 @@ abbrev μ-loop : tie.MeasureT-loop
 -- for _ in 0..TURNS {
 loop-holds : tie.Need-loop-holds Inv-loop μ-loop
 loop-holds c =
-    let start = c .before .before .before .before .before .before in
     (refl, refl, refl, refl, refl, refl, omega arith, omega arith)
 
 -- let got = read_some(0, &mut input[held..]).count;
@@ -34,28 +33,20 @@ sub-read-some : tie.Need-sub-read-some Inv-loop μ-loop
 sub-read-some c =
     let start = c .before .before .before .before .before .before .before .before in
     let loop = c .before .loop in
-    let loop-test = c .loop-test in
     omega (arith, loop .inv, start .pre)
 
 part-read-some-start : tie.Need-part-read-some-start Inv-loop μ-loop
 part-read-some-start c =
     let start = c .before .before .before .before .before .before .before .before in
     let loop = c .before .loop in
-    let loop-test = c .loop-test in
     omega (arith, loop .inv, start .pre)
 
 part-read-some-end : tie.Need-part-read-some-end Inv-loop μ-loop
 part-read-some-end c =
-    let start = c .before .before .before .before .before .before .before .before in
-    let loop = c .before .loop in
-    let loop-test = c .loop-test in
     search needs
 
 read-some-requires : tie.Need-read-some-requires Inv-loop μ-loop
 read-some-requires c κs =
-    let start = c .before .before .before .before .before .before .before .before .before in
-    let loop = c .before .before .loop in
-    let loop-test = c .before .loop-test in
     search needs
 
 -- answer_last(table, state, row, text, &input[..held], output);
@@ -63,123 +54,102 @@ slice-reshare-prefix-answer-last : tie.Need-slice-reshare-prefix-answer-last Inv
 slice-reshare-prefix-answer-last c =
     let start = c .before .before .before .before .before .before .before .before .before .before .before .before .before .before .before .before .before in
     let loop = c .before .before .before .before .before .before .before .before .before .before .loop in
-    let loop-test = c .before .before .before .before .before .before .before .before .before .loop-test in
     let read-some = c .before .before .before .before .before .before .before .read-some in
-    let if1 = c .before .before .before .before .if1 in
     let kept = same-len-mid (loop .held) (length (loop .input) - loop .held) (loop .input) (read-some .last .1 .0) (read-some .kept .1 .0) in
     omega (arith, loop .inv, start .pre)
 
 slice-aggregate-answer-last : tie.Need-slice-aggregate-answer-last Inv-loop μ-loop
 slice-aggregate-answer-last c =
-    let start = c .before .before .before .before .before .before .before .before .before .before .before .before .before .before .before .before .before .before in
-    let loop = c .before .before .before .before .before .before .before .before .before .before .before .loop in
-    let loop-test = c .before .before .before .before .before .before .before .before .before .before .loop-test in
-    let read-some = c .before .before .before .before .before .before .before .before .read-some in
-    let if1 = c .before .before .before .before .before .if1 in
+    let c8 = c .before .before .before .before .before .before .before .before in
+    let c16 = c8 .before .before .before .before .before .before .before .before in
+    let start = c16 .before .before in
+    let loop = c8 .before .before .before .loop in
+    let read-some = c8 .read-some in
     let kept = same-len-mid (loop .held) (length (loop .input) - loop .held) (loop .input) (read-some .last .1 .0) (read-some .kept .1 .0) in
     let input = putMid (loop .held) (length (loop .input) - loop .held) (loop .input) (read-some .last .1 .0) in
     sym (length-take-le (loop .held) input (omega (arith, loop .inv, start .pre)))
 
 answer-last-requires : tie.Need-answer-last-requires Inv-loop μ-loop
 answer-last-requires c κs =
-    let start = c .before .before .before .before .before .before .before .before .before .before .before .before .before .before .before .before .before .before .before in
-    let loop = c .before .before .before .before .before .before .before .before .before .before .before .before .loop in
-    let loop-test = c .before .before .before .before .before .before .before .before .before .before .before .loop-test in
-    let read-some = c .before .before .before .before .before .before .before .before .before .read-some in
-    let if1 = c .before .before .before .before .before .before .if1 in
+    let c8 = c .before .before .before .before .before .before .before .before in
+    let c16 = c8 .before .before .before .before .before .before .before .before in
+    let start = c16 .before .before .before in
+    let loop = c8 .before .before .before .before .loop in
     omega (arith, loop .inv, start .pre)
 
 -- return;
 same-length : tie.Need-same-length Inv-loop μ-loop
 same-length c =
-    let start = c .before .before .before .before .before .before .before .before .before .before .before .before .before .before .before .before .before .before .before .before .before .before .before .before .before .before .before .before .before .before in
-    let loop = c .before .before .before .before .before .before .before .before .before .before .before .before .before .before .before .before .before .before .before .before .before .before .before .loop in
-    let loop-test = c .before .before .before .before .before .before .before .before .before .before .before .before .before .before .before .before .before .before .before .before .before .before .loop-test in
-    let read-some = c .before .before .before .before .before .before .before .before .before .before .before .before .before .before .before .before .before .before .before .before .read-some in
-    let if1 = c .before .before .before .before .before .before .before .before .before .before .before .before .before .before .before .before .before .if1 in
-    let answer-last = c .before .before .before .before .before .before .before .before .before .before .answer-last in
+    let c8 = c .before .before .before .before .before .before .before .before in
+    let c16 = c8 .before .before .before .before .before .before .before .before in
+    let loop = c16 .before .before .before .before .before .before .before .loop in
+    let answer-last = c8 .before .before .answer-last in
     answer-last .kept .0 ∙ loop .inv .0
 
 same-length-2 : tie.Need-same-length-2 Inv-loop μ-loop
 same-length-2 c =
-    let start = c .before .before .before .before .before .before .before .before .before .before .before .before .before .before .before .before .before .before .before .before .before .before .before .before .before .before .before .before .before .before in
-    let loop = c .before .before .before .before .before .before .before .before .before .before .before .before .before .before .before .before .before .before .before .before .before .before .before .loop in
-    let loop-test = c .before .before .before .before .before .before .before .before .before .before .before .before .before .before .before .before .before .before .before .before .before .before .loop-test in
-    let read-some = c .before .before .before .before .before .before .before .before .before .before .before .before .before .before .before .before .before .before .before .before .read-some in
-    let if1 = c .before .before .before .before .before .before .before .before .before .before .before .before .before .before .before .before .before .if1 in
-    let answer-last = c .before .before .before .before .before .before .before .before .before .before .answer-last in
+    let c8 = c .before .before .before .before .before .before .before .before in
+    let c16 = c8 .before .before .before .before .before .before .before .before in
+    let loop = c16 .before .before .before .before .before .before .before .loop in
+    let answer-last = c8 .before .before .answer-last in
     answer-last .kept .1 .0 ∙ loop .inv .1
 
 same-length-3 : tie.Need-same-length-3 Inv-loop μ-loop
 same-length-3 c =
-    let start = c .before .before .before .before .before .before .before .before .before .before .before .before .before .before .before .before .before .before .before .before .before .before .before .before .before .before .before .before .before .before in
-    let loop = c .before .before .before .before .before .before .before .before .before .before .before .before .before .before .before .before .before .before .before .before .before .before .before .loop in
-    let loop-test = c .before .before .before .before .before .before .before .before .before .before .before .before .before .before .before .before .before .before .before .before .before .before .loop-test in
-    let read-some = c .before .before .before .before .before .before .before .before .before .before .before .before .before .before .before .before .before .before .before .before .read-some in
-    let if1 = c .before .before .before .before .before .before .before .before .before .before .before .before .before .before .before .before .before .if1 in
-    let answer-last = c .before .before .before .before .before .before .before .before .before .before .answer-last in
+    let c8 = c .before .before .before .before .before .before .before .before in
+    let c16 = c8 .before .before .before .before .before .before .before .before in
+    let loop = c16 .before .before .before .before .before .before .before .loop in
+    let answer-last = c8 .before .before .answer-last in
     answer-last .kept .1 .1 .0 ∙ loop .inv .2
 
 same-length-4 : tie.Need-same-length-4 Inv-loop μ-loop
 same-length-4 c =
-    let start = c .before .before .before .before .before .before .before .before .before .before .before .before .before .before .before .before .before .before .before .before .before .before .before .before .before .before .before .before .before .before in
-    let loop = c .before .before .before .before .before .before .before .before .before .before .before .before .before .before .before .before .before .before .before .before .before .before .before .loop in
-    let loop-test = c .before .before .before .before .before .before .before .before .before .before .before .before .before .before .before .before .before .before .before .before .before .before .loop-test in
-    let read-some = c .before .before .before .before .before .before .before .before .before .before .before .before .before .before .before .before .before .before .before .before .read-some in
-    let if1 = c .before .before .before .before .before .before .before .before .before .before .before .before .before .before .before .before .before .if1 in
-    let answer-last = c .before .before .before .before .before .before .before .before .before .before .answer-last in
+    let c8 = c .before .before .before .before .before .before .before .before in
+    let c16 = c8 .before .before .before .before .before .before .before .before in
+    let loop = c16 .before .before .before .before .before .before .before .loop in
+    let answer-last = c8 .before .before .answer-last in
     answer-last .kept .1 .1 .1 .0 ∙ loop .inv .3
 
 same-length-5 : tie.Need-same-length-5 Inv-loop μ-loop
 same-length-5 c =
-    let start = c .before .before .before .before .before .before .before .before .before .before .before .before .before .before .before .before .before .before .before .before .before .before .before .before .before .before .before .before .before .before in
-    let loop = c .before .before .before .before .before .before .before .before .before .before .before .before .before .before .before .before .before .before .before .before .before .before .before .loop in
-    let loop-test = c .before .before .before .before .before .before .before .before .before .before .before .before .before .before .before .before .before .before .before .before .before .before .loop-test in
-    let read-some = c .before .before .before .before .before .before .before .before .before .before .before .before .before .before .before .before .before .before .before .before .read-some in
-    let if1 = c .before .before .before .before .before .before .before .before .before .before .before .before .before .before .before .before .before .if1 in
-    let answer-last = c .before .before .before .before .before .before .before .before .before .before .answer-last in
+    let c8 = c .before .before .before .before .before .before .before .before in
+    let c16 = c8 .before .before .before .before .before .before .before .before in
+    let loop = c16 .before .before .before .before .before .before .before .loop in
+    let read-some = c16 .before .before .before .before .read-some in
     let kept = same-len-mid (loop .held) (length (loop .input) - loop .held) (loop .input) (read-some .last .1 .0) (read-some .kept .1 .0) in
     kept ∙ loop .inv .4
 
 same-length-6 : tie.Need-same-length-6 Inv-loop μ-loop
 same-length-6 c =
-    let start = c .before .before .before .before .before .before .before .before .before .before .before .before .before .before .before .before .before .before .before .before .before .before .before .before .before .before .before .before .before .before in
-    let loop = c .before .before .before .before .before .before .before .before .before .before .before .before .before .before .before .before .before .before .before .before .before .before .before .loop in
-    let loop-test = c .before .before .before .before .before .before .before .before .before .before .before .before .before .before .before .before .before .before .before .before .before .before .loop-test in
-    let read-some = c .before .before .before .before .before .before .before .before .before .before .before .before .before .before .before .before .before .before .before .before .read-some in
-    let if1 = c .before .before .before .before .before .before .before .before .before .before .before .before .before .before .before .before .before .if1 in
-    let answer-last = c .before .before .before .before .before .before .before .before .before .before .answer-last in
+    let c8 = c .before .before .before .before .before .before .before .before in
+    let c16 = c8 .before .before .before .before .before .before .before .before in
+    let loop = c16 .before .before .before .before .before .before .before .loop in
+    let answer-last = c8 .before .before .answer-last in
     answer-last .kept .1 .1 .1 .1 .1 .0 ∙ loop .inv .5
 
 returns : tie.Need-returns Inv-loop μ-loop
 returns c =
-    let start = c .before .before .before .before .before .before .before .before .before .before .before .before .before .before .before .before .before .before .before .before .before .before .before .before .before .before .before .before .before .before in
-    let loop = c .before .before .before .before .before .before .before .before .before .before .before .before .before .before .before .before .before .before .before .before .before .before .before .loop in
-    let loop-test = c .before .before .before .before .before .before .before .before .before .before .before .before .before .before .before .before .before .before .before .before .before .before .loop-test in
-    let read-some = c .before .before .before .before .before .before .before .before .before .before .before .before .before .before .before .before .before .before .before .before .read-some in
-    let if1 = c .before .before .before .before .before .before .before .before .before .before .before .before .before .before .before .before .before .if1 in
-    let answer-last = c .before .before .before .before .before .before .before .before .before .before .answer-last in
     search needs
 
 -- held = answer_block(table, state, row, text, input, held, held + got, output);
 add-answer-block : tie.Need-add-answer-block Inv-loop μ-loop
 add-answer-block c =
-    let start = c .before .before .before .before .before .before .before .before .before .before .before .before .before .before .before .before .before .before in
-    let loop = c .before .before .before .before .before .before .before .before .before .before .before .loop in
-    let loop-test = c .before .before .before .before .before .before .before .before .before .before .loop-test in
-    let read-some = c .before .before .before .before .before .before .before .before .read-some in
-    let if1 = c .before .before .before .before .before .if1 in
+    let c8 = c .before .before .before .before .before .before .before .before in
+    let c16 = c8 .before .before .before .before .before .before .before .before in
+    let start = c16 .before .before in
+    let loop = c8 .before .before .before .loop in
+    let read-some = c8 .read-some in
     let kept = same-len-mid (loop .held) (length (loop .input) - loop .held) (loop .input) (read-some .last .1 .0) (read-some .kept .1 .0) in
     let long = mid-len (loop .held) (length (loop .input)) (loop .input) (omega (arith, loop .inv, start .pre)) in
     omega (arith, loop .inv, start .pre, read-some .ensures, read-some .kept .1 .0)
 
 answer-block-requires : tie.Need-answer-block-requires Inv-loop μ-loop
 answer-block-requires c κs =
-    let start = c .before .before .before .before .before .before .before .before .before .before .before .before .before .before .before .before .before .before .before in
-    let loop = c .before .before .before .before .before .before .before .before .before .before .before .before .loop in
-    let loop-test = c .before .before .before .before .before .before .before .before .before .before .before .loop-test in
-    let read-some = c .before .before .before .before .before .before .before .before .before .read-some in
-    let if1 = c .before .before .before .before .before .before .if1 in
+    let c8 = c .before .before .before .before .before .before .before .before in
+    let c16 = c8 .before .before .before .before .before .before .before .before in
+    let start = c16 .before .before .before in
+    let loop = c8 .before .before .before .before .loop in
+    let read-some = c8 .before .read-some in
     let kept = same-len-mid (loop .held) (length (loop .input) - loop .held) (loop .input) (read-some .last .1 .0) (read-some .kept .1 .0) in
     let long = mid-len (loop .held) (length (loop .input)) (loop .input) (omega (arith, loop .inv, start .pre)) in
     omega (arith, loop .inv, start .pre, read-some .ensures, read-some .kept .1 .0)
@@ -187,32 +157,29 @@ answer-block-requires c κs =
 -- for _ in 0..TURNS {
 add-counter : tie.Need-add-counter Inv-loop μ-loop
 add-counter c =
-    let start = c .before .before .before .before .before .before .before .before .before .before .before .before .before .before .before .before .before .before .before .before .before .before .before .before .before .before .before .before .before .before .before .before in
-    let loop = c .before .before .before .before .before .before .before .before .before .before .before .before .before .before .before .before .before .before .before .before .before .before .before .before .before .loop in
-    let loop-test = c .before .before .before .before .before .before .before .before .before .before .before .before .before .before .before .before .before .before .before .before .before .before .before .before .loop-test in
-    let read-some = c .before .before .before .before .before .before .before .before .before .before .before .before .before .before .before .before .before .before .before .before .before .before .read-some in
-    let if1 = c .before .before .before .before .before .before .before .before .before .before .before .before .before .before .before .before .before .before .before .if1 in
-    let answer-block = c .before .before .before .before .before .before .before .before .before .before .before .before .answer-block in
+    let c8 = c .before .before .before .before .before .before .before .before in
+    let c16 = c8 .before .before .before .before .before .before .before .before in
+    let c24 = c16 .before .before .before .before .before .before .before .before in
+    let loop-test = c24 .loop-test in
     omega (arith, loop-test .taken)
 
 loop-less : tie.Need-loop-less Inv-loop μ-loop
 loop-less c =
-    let start = c .before .before .before .before .before .before .before .before .before .before .before .before .before .before .before .before .before .before .before .before .before .before .before .before .before .before .before .before .before .before .before .before in
-    let loop = c .before .before .before .before .before .before .before .before .before .before .before .before .before .before .before .before .before .before .before .before .before .before .before .before .before .loop in
-    let loop-test = c .before .before .before .before .before .before .before .before .before .before .before .before .before .before .before .before .before .before .before .before .before .before .before .before .loop-test in
-    let read-some = c .before .before .before .before .before .before .before .before .before .before .before .before .before .before .before .before .before .before .before .before .before .before .read-some in
-    let if1 = c .before .before .before .before .before .before .before .before .before .before .before .before .before .before .before .before .before .before .before .if1 in
-    let answer-block = c .before .before .before .before .before .before .before .before .before .before .before .before .answer-block in
+    let c8 = c .before .before .before .before .before .before .before .before in
+    let c16 = c8 .before .before .before .before .before .before .before .before in
+    let c24 = c16 .before .before .before .before .before .before .before .before in
+    let loop-test = c24 .loop-test in
     omega (arith, loop-test .taken)
 
 loop-again : tie.Need-loop-again Inv-loop μ-loop
 loop-again c =
-    let start = c .before .before .before .before .before .before .before .before .before .before .before .before .before .before .before .before .before .before .before .before .before .before .before .before .before .before .before .before .before .before .before .before in
-    let loop = c .before .before .before .before .before .before .before .before .before .before .before .before .before .before .before .before .before .before .before .before .before .before .before .before .before .loop in
-    let loop-test = c .before .before .before .before .before .before .before .before .before .before .before .before .before .before .before .before .before .before .before .before .before .before .before .before .loop-test in
-    let read-some = c .before .before .before .before .before .before .before .before .before .before .before .before .before .before .before .before .before .before .before .before .before .before .read-some in
-    let if1 = c .before .before .before .before .before .before .before .before .before .before .before .before .before .before .before .before .before .before .before .if1 in
-    let answer-block = c .before .before .before .before .before .before .before .before .before .before .before .before .answer-block in
+    let c8 = c .before .before .before .before .before .before .before .before in
+    let c16 = c8 .before .before .before .before .before .before .before .before in
+    let c24 = c16 .before .before .before .before .before .before .before .before in
+    let loop = c24 .before .loop in
+    let loop-test = c24 .loop-test in
+    let read-some = c16 .before .before .before .before .before .before .read-some in
+    let answer-block = c8 .before .before .before .before .answer-block in
     let kept = same-len-mid (loop .held) (length (loop .input) - loop .held) (loop .input) (read-some .last .1 .0) (read-some .kept .1 .0) in (
       answer-block .kept .0 ∙ loop .inv .0,
       answer-block .kept .1 .0 ∙ loop .inv .1,
@@ -227,51 +194,36 @@ loop-again c =
 -- fn answer_lines
 same-length-7 : tie.Need-same-length-7 Inv-loop μ-loop
 same-length-7 c =
-    let start = c .before .before .before .before .before .before .before .before in
     let loop = c .before .loop in
-    let loop-test = c .loop-test in
     loop .inv .0
 
 same-length-8 : tie.Need-same-length-8 Inv-loop μ-loop
 same-length-8 c =
-    let start = c .before .before .before .before .before .before .before .before in
     let loop = c .before .loop in
-    let loop-test = c .loop-test in
     loop .inv .1
 
 same-length-9 : tie.Need-same-length-9 Inv-loop μ-loop
 same-length-9 c =
-    let start = c .before .before .before .before .before .before .before .before in
     let loop = c .before .loop in
-    let loop-test = c .loop-test in
     loop .inv .2
 
 same-length-10 : tie.Need-same-length-10 Inv-loop μ-loop
 same-length-10 c =
-    let start = c .before .before .before .before .before .before .before .before in
     let loop = c .before .loop in
-    let loop-test = c .loop-test in
     loop .inv .3
 
 same-length-11 : tie.Need-same-length-11 Inv-loop μ-loop
 same-length-11 c =
-    let start = c .before .before .before .before .before .before .before .before in
     let loop = c .before .loop in
-    let loop-test = c .loop-test in
     loop .inv .4
 
 same-length-12 : tie.Need-same-length-12 Inv-loop μ-loop
 same-length-12 c =
-    let start = c .before .before .before .before .before .before .before .before in
     let loop = c .before .loop in
-    let loop-test = c .loop-test in
     loop .inv .5
 
 returns-2 : tie.Need-returns-2 Inv-loop μ-loop
 returns-2 c =
-    let start = c .before .before .before .before .before .before .before .before in
-    let loop = c .before .loop in
-    let loop-test = c .loop-test in
     search needs
 
 pub answer-lines-spec : {M : Type 1} → statement M

@@ -10,7 +10,6 @@ use borrow.Author.Needs.{needs}
 slice-aggregate-write-out : tie.Need-slice-aggregate-write-out
 slice-aggregate-write-out c =
     let start = c .before .before .before in
-    let if1 = c .before .if1 in
     sym (length-take-le (start .args .filled) (start .args .output .now) (omega arith))
 
 pub room-for-answer-spec : {M : Type 1} → statement M

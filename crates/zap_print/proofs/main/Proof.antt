@@ -3,6 +3,7 @@ use Rattle.zap_print.proofs.main.Statement.{statement}
 use Rattle.zap_print.proofs.main.Tie as tie
 use borrow.Author.Needs.{needs}
 use mathlib.Core.Path.{sym}
+use native.Mathlib.Omega.{arith}
 use lib.Seq.{length-take-le}
 use Rattle.zap_print.proofs.Printing.{printed-within}
 
@@ -25,6 +26,16 @@ slice-aggregate-write-all c =
     let answer = c .before .before .answer in
     sym (length-take-le (answer .given .0 .0) (print .last .1 .0) (printed-within (print .ensures) (answer .given .1)))
 
+array-share-prefix-text-2 : tie.Need-array-share-prefix-text-2
+array-share-prefix-text-2 c =
+    let write-table-refused = c .before .write-table-refused in
+    omega (arith, write-table-refused .ensures .within, write-table-refused .kept .0)
+
+slice-aggregate-write-all-2 : tie.Need-slice-aggregate-write-all-2
+slice-aggregate-write-all-2 c =
+    let refused = c .before .before .write-table-refused in
+    sym (length-take-le (refused .result) (refused .last .0) (omega (arith, refused .ensures .within, refused .kept .0)))
+
 pub main-spec : {M : Type 1} → statement M
 main-spec =
     tie.close (tie.spec
@@ -40,6 +51,10 @@ main-spec =
     slice-aggregate-write-all
     (λ c κs. search needs)  -- write-all-requires
     (λ c κs. search needs)  -- refusal-of-print-requires: let refusal = refusal_of_print(answer);
-    (λ c κs. search needs)  -- tell-table-refused-requires: tell_table_refused(refusal.number, refusal.index);
+    (λ c. search needs)  -- slice-aggregate-write-table-refused: let n = write_table_refused(&mut text, refus..
+    (λ c κs. search needs)  -- write-table-refused-requires
+    array-share-prefix-text-2
+    slice-aggregate-write-all-2
+    (λ c κs. search needs)  -- write-all-requires-2
     (λ c. search needs)  -- returns: fn main
     (λ c. search needs))  -- returns-2

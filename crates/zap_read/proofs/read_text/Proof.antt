@@ -36,6 +36,17 @@ slice-aggregate-write-table c =
     let answer2 = c .before .before .answer2 in
     sym (length-take-le (answer2 .given .0 .0) (read .last .1 .0) (read-within (read .ensures) (answer2 .given .1)))
 
+-- write_all(1, &table[..n]);
+array-share-prefix-table-2 : tie.Need-array-share-prefix-table-2
+array-share-prefix-table-2 c =
+    let write-table-refused = c .before .write-table-refused in
+    omega (arith, write-table-refused .ensures .within, write-table-refused .kept .0)
+
+slice-aggregate-write-all : tie.Need-slice-aggregate-write-all
+slice-aggregate-write-all c =
+    let refused = c .before .before .write-table-refused in
+    sym (length-take-le (refused .result) (refused .last .0) (omega (arith, refused .ensures .within, refused .kept .0)))
+
 pub read-text-spec : {M : Type 1} → statement M
 read-text-spec =
     tie.close (tie.spec
@@ -51,7 +62,11 @@ read-text-spec =
     slice-aggregate-write-table
     (λ c κs. search needs)  -- write-table-requires
     (λ c κs. search needs)  -- refusal-of-read-requires: let refusal = refusal_of_read(answer);
-    (λ c κs. search needs)  -- tell-table-refused-requires: tell_table_refused(refusal.number, refusal.index);
+    (λ c. search needs)  -- slice-aggregate-write-table-refused: let n = write_table_refused(&mut table, refus..
+    (λ c κs. search needs)  -- write-table-refused-requires
+    array-share-prefix-table-2
+    slice-aggregate-write-all
+    (λ c κs. search needs)  -- write-all-requires
     (λ c. search needs)  -- same-length: fn read_text
     (λ c. search needs)  -- returns
     (λ c. search needs)  -- same-length-2

@@ -40,9 +40,11 @@ answer-line-requires c κs =
 
 add-filled : tie.Need-add-filled Inv-loop μ-loop
 add-filled c =
-    let start = c .before .before .before .before .before .before .before .before .before .before .before .before .before .before .before .before .before .before .before .before .before .before .before in
-    let loop = c .before .before .before .before .before .before .before .before .before .before .before .before .before .before .before .loop in
-    let room-for-line = c .before .before .before .before .before .before .before .before .before .before .before .before .room-for-line in
+    let c8 = c .before .before .before .before .before .before .before .before in
+    let c16 = c8 .before .before .before .before .before .before .before .before in
+    let start = c16 .before .before .before .before .before .before .before in
+    let loop = c8 .before .before .before .before .before .before .before .loop in
+    let room-for-line = c8 .before .before .before .before .room-for-line in
     let answer-line = c .before .before .before .before .before .before .answer-line in
     let long = mid-len (room-for-line .result) (length (loop .output)) (loop .output) (omega arith) in
     omega (arith, answer-line .ensures .within, loop .inv, start .pre)
@@ -50,43 +52,55 @@ add-filled c =
 -- next += 1;
 add-next : tie.Need-add-next Inv-loop μ-loop
 add-next c =
-    let start = c .before .before .before .before .before .before .before .before .before .before .before .before .before .before .before .before .before .before .before .before .before .before .before in
-    let loop = c .before .before .before .before .before .before .before .before .before .before .before .before .before .before .before .loop in
-    let loop-test = c .before .before .before .before .before .before .before .before .before .before .before .before .before .before .loop-test in
+    let c8 = c .before .before .before .before .before .before .before .before in
+    let c16 = c8 .before .before .before .before .before .before .before .before in
+    let start = c16 .before .before .before .before .before .before .before in
+    let loop = c8 .before .before .before .before .before .before .before .loop in
+    let loop-test = c8 .before .before .before .before .before .before .loop-test in
     omega (arith, loop .inv, start .pre, loop-test .taken)
 
 -- from = end + 1;
 add-from : tie.Need-add-from Inv-loop μ-loop
 add-from c =
-    let start = c .before .before .before .before .before .before .before .before .before .before .before .before .before .before .before .before .before .before .before .before .before .before .before in
-    let loop = c .before .before .before .before .before .before .before .before .before .before .before .before .before .before .before .loop in
-    let loop-test = c .before .before .before .before .before .before .before .before .before .before .before .before .before .before .loop-test in
+    let c8 = c .before .before .before .before .before .before .before .before in
+    let c16 = c8 .before .before .before .before .before .before .before .before in
+    let start = c16 .before .before .before .before .before .before .before in
+    let loop = c8 .before .before .before .before .before .before .before .loop in
+    let loop-test = c8 .before .before .before .before .before .before .loop-test in
     omega (arith, loop .inv, start .pre, loop-test .taken)
 
 -- end = bytes::scan::find(input, from, to, 10);
 find-requires-2 : tie.Need-find-requires-2 Inv-loop μ-loop
 find-requires-2 c κs =
-    let start = c .before .before .before .before .before .before .before .before .before .before .before .before .before .before .before .before .before .before .before .before .before .before .before .before in
-    let loop = c .before .before .before .before .before .before .before .before .before .before .before .before .before .before .before .before .loop in
-    let loop-test = c .before .before .before .before .before .before .before .before .before .before .before .before .before .before .before .loop-test in
+    let c8 = c .before .before .before .before .before .before .before .before in
+    let c16 = c8 .before .before .before .before .before .before .before .before in
+    let c24 = c16 .before .before .before .before .before .before .before .before in
+    let start = c24 in
+    let loop = c16 .loop in
+    let loop-test = c8 .before .before .before .before .before .before .before .loop-test in
     omega (arith, loop .inv, start .pre, loop-test .taken)
 
 -- while end < to {
 loop-less : tie.Need-loop-less Inv-loop μ-loop
 loop-less c =
-    let loop = c .before .before .before .before .before .before .before .before .before .before .before .before .before .before .before .before .before .loop in
-    let loop-test = c .before .before .before .before .before .before .before .before .before .before .before .before .before .before .before .before .loop-test in
+    let c8 = c .before .before .before .before .before .before .before .before in
+    let c16 = c8 .before .before .before .before .before .before .before .before in
+    let loop = c16 .before .loop in
+    let loop-test = c16 .loop-test in
     let find2 = c .find2 in
     omega (arith, find2 .ensures, loop .inv, loop-test .taken)
 
 loop-again : tie.Need-loop-again Inv-loop μ-loop
 loop-again c =
-    let loop = c .before .before .before .before .before .before .before .before .before .before .before .before .before .before .before .before .before .loop in
-    let room-for-line = c .before .before .before .before .before .before .before .before .before .before .before .before .before .before .room-for-line in
-    let answer-line = c .before .before .before .before .before .before .before .before .answer-line in
+    let c8 = c .before .before .before .before .before .before .before .before in
+    let c16 = c8 .before .before .before .before .before .before .before .before in
+    let loop = c16 .before .loop in
+    let room-for-line = c8 .before .before .before .before .before .before .room-for-line in
+    let answer-line = c8 .answer-line in
     let find2 = c .find2 in
     let long = mid-len (room-for-line .result) (length (loop .output)) (loop .output) (omega arith) in
-    let kept = same-len-mid (room-for-line .result) (length (loop .output) - room-for-line .result) (loop .output) (answer-line .last .1 .1 .1 .1 .1 .0) (answer-line .kept .1 .1 .1 .1 .1 .0) in (
+    let kept = same-len-mid (room-for-line .result) (length (loop .output) - room-for-line .result) (loop .output)
+    (answer-line .last .1 .1 .1 .1 .1 .0) (answer-line .kept .1 .1 .1 .1 .1 .0) in (
       answer-line .kept .1 .0 ∙ loop .inv .0,
       answer-line .kept .1 .1 .0 ∙ loop .inv .1,
       kept ∙ loop .inv .2,

@@ -10,7 +10,8 @@ use lib.Seq.{length-take-le}
 slice-aggregate-write-out : tie.Need-slice-aggregate-write-out
 slice-aggregate-write-out c =
     let answer-line = c .before .before .before .before .before .before .before .answer-line in
-    sym (length-take-le (answer-line .result) (answer-line .last .1 .1 .1 .1 .1 .0) (omega (arith, answer-line .ensures .within, answer-line .kept .1 .1 .1 .1 .1 .0)))
+    sym (length-take-le (answer-line .result) (answer-line .last .1 .1 .1 .1 .1 .0)
+    (omega (arith, answer-line .ensures .within, answer-line .kept .1 .1 .1 .1 .1 .0)))
 
 pub list-last-spec : {M : Type 1} → statement M
 list-last-spec =

@@ -1,4 +1,4 @@
--- `list_lines` is safe and ends: the rooms keep their lengths, a block holds at most 1,025 bytes back, and a read has at most 65,536 lines.
+-- `list_lines` is safe and ends: the rooms keep their lengths, a block holds at most a byte more than the longest good line back, and a read has at most 65,536 lines.
 use Rattle.zap_run.proofs.list_lines.Statement.{statement}
 use Rattle.zap_run.proofs.list_lines.Tie as tie
 use borrow.Author.Needs.{needs}
@@ -7,6 +7,7 @@ use Prim.Native.Nat.{_+_, _*_, _-_, _≤_}
 use native.Mathlib.Omega.{arith}
 use lib.ListN.{length}
 use lib.Seq.{length-take-le}
+use Rattle.listing.specs.Input.{longest}
 use borrow.Rule.Slice.PartMut.{putMid, same-len-mid, mid-len}
 
 abbrev Inv-loop : tie.InvT-loop
@@ -15,7 +16,7 @@ Inv-loop table state₀ row₀ input₀ output₀ number₀ held₀ counter₀ s
     × (length row ≡ length row₀)
     × (length input ≡ length input₀)
     × (length output ≡ length output₀)
-    × (held ≤ 1025)
+    × (held ≤ longest + 1)
     × (counter ≤ 140737488355328)
     × (number ≤ 65536 * counter + 1)
 
@@ -56,26 +57,34 @@ list-last-requires c κs =
 -- return;
 same-length : tie.Need-same-length Inv-loop μ-loop
 same-length c =
-    let loop = c .before .before .before .before .before .before .before .before .before .before .before .before .before .before .before .before .before .loop in
+    let c8 = c .before .before .before .before .before .before .before .before in
+    let c16 = c8 .before .before .before .before .before .before .before .before in
+    let loop = c16 .before .loop in
     let list-last = c .before .before .before .before .before .before .list-last in
     list-last .kept .1 .0 ∙ loop .inv .0
 
 same-length-2 : tie.Need-same-length-2 Inv-loop μ-loop
 same-length-2 c =
-    let loop = c .before .before .before .before .before .before .before .before .before .before .before .before .before .before .before .before .before .loop in
+    let c8 = c .before .before .before .before .before .before .before .before in
+    let c16 = c8 .before .before .before .before .before .before .before .before in
+    let loop = c16 .before .loop in
     let list-last = c .before .before .before .before .before .before .list-last in
     list-last .kept .1 .1 .0 ∙ loop .inv .1
 
 same-length-3 : tie.Need-same-length-3 Inv-loop μ-loop
 same-length-3 c =
-    let loop = c .before .before .before .before .before .before .before .before .before .before .before .before .before .before .before .before .before .loop in
-    let read-some = c .before .before .before .before .before .before .before .before .before .before .before .before .before .before .read-some in
+    let c8 = c .before .before .before .before .before .before .before .before in
+    let c16 = c8 .before .before .before .before .before .before .before .before in
+    let loop = c16 .before .loop in
+    let read-some = c8 .before .before .before .before .before .before .read-some in
     let kept = same-len-mid (loop .held) (length (loop .input) - loop .held) (loop .input) (read-some .last .1 .0) (read-some .kept .1 .0) in
     kept ∙ loop .inv .2
 
 same-length-4 : tie.Need-same-length-4 Inv-loop μ-loop
 same-length-4 c =
-    let loop = c .before .before .before .before .before .before .before .before .before .before .before .before .before .before .before .before .before .loop in
+    let c8 = c .before .before .before .before .before .before .before .before in
+    let c16 = c8 .before .before .before .before .before .before .before .before in
+    let loop = c16 .before .loop in
     let list-last = c .before .before .before .before .before .before .list-last in
     list-last .kept .1 .1 .1 .1 .1 .0 ∙ loop .inv .3
 
@@ -102,21 +111,28 @@ list-block-requires c κs =
 -- for _ in 0..TURNS {
 add-counter : tie.Need-add-counter Inv-loop μ-loop
 add-counter c =
-    let loop-test = c .before .before .before .before .before .before .before .before .before .before .before .before .before .before .before .before .before .before .loop-test in
+    let c8 = c .before .before .before .before .before .before .before .before in
+    let c16 = c8 .before .before .before .before .before .before .before .before in
+    let loop-test = c16 .before .before .loop-test in
     omega (arith, loop-test .taken)
 
 loop-less : tie.Need-loop-less Inv-loop μ-loop
 loop-less c =
-    let loop-test = c .before .before .before .before .before .before .before .before .before .before .before .before .before .before .before .before .before .before .loop-test in
+    let c8 = c .before .before .before .before .before .before .before .before in
+    let c16 = c8 .before .before .before .before .before .before .before .before in
+    let loop-test = c16 .before .before .loop-test in
     omega (arith, loop-test .taken)
 
 loop-again : tie.Need-loop-again Inv-loop μ-loop
 loop-again c =
-    let start = c .before .before .before .before .before .before .before .before .before .before .before .before .before .before .before .before .before .before .before .before .before .before .before .before .before in
-    let loop = c .before .before .before .before .before .before .before .before .before .before .before .before .before .before .before .before .before .before .before .loop in
-    let loop-test = c .before .before .before .before .before .before .before .before .before .before .before .before .before .before .before .before .before .before .loop-test in
-    let read-some = c .before .before .before .before .before .before .before .before .before .before .before .before .before .before .before .before .read-some in
-    let list-block = c .before .before .before .before .before .before .before .before .list-block in
+    let c8 = c .before .before .before .before .before .before .before .before in
+    let c16 = c8 .before .before .before .before .before .before .before .before in
+    let c24 = c16 .before .before .before .before .before .before .before .before in
+    let start = c24 .before in
+    let loop = c16 .before .before .before .loop in
+    let loop-test = c16 .before .before .loop-test in
+    let read-some = c16 .read-some in
+    let list-block = c8 .list-block in
     let kept = same-len-mid (loop .held) (length (loop .input) - loop .held) (loop .input) (read-some .last .1 .0) (read-some .kept .1 .0) in (
       list-block .kept .1 .0 ∙ loop .inv .0,
       list-block .kept .1 .1 .0 ∙ loop .inv .1,

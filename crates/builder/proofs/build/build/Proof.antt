@@ -47,10 +47,12 @@ relevel-requires c κs =
 -- while i > 0 {
 loop-again : tie.Need-loop-again Inv-loop μ-loop
 loop-again c =
-    let start = c .before .before .before .before .before .before .before .before .before .before .before .before .before .before .before .before .before .before .before in
-    let loop = c .before .before .before .before .before .before .before .before .before .before .before .before .before .before .before .loop in
-    let loop-test = c .before .before .before .before .before .before .before .before .before .before .before .before .before .before .loop-test in
-    let byte-at = c .before .before .before .before .before .before .before .before .before .before .before .byte-at in
+    let c8 = c .before .before .before .before .before .before .before .before in
+    let c16 = c8 .before .before .before .before .before .before .before .before in
+    let start = c16 .before .before .before in
+    let loop = c8 .before .before .before .before .before .before .before .loop in
+    let loop-test = c8 .before .before .before .before .before .before .loop-test in
+    let byte-at = c8 .before .before .before .byte-at in
     let place = c .before .before .before .before .before .before .before .place in
     let relevel = c .before .relevel in
     under-on (start .pre .1) (loop .inv) (loop-test .taken)

@@ -6,9 +6,11 @@ use native.Mathlib.Numerals.{towards-suc}
 -- fn put_trailer
 returns : tie.Need-returns
 returns c =
-    let put-word = c .before .before .before .before .before .before .before .before .before .before .before .before .before .before .before .before .before .before .put-word in
-    let put-word2 = c .before .before .before .before .before .before .before .before .before .before .before .before .before .before .put-word2 in
-    let put-word3 = c .before .before .before .before .before .before .before .before .before .before .put-word3 in
+    let c8 = c .before .before .before .before .before .before .before .before in
+    let c16 = c8 .before .before .before .before .before .before .before .before in
+    let put-word = c16 .before .before .put-word in
+    let put-word2 = c8 .before .before .before .before .before .before .put-word2 in
+    let put-word3 = c8 .before .before .put-word3 in
     let put-word4 = c .before .before .before .before .before .before .put-word4 in
     let put-word5 = c .before .before .put-word5 in
     rw (put-word5 .ensures, put-word4 .ensures, put-word3 .ensures, put-word2 .ensures, put-word .ensures) (simp towards-suc)

@@ -11,18 +11,18 @@ use borrow.Author.Needs.{needs}
 returns : tie.Need-returns
 unfolding byteAt
 returns c =
-    let start = c .before .before .before .before .before .before .before in
     let figure-of = c .before .before .before .before .figure-of in
     let figure-of2 = c .before .before .figure-of2 in
     let if1 = c .before .if1 in
-    let if2 = c .if2 in
-    (simp (sym (figure-of .ensures .0), sym (figure-of2 .ensures .0), lt-ltb _ _ (if1 .taken), lt-ltb _ _ (if2 .taken)), omega (arith, figure-of .ensures .1, figure-of2 .ensures .1))
+    let if2 = c .if2 in (
+      simp (sym (figure-of .ensures .0), sym (figure-of2 .ensures .0), lt-ltb _ _ (if1 .taken), lt-ltb _ _ (if2 .taken)),
+      omega (arith, figure-of .ensures .1, figure-of2 .ensures .1),
+    )
 
 -- fn byte_at
 returns-2 : tie.Need-returns-2
 unfolding byteAt
 returns-2 c =
-    let start = c .before .before .before .before .before .before .before in
     let figure-of = c .before .before .before .before .figure-of in
     let figure-of2 = c .before .before .figure-of2 in
     let if1 = c .before .if1 in
@@ -32,7 +32,6 @@ returns-2 c =
 returns-3 : tie.Need-returns-3
 unfolding byteAt
 returns-3 c =
-    let start = c .before .before .before .before .before .before in
     let figure-of = c .before .before .before .figure-of in
     let figure-of2 = c .before .figure-of2 in
     let if1 = c .if1 in

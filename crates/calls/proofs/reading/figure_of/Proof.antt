@@ -42,7 +42,8 @@ returns-4 c =
     let if2 = c .before .before .if2 in
     let if3 = c .before .if3 in
     let if4 = c .if4 in
-    (simp (lt-leb (start .args .b) 57 (if2 .left), le-leb 48 (start .args .b) (if1 .left), le-leb 97 (start .args .b) (if3 .left), le-leb (start .args .b) 102 (if4 .taken)), omega arith)
+    let b = start .args .b in
+    (simp (lt-leb b 57 (if2 .left), le-leb 48 b (if1 .left), le-leb 97 b (if3 .left), le-leb b 102 (if4 .taken)), omega arith)
 
 -- fn figure_of
 returns-5 : tie.Need-returns-5
@@ -53,7 +54,8 @@ returns-5 c =
     let if2 = c .before .before .if2 in
     let if3 = c .before .if3 in
     let if4 = c .if4 in
-    (simp (lt-leb (start .args .b) 57 (if2 .left), le-leb 48 (start .args .b) (if1 .left), le-leb 97 (start .args .b) (if3 .left), lt-leb (start .args .b) 102 (if4 .left)), omega arith)
+    let b = start .args .b in
+    (simp (lt-leb b 57 (if2 .left), le-leb 48 b (if1 .left), le-leb 97 b (if3 .left), lt-leb b 102 (if4 .left)), omega arith)
 
 pub figure-of-spec : {M : Type 1} → statement M
 figure-of-spec =

@@ -11,18 +11,18 @@ use borrow.Author.Needs.{needs}
 returns : tie.Need-returns
 unfolding numberAt
 returns c =
-    let start = c .before .before .before .before .before in
     let byte-at = c .before .before .before .byte-at in
     let byte-at2 = c .before .before .byte-at2 in
     let if1 = c .before .if1 in
-    let if2 = c .if2 in
-    (simp (sym (byte-at .ensures .0), sym (byte-at2 .ensures .0), lt-ltb _ _ (if1 .taken), lt-ltb _ _ (if2 .taken)), omega (arith, byte-at .ensures .1, byte-at2 .ensures .1))
+    let if2 = c .if2 in (
+      simp (sym (byte-at .ensures .0), sym (byte-at2 .ensures .0), lt-ltb _ _ (if1 .taken), lt-ltb _ _ (if2 .taken)),
+      omega (arith, byte-at .ensures .1, byte-at2 .ensures .1),
+    )
 
 -- fn number_at
 returns-2 : tie.Need-returns-2
 unfolding numberAt
 returns-2 c =
-    let start = c .before .before .before .before .before in
     let byte-at = c .before .before .before .byte-at in
     let byte-at2 = c .before .before .byte-at2 in
     let if1 = c .before .if1 in
@@ -32,7 +32,6 @@ returns-2 c =
 returns-3 : tie.Need-returns-3
 unfolding numberAt
 returns-3 c =
-    let start = c .before .before .before .before in
     let byte-at = c .before .before .byte-at in
     let byte-at2 = c .before .byte-at2 in
     let if1 = c .if1 in

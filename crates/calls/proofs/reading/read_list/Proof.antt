@@ -19,15 +19,11 @@ returns c =
 read-events-requires : tie.Need-read-events-requires
 unfolding figure
 read-events-requires c κs =
-    let start = c .before .before .before in
-    let is-dash = c .before .is-dash in
-    let if1 = c .if1 in
     refl
 
 -- pub fn read_list
 returns-2 : tie.Need-returns-2
 returns-2 c =
-    let start = c .before .before .before .before in
     let is-dash = c .before .before .is-dash in
     let if1 = c .before .if1 in
     let read-events = c .read-events in

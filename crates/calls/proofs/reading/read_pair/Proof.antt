@@ -17,7 +17,8 @@ returns c =
     let if1 = c .before .if1 in
     let unread-pair = c .unread-pair in
     let end = at-end (start .args .text .now) (find .ensures .0) in
-    rw (unread-pair .ensures .0, unread-pair .ensures .1, unread-pair .ensures .2) (PairRead.one-word (omega (arith, end, if1 .taken)), ((omega arith, refl), (omega arith, refl)))
+    rw (unread-pair .ensures .0, unread-pair .ensures .1, unread-pair .ensures .2)
+    (PairRead.one-word (omega (arith, end, if1 .taken)), ((omega arith, refl), (omega arith, refl)))
 
 -- let a = read_bytes(&text[..end], first);
 slice-aggregate-read-bytes : tie.Need-slice-aggregate-read-bytes
@@ -38,30 +39,36 @@ returns-2 c =
     let unread-pair2 = c .unread-pair2 in
     let end = at-end (start .args .text .now) (find .ensures .0) in
     let a = first-word (start .args .text .now) (find .ensures .0) (not-true _ (if2 .taken)) (read-bytes .ensures .0) in
-    rw (unread-pair2 .ensures .0, unread-pair2 .ensures .1, unread-pair2 .ensures .2) (PairRead.bad-first (omega (arith, end, if1 .left)) a, ((omega arith, refl), (omega arith, refl)))
+    rw (unread-pair2 .ensures .0, unread-pair2 .ensures .1, unread-pair2 .ensures .2)
+    (PairRead.bad-first (omega (arith, end, if1 .left)) a, ((omega arith, refl), (omega arith, refl)))
 
 returns-3 : tie.Need-returns-3
 returns-3 c =
-    let start = c .before .before .before .before .before .before .before .before .before .before .before .before .before .before .before .before .before .before .before .before in
-    let find = c .before .before .before .before .before .before .before .before .before .before .before .before .before .before .before .before .find in
-    let if1 = c .before .before .before .before .before .before .before .before .before .before .before .before .before .before .before .if1 in
-    let read-bytes = c .before .before .before .before .before .before .before .before .before .before .before .before .read-bytes in
-    let if2 = c .before .before .before .before .before .before .before .before .if2 in
+    let c8 = c .before .before .before .before .before .before .before .before in
+    let c16 = c8 .before .before .before .before .before .before .before .before in
+    let start = c16 .before .before .before .before in
+    let find = c16 .find in
+    let if1 = c8 .before .before .before .before .before .before .before .if1 in
+    let read-bytes = c8 .before .before .before .before .read-bytes in
+    let if2 = c8 .if2 in
     let read-bytes2 = c .before .before .before .before .before .read-bytes2 in
     let if3 = c .before .if3 in
     let unread-pair3 = c .unread-pair3 in
     let end = at-end (start .args .text .now) (find .ensures .0) in
     let a = first-word (start .args .text .now) (find .ensures .0) (not-false _ (if2 .left)) (read-bytes .ensures .0) in
     let b = second-word (start .args .text .now) (find .ensures .0) (not-true _ (if3 .taken)) (read-bytes2 .ensures .0) in
-    rw (unread-pair3 .ensures .0, unread-pair3 .ensures .1, unread-pair3 .ensures .2) (PairRead.bad-second (omega (arith, end, if1 .left)) a b, ((omega arith, refl), (omega arith, refl)))
+    rw (unread-pair3 .ensures .0, unread-pair3 .ensures .1, unread-pair3 .ensures .2)
+    (PairRead.bad-second (omega (arith, end, if1 .left)) a b, ((omega arith, refl), (omega arith, refl)))
 
 -- pub fn read_pair
 returns-4 : tie.Need-returns-4
 returns-4 c =
-    let start = c .before .before .before .before .before .before .before .before .before .before .before .before .before .before .before .before .before .before .before in
-    let find = c .before .before .before .before .before .before .before .before .before .before .before .before .before .before .before .find in
-    let if1 = c .before .before .before .before .before .before .before .before .before .before .before .before .before .before .if1 in
-    let read-bytes = c .before .before .before .before .before .before .before .before .before .before .before .read-bytes in
+    let c8 = c .before .before .before .before .before .before .before .before in
+    let c16 = c8 .before .before .before .before .before .before .before .before in
+    let start = c16 .before .before .before in
+    let find = c8 .before .before .before .before .before .before .before .find in
+    let if1 = c8 .before .before .before .before .before .before .if1 in
+    let read-bytes = c8 .before .before .before .read-bytes in
     let if2 = c .before .before .before .before .before .before .before .if2 in
     let read-bytes2 = c .before .before .before .before .read-bytes2 in
     let if3 = c .if3 in

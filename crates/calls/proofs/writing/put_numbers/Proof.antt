@@ -5,8 +5,8 @@ use native.Mathlib.Omega.{arith}
 use lib.ListN.{length, getD, take}
 use lib.Seq.{take-length}
 use Rattle.letters.proofs.Decimal.{decimal-length}
-use Rattle.listing.specs.Inside.{Puts}
-use Rattle.listing.proofs.Puts.{puts-none, puts-then, number-end}
+use Rattle.letters.specs.Rooms.{Puts}
+use Rattle.letters.proofs.Puts.{puts-none, puts-then, number-end}
 use Rattle.calls.specs.Words.{spaced}
 use Rattle.calls.proofs.Words.{spaced-more}
 use Rattle.calls.proofs.writing.put_numbers.Statement.{statement}
@@ -29,31 +29,25 @@ loop-holds : tie.Need-loop-holds Inv-loop μ-loop
 unfolding spaced
 loop-holds c =
     let start = c .before .before in
-    (omega arith, refl, refl, omega arith, puts-none (start .args .room .now) (start .args .at) (omega arith))
+    (omega arith, refl, refl, omega arith, puts-none (start .args .room .now) (start .args .at))
 
 -- to = put_number(room, to, list[i], 32);
 put-number-requires : tie.Need-put-number-requires Inv-loop μ-loop
 put-number-requires c κs =
     let start = c .before .before .before .before .before .before in
     let loop = c .before .before .before .loop in
-    let loop-test = c .before .before .loop-test in
     let n = getD (start .args .list .now) (loop .i) 0 in
     omega (arith, loop .inv, decimal-length 19 n (omega (arith, c .shared-slice-known2 .given (loop .i))))
 
 -- for i in 0..list.len() {
 loop-less : tie.Need-loop-less Inv-loop μ-loop
 loop-less c =
-    let start = c .before .before .before .before .before .before .before .before .before in
-    let loop = c .before .before .before .before .before .before .loop in
-    let loop-test = c .before .before .before .before .before .loop-test in
-    let put-number = c .before .before .put-number in
     omega arith
 
 loop-again : tie.Need-loop-again Inv-loop μ-loop
 loop-again c =
     let start = c .before .before .before .before .before .before .before .before .before in
     let loop = c .before .before .before .before .before .before .loop in
-    let loop-test = c .before .before .before .before .before .loop-test in
     let put-number = c .before .before .put-number in
     let n = getD (start .args .list .now) (loop .i) 0 in (
       omega arith,
@@ -68,7 +62,6 @@ returns : tie.Need-returns Inv-loop μ-loop
 returns c =
     let start = c .before .before .before .before in
     let loop = c .before .loop in
-    let loop-test = c .loop-test in
     let i = loop .i in
     let all : i ≡ length (start .args .list .now) = omega (arith, loop .inv) in
     (rw (all, take-length (start .args .list .now)) at (loop .inv .4), omega (arith, loop .inv))

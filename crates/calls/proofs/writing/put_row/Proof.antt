@@ -1,157 +1,88 @@
 -- `put_row` meets its contract: after i turns the first i numbers are put.
-use Rattle.letters.proofs.Rooms.{sets-append}
-use Prim.Native.Nat.{ℕ, _/_, _%_}
-use Rattle.calls.specs.Words.{hexByte}
-use mathlib.Core.Path.{_≡_, refl, sym, ap, _∙_}
-use mathlib.Core.List.{List}
-use lib.Seq.{sets}
-use Prim.Native.Nat.{_+_, _*_, _-_, _≤_}
-use native.Mathlib.Omega.{arith}
-use lib.ListN.{length, getD, take, length-set}
-use Rattle.listing.specs.Inside.{Puts}
-use Rattle.calls.specs.Words.{hexNumber, spelled}
-use Rattle.calls.proofs.Words.{puts-spelled, puts-word, puts-dash}
 use Rattle.calls.proofs.writing.put_row.Statement.{statement}
 use Rattle.calls.proofs.writing.put_row.Tie as tie
 use borrow.Author.Needs.{needs}
+use mathlib.Core.Path.{_≡_}
+use Prim.Native.Nat.{_-_}
+use native.Mathlib.Omega.{arith}
+use lib.ListN.{length, length-set}
+use Rattle.calls.specs.Words.{hexByte, hexNumber}
+use Rattle.calls.proofs.Words.{Put, put-none, put-more, put-all, puts-dash}
 
 abbrev Inv-loop : tie.InvT-loop
 Inv-loop room₀ at list end i₀ i-end room i =
-    (i ≤ length list)
-    × (i-end ≡ length list)
-    × (length room ≡ length room₀)
-    × Puts room₀ room at (spelled hexNumber (take i list)) (at + 4 * i)
+    (i-end ≡ length list) × Put 4 hexNumber room₀ at list room i
 
 abbrev μ-loop : tie.MeasureT-loop
 μ-loop room₀ at list end i₀ i-end room i = i-end - i
-
--- room[at] = 45;
-slice-write-room : tie.Need-slice-write-room Inv-loop μ-loop
-slice-write-room c =
-    let start = c .before .before .before in
-    let if1 = c .if1 in
-    omega arith
-
--- room[at + 1] = end;
-slice-write-room-2 : tie.Need-slice-write-room-2 Inv-loop μ-loop
-slice-write-room-2 c =
-    let start = c .before .before .before in
-    let if1 = c .if1 in
-    simp length-set (omega arith)
 
 -- return at + 2;
 returns : tie.Need-returns Inv-loop μ-loop
 returns c =
     let start = c .before .before .before in
     let if1 = c .if1 in
-    puts-dash (start .args .room .now) (start .args .at) hexNumber (start .args .list .now) (start .args .end) (if1 .taken) (omega arith)
+    (puts-dash (start .args .room .now) (start .args .at) hexNumber (start .args .list .now) (start .args .end) (if1 .taken), omega arith)
 
 -- for i in 0..list.len() {
 loop-holds : tie.Need-loop-holds Inv-loop μ-loop
-unfolding spelled
 loop-holds c =
     let start = c .before .before .before in
-    let if1 = c .if1 in
-    (omega arith, refl, refl, record { next = refl; room = refl; within = omega arith })
+    (search needs, put-none 4 hexNumber (start .args .room .now) (start .args .at) (start .args .list .now) (omega arith))
 
--- put_byte(room, at + 4 * i, n / 256);
-put-byte-requires : tie.Need-put-byte-requires Inv-loop μ-loop
-put-byte-requires c κs =
-    let start = c .before .before .before .before .before .before .before in
-    let if1 = c .before .before .before .before .if1 in
+-- put_two_bytes(room, at + 4 * i, list[i] as usize);
+put-two-bytes-requires : tie.Need-put-two-bytes-requires Inv-loop μ-loop
+put-two-bytes-requires c κs =
     let loop = c .before .before .before .loop in
-    let loop-test = c .before .before .loop-test in
-    omega (arith, c .before .shared-slice-known2 .given (loop .i))
-
--- put_byte(room, at + 4 * i + 2, n % 256);
-put-byte-requires-2 : tie.Need-put-byte-requires-2 Inv-loop μ-loop
-put-byte-requires-2 c κs =
-    let start = c .before .before .before .before .before .before .before .before .before .before .before in
-    let if1 = c .before .before .before .before .before .before .before .before .if1 in
-    let loop = c .before .before .before .before .before .before .before .loop in
-    let loop-test = c .before .before .before .before .before .before .loop-test in
-    let put-byte = c .before .before .before .put-byte in
-    omega (arith, put-byte .kept .0, loop .inv)
+    let shared-slice-known2 = c .shared-slice-known2 in
+    omega (arith, shared-slice-known2 .given (loop .i), loop .inv .1 .long)
 
 -- for i in 0..list.len() {
-loop-less : tie.Need-loop-less Inv-loop μ-loop
-loop-less c =
-    let start = c .before .before .before .before .before .before .before .before .before .before .before .before .before .before in
-    let if1 = c .before .before .before .before .before .before .before .before .before .before .before .if1 in
-    let loop = c .before .before .before .before .before .before .before .before .before .before .loop in
-    let loop-test = c .before .before .before .before .before .before .before .before .before .loop-test in
-    let put-byte = c .before .before .before .before .before .before .put-byte in
-    let put-byte2 = c .before .before .put-byte2 in
-    omega arith
-
 loop-again : tie.Need-loop-again Inv-loop μ-loop
 unfolding hexByte hexNumber
 loop-again c =
-    let start = c .before .before .before .before .before .before .before .before .before .before .before .before .before .before in
-    let if1 = c .before .before .before .before .before .before .before .before .before .before .before .if1 in
-    let loop = c .before .before .before .before .before .before .before .before .before .before .loop in
-    let loop-test = c .before .before .before .before .before .before .before .before .before .loop-test in
-    let put-byte = c .before .before .before .before .before .before .put-byte in
-    let put-byte2 = c .before .before .put-byte2 in
-    let n = getD (start .args .list .now) (loop .i) 0 in
-    let at = start .args .at + 4 * loop .i in
-    let two : put-byte2 .last .0 ≡ sets (put-byte .last .0) (at + 2) (hexByte (n % 256)) = put-byte2 .ensures in
-    let one : put-byte .last .0 ≡ sets (loop .room) at (hexByte (n / 256)) = put-byte .ensures in
-    let pair = two ∙ (ap (λ (l : List ℕ). sets l (at + 2) (hexByte (n % 256))) one ∙ sym (sets-append (loop .room) at (hexByte (n / 256)) (hexByte (n % 256)))) in (
-      omega arith,
-      loop .inv .1,
-      put-byte2 .kept .0 ∙ (put-byte .kept .0 ∙ loop .inv .2),
-      puts-spelled hexNumber (start .args .list .now) (loop .i) (omega arith) (loop .inv .3) pair (omega arith) (omega (arith, loop .inv)),
+    let start = c .before .before .before .before .before .before .before .before .before .before in
+    let loop = c .before .before .before .before .before .before .loop in
+    let put-two-bytes = c .before .before .put-two-bytes in (
+      loop .inv .0,
+      put-more 4 hexNumber (start .args .room .now) (start .args .at) (start .args .list .now) (loop .inv .1) (omega arith) (put-two-bytes .kept .0)
+          (put-two-bytes .ensures) (omega arith),
     )
-
--- room[to] = end;
-slice-write-room-3 : tie.Need-slice-write-room-3 Inv-loop μ-loop
-slice-write-room-3 c =
-    let start = c .before .before .before .before .before in
-    let if1 = c .before .before .if1 in
-    let loop = c .before .loop in
-    let loop-test = c .loop-test in
-    omega (arith, loop .inv)
 
 -- pub fn put_row
 returns-2 : tie.Need-returns-2 Inv-loop μ-loop
 returns-2 c =
     let start = c .before .before .before .before .before in
     let if1 = c .before .before .if1 in
-    let loop = c .before .loop in
-    let loop-test = c .loop-test in
-    let i = loop .i in
-    let all : i ≡ length (start .args .list .now) = omega (arith, loop .inv) in
-    puts-word hexNumber (start .args .list .now) (length (start .args .list .now)) (start .args .end) refl (if1 .left) (rw all at (loop .inv .3)) (omega (arith, loop .inv))
+    let loop = c .before .loop in (
+      put-all 4 hexNumber (start .args .room .now) (start .args .at) (start .args .list .now)
+          (start .args .end) (loop .inv .1) (omega arith) (if1 .left),
+      omega arith,
+    )
 
 pub put-row-spec : {M : Type 1} → statement M
 put-row-spec =
     tie.close (tie.spec
     Inv-loop
     μ-loop
-    slice-write-room
+    (λ c. omega arith)  -- slice-write-room: room[at] = 45;
     (λ c. search needs)  -- add-room: room[at + 1] = end;
-    slice-write-room-2
+    (λ c. simp length-set (omega arith))  -- slice-write-room-2
     (λ c. search needs)  -- add-result: return at + 2;
     (λ c. search needs)  -- same-length
     returns
     loop-holds
-    (λ c. search needs)  -- mul-n: let n = list[i] as usize;
-    (λ c. search needs)  -- shared-slice-read-n
-    (λ c. omega (arith, c .shared-slice-known2 .given (c .before .before .loop .i)))  -- cast-n
-    (λ c. search needs)  -- mul-put-byte: put_byte(room, at + 4 * i, n / 256);
-    (λ c. search needs)  -- add-put-byte
-    put-byte-requires
-    (λ c. search needs)  -- mul-put-byte-2: put_byte(room, at + 4 * i + 2, n % 256);
-    (λ c. search needs)  -- add-put-byte-2
-    (λ c. search needs)  -- add-put-byte-3
-    put-byte-requires-2
+    (λ c. search needs)  -- mul-put-two-bytes: put_two_bytes(room, at + 4 * i, list[i] as usize);
+    (λ c. search needs)  -- add-put-two-bytes
+    (λ c. search needs)  -- mul-put-two-bytes-2
+    (λ c. search needs)  -- shared-slice-read-put-two-bytes
+    (λ c. omega (arith, c .shared-slice-known2 .given (c .before .before .before .loop .i)))  -- cast-put-two-bytes
+    put-two-bytes-requires
     (λ c. search needs)  -- add-i: for i in 0..list.len() {
-    loop-less
+    (λ c. omega arith)  -- loop-less
     loop-again
     (λ c. search needs)  -- mul-to: let to = at + 4 * list.len();
     (λ c. search needs)  -- add-to
-    slice-write-room-3
+    (λ c. omega (arith, c .before .loop .inv .1 .long))  -- slice-write-room-3: room[to] = end;
     (λ c. search needs)  -- add-result-2: to + 1
     (λ c. search needs)  -- same-length-2: pub fn put_row
     returns-2)

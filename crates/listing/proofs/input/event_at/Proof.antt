@@ -1,83 +1,92 @@
--- `event_at` meets its contract: each answer is a case of `token`.
-use mathlib.Core.Path.{sym}
-use borrow.Author.Needs.{needs}
-use Rattle.listing.proofs.Tokens.{token-none, token-zero, token-one, token-two, token-three}
+-- `event_at` meets its contract: before each byte the number found is the one that begins with the figures so far.
 use Rattle.listing.proofs.input.event_at.Statement.{statement}
 use Rattle.listing.proofs.input.event_at.Tie as tie
+use borrow.Author.Needs.{needs}
+use mathlib.Core.Path.{_≡_, sym, _∙_}
+use mathlib.Core.Bool.{true}
+use Prim.Native.Nat.{_+_, _-_, _*_, _≤_, _<_}
+use native.Mathlib.Omega.{arith}
+use lib.ListN.{length, drop}
+use Rattle.events.specs.Members.{places}
+use Rattle.listing.specs.Inside.{goesOn, token, tokenAt}
+use Rattle.listing.proofs.NumberAt.{on-when, token-on, token-ends, token-out, begun-digit, begun-none}
+
+abbrev Inv-loop : tie.InvT-loop
+Inv-loop line at first event₀ next₀ event next =
+    (next ≤ length line) × (event < 10 * places) × (tokenAt line at ≡ token next event (drop next line))
+
+abbrev μ-loop : tie.MeasureT-loop
+μ-loop line at first event₀ next₀ event next = length line - next
 
 -- return Token {
-returns : tie.Need-returns
+returns : tie.Need-returns Inv-loop μ-loop
 returns c =
     let start = c .before .before .before in
     let figure-at = c .before .figure-at in
     let if1 = c .if1 in
-    rw (← (figure-at .ensures .0)) (sym (token-none (start .args .at) _ _ _ (if1 .taken)))
+    rw (← (figure-at .ensures .0)) (sym (begun-none (start .args .at) (figure-at .result) (drop (start .args .at + 1) (start .args .line .now)) (if1 .taken)))
 
-returns-2 : tie.Need-returns-2
-returns-2 c =
-    let start = c .before .before .before .before in
-    let figure-at = c .before .before .figure-at in
-    let if2 = c .if2 in
-    rw (← (figure-at .ensures .0)) (sym (token-zero (start .args .at) _ _ _ (if2 .taken)))
+-- while next < line.len() {
+loop-holds : tie.Need-loop-holds Inv-loop μ-loop
+loop-holds c =
+    let start = c .before .before .before in
+    let figure-at = c .before .figure-at in (
+      search needs,
+      omega arith,
+      rw (← (figure-at .ensures .0)) (begun-digit (start .args .at) (figure-at .result) (drop (start .args .at + 1) (start .args .line .now)) (omega arith)),
+    )
 
-returns-3 : tie.Need-returns-3
-returns-3 c =
-    let start = c .before .before .before .before .before .before in
-    let figure-at = c .before .before .before .before .figure-at in
-    let if1 = c .before .before .before .if1 in
-    let if2 = c .before .before .if2 in
-    let figure-at2 = c .before .figure-at2 in
-    let if3 = c .if3 in
-    rw (← (figure-at .ensures .0), ← (figure-at2 .ensures .0))
-    (sym (token-one (start .args .at) _ _ _ (if1 .left) (if2 .left) (if3 .taken)))
-
-returns-4 : tie.Need-returns-4
-returns-4 c =
+loop-again : tie.Need-loop-again Inv-loop μ-loop
+loop-again c =
     let start = c .before .before .before .before .before .before .before .before in
-    let figure-at = c .before .before .before .before .before .before .figure-at in
-    let if1 = c .before .before .before .before .before .if1 in
-    let if2 = c .before .before .before .before .if2 in
-    let figure-at2 = c .before .before .before .figure-at2 in
-    let if3 = c .before .before .if3 in
-    let figure-at3 = c .before .figure-at3 in
-    let if4 = c .if4 in
-    rw (← (figure-at .ensures .0), ← (figure-at2 .ensures .0), ← (figure-at3 .ensures .0))
-    (sym (token-two (start .args .at) _ _ _ (if1 .left) (if2 .left) (if3 .left) (if4 .taken)))
+    let loop = c .before .before .before .before .loop in
+    let loop-test = c .before .before .before .loop-test in
+    let figure-at2 = c .before .before .figure-at2 in
+    let goes-on = c .before .goes-on in
+    let if2 = c .if2 in
+    let is : goesOn (loop .event) (figure-at2 .result) ≡ true = sym (goes-on .ensures) ∙ if2 .taken in
+    let low = on-when (loop .event) (figure-at2 .result) is in (
+      search needs,
+      omega (arith, low .1, low .2),
+      rw (figure-at2 .ensures .0)
+          (loop .inv .2 ∙ token-on (start .args .line .now) (loop .next) (loop .event) (loop-test .taken) (rw (← (figure-at2 .ensures .0)) is)),
+    )
+
+-- return Token { event, next };
+returns-2 : tie.Need-returns-2 Inv-loop μ-loop
+returns-2 c =
+    let start = c .before .before .before .before .before .before .before .before in
+    let loop = c .before .before .before .before .loop in
+    let loop-test = c .before .before .before .loop-test in
+    let figure-at2 = c .before .before .figure-at2 in
+    let goes-on = c .before .goes-on in
+    let if2 = c .if2 in
+    sym (loop .inv .2 ∙ token-ends (start .args .line .now) (loop .next) (loop .event) (loop-test .taken)
+    (rw (← (figure-at2 .ensures .0)) (sym (goes-on .ensures) ∙ if2 .left)))
 
 -- fn event_at
-returns-5 : tie.Need-returns-5
-returns-5 c =
-    let start = c .before .before .before .before .before .before .before .before in
-    let figure-at = c .before .before .before .before .before .before .figure-at in
-    let if1 = c .before .before .before .before .before .if1 in
-    let if2 = c .before .before .before .before .if2 in
-    let figure-at2 = c .before .before .before .figure-at2 in
-    let if3 = c .before .before .if3 in
-    let figure-at3 = c .before .figure-at3 in
-    let if4 = c .if4 in
-    rw (← (figure-at .ensures .0), ← (figure-at2 .ensures .0), ← (figure-at3 .ensures .0))
-    (sym (token-three (start .args .at) _ _ _ (if1 .left) (if2 .left) (if3 .left) (if4 .left)))
+returns-3 : tie.Need-returns-3 Inv-loop μ-loop
+returns-3 c =
+    let start = c .before .before .before .before .before in
+    let loop = c .before .loop in
+    let loop-test = c .loop-test in
+    sym (loop .inv .2 ∙ token-out (start .args .line .now) (loop .next) (loop .event) (loop-test .left))
 
 pub event-at-spec : {M : Type 1} → statement M
 event-at-spec =
     tie.close (tie.spec
-    (λ c κs. search needs)  -- figure-at-requires: let a = figure_at(line, at);
+    Inv-loop
+    μ-loop
+    (λ c κs. search needs)  -- figure-at-requires: let first = figure_at(line, at);
     returns
-    (λ c. search needs)  -- add-t7: next: at + 1,
+    (λ c. search needs)  -- add-next: let mut next = at + 1;
+    loop-holds
+    (λ c κs. search needs)  -- figure-at-requires-2: let d = figure_at(line, next);
+    (λ c κs. search needs)  -- goes-on-requires: if goes_on(event, d) {
+    (λ c. search needs)  -- mul-event: event = 10 * event + d;
+    (λ c. search needs)  -- add-event
+    (λ c. search needs)  -- add-next-2: next += 1;
+    (λ c. search needs)  -- loop-less: while next < line.len() {
+    loop-again
     returns-2
-    (λ c. search needs)  -- add-figure-at: let b = figure_at(line, at + 1);
-    (λ c κs. search needs)  -- figure-at-requires-2
-    (λ c. search needs)  -- add-t9: next: at + 1,
-    returns-3
-    (λ c. search needs)  -- add-figure-at-2: let c = figure_at(line, at + 2);
-    (λ c κs. search needs)  -- figure-at-requires-3
-    (λ c. search needs)  -- mul-t10: event: 10 * a + b,
-    (λ c. search needs)  -- add-t11
-    (λ c. search needs)  -- add-t12: next: at + 2,
-    returns-4
-    (λ c. search needs)  -- mul-t8: event: 100 * a + 10 * b + c,
-    (λ c. search needs)  -- mul-t13
-    (λ c. search needs)  -- add-t14
-    (λ c. search needs)  -- add-t15
-    (λ c. search needs)  -- add-t16: next: at + 3,
-    returns-5)
+    returns-3)

@@ -4,17 +4,17 @@ use Rattle.listing.proofs.input.read_events.Tie as tie
 use borrow.Author.Needs.{needs}
 use mathlib.Core.Path.{_≡_, _∙_}
 use mathlib.Core.Bool.{Bool, true, false}
-use Prim.Native.Nat.{_-_}
+use Prim.Native.Nat.{_*_, _-_}
 use lib.ListN.{length, drop}
 use Rattle.events.specs.Events.{Events, none}
-use Rattle.events.specs.Members.{marks}
+use Rattle.events.specs.Members.{places, marks}
 use Rattle.events.proofs.Words.{marks-zeros}
 use Rattle.listing.specs.Inside.{Named}
 use Rattle.listing.proofs.Reading.{stops-end, shorter, stops-none, goes-last, stops-other, goes-on, marked}
 
 abbrev Inv-loop : tie.InvT-loop
 Inv-loop line separator words₀ at₀ words at =
-    (length words ≡ 4)
+    (64 * length words ≡ places)
     × ((good : Bool) (X : Events) → Named separator (marks words) (drop at line) good X → Named separator none line good X)
 
 abbrev μ-loop : tie.MeasureT-loop
@@ -29,7 +29,8 @@ returns c =
     let bad-line = c .bad-line in
     let line = start .args .line .now in
     rw (bad-line .ensures .0, bad-line .ensures .1)
-    (loop .inv .1 false none (stops-none (start .args .separator) (start .pre) line (loop .at) (event-at .result) (event-at .ensures) (marks (loop .words)) (if1 .taken)))
+    (loop .inv .1 false none
+    (stops-none (start .args .separator) (start .pre) line (loop .at) (event-at .result) (event-at .ensures) (marks (loop .words)) (if1 .taken)))
 
 returns-2 : tie.Need-returns-2 Inv-loop μ-loop
 returns-2 c =
@@ -80,7 +81,7 @@ loop-again c =
     let line = start .args .line .now in
     let token = event-at .result in
     let X = marks (loop .words) in (
-      mark .kept .0 ∙ loop .inv .0,
+      rw (mark .kept .0) (loop .inv .0),
       λ good Y g. loop .inv .1 good Y
           (goes-on (start .args .separator) (start .pre) line (loop .at) token (event-at .ensures) X (if2 .left) (if1 .left) (if3 .left)
           (rw (marked (loop .words) _ (token .event) (loop .inv .0) (if1 .left) (mark .ensures)) at g)),
@@ -100,7 +101,7 @@ read-events-spec =
     tie.close (tie.spec
     Inv-loop
     μ-loop
-    (λ c. (search needs, λ good X g. rw (marks-zeros 4) at g))  -- loop-holds
+    (λ c. (search needs, λ good X g. rw (marks-zeros _) at g))  -- loop-holds
     (λ c κs. search needs)  -- event-at-requires
     (λ c κs. search needs)  -- bad-line-requires
     returns

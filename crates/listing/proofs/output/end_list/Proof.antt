@@ -10,7 +10,7 @@ returns : tie.Need-returns
 returns c =
     let start = c .before in
     let if1 = c .if1 in
-    ((λ room l p. dash-ends (start .args .last) l p (if1 .taken) (start .pre .1)), omega arith)
+    ((λ room l p. dash-ends (start .args .last) l p (if1 .taken)), omega arith)
 
 pub end-list-spec : {M : Type 1} → statement M
 end-list-spec =

@@ -6,8 +6,9 @@ use borrow.Author.Needs.{needs}
 use lib.ListN.{length, getD, take}
 use lib.Seq.{take-length}
 use Rattle.letters.proofs.Decimal.{decimal-length}
-use Rattle.listing.specs.Inside.{Puts, items}
-use Rattle.listing.proofs.Puts.{puts-none, number-end}
+use Rattle.letters.specs.Rooms.{Puts}
+use Rattle.listing.specs.Inside.{items}
+use Rattle.letters.proofs.Puts.{puts-none, number-end}
 use Rattle.listing.proofs.Lists.{puts-item}
 use Rattle.listing.proofs.output.put_atoms.Statement.{statement}
 use Rattle.listing.proofs.output.put_atoms.Tie as tie
@@ -24,7 +25,7 @@ loop-holds : tie.Need-loop-holds Inv-loop μ-loop
 unfolding items
 loop-holds c =
     let start = c .before .before in
-    (omega arith, refl, refl, omega arith, puts-none (start .args .room .now) (start .args .at) (omega arith))
+    (omega arith, refl, refl, omega arith, puts-none (start .args .room .now) (start .args .at))
 
 -- to = put_number(room, to, atoms[i] as u64, 44);
 put-number-requires : tie.Need-put-number-requires Inv-loop μ-loop

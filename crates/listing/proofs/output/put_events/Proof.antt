@@ -6,8 +6,9 @@ use borrow.Author.Needs.{needs}
 use lib.ListN.{length, getD}
 use Rattle.events.specs.Members.{places, members}
 use Rattle.listing.specs.Output.{rising}
-use Rattle.listing.specs.Inside.{Puts, items, eventsOf}
-use Rattle.listing.proofs.Puts.{puts-none, puts-then}
+use Rattle.letters.specs.Rooms.{Puts}
+use Rattle.listing.specs.Inside.{items, eventsOf}
+use Rattle.letters.proofs.Puts.{puts-none, puts-then}
 use Rattle.listing.proofs.Lists.{items-append}
 use Rattle.listing.proofs.Rising.{rising-word}
 use Rattle.listing.proofs.output.put_events.Statement.{statement}
@@ -15,7 +16,7 @@ use Rattle.listing.proofs.output.put_events.Tie as tie
 
 abbrev Inv-loop : tie.InvT-loop
 Inv-loop room₀ at events to₀ i₀ room to i =
-    (64 * i ≤ places) × (length room ≡ length room₀) × (to ≤ at + 256 * i) × Puts room₀ room at (items (rising (64 * i) (members events))) to
+    (64 * i ≤ places) × (length room ≡ length room₀) × (to ≤ at + 6 * (64 * i)) × Puts room₀ room at (items (rising (64 * i) (members events))) to
 
 abbrev μ-loop : tie.MeasureT-loop
 μ-loop room₀ at events to₀ i₀ room to i = places - i
@@ -25,7 +26,7 @@ loop-holds : tie.Need-loop-holds Inv-loop μ-loop
 unfolding items rising
 loop-holds c =
     let start = c .before in
-    (omega arith, refl, omega arith, puts-none (start .args .room .now) (start .args .at) (omega arith))
+    (omega arith, refl, omega arith, puts-none (start .args .room .now) (start .args .at))
 
 loop-again : tie.Need-loop-again Inv-loop μ-loop
 loop-again c =

@@ -6,7 +6,7 @@ use borrow.Author.Needs.{needs}
 use Rattle.letters.specs.Decimal.{decimal}
 use Rattle.letters.specs.Text.{bytes}
 use Rattle.letters.proofs.Decimal.{decimal-length}
-use Rattle.listing.proofs.Puts.{number-end}
+use Rattle.letters.proofs.Puts.{number-end}
 use Rattle.listing.proofs.Lines.{puts-field, puts-last}
 use Rattle.listing.proofs.output.put_refusal.Statement.{statement}
 use Rattle.listing.proofs.output.put_refusal.Tie as tie

@@ -5,8 +5,8 @@ use native.Mathlib.Omega.{arith}
 use borrow.Author.Needs.{needs}
 use lib.ListN.{length, take, length-set}
 use lib.Seq.{take-length}
-use Rattle.listing.specs.Inside.{Puts}
-use Rattle.listing.proofs.Puts.{puts-byte}
+use Rattle.letters.specs.Rooms.{Puts}
+use Rattle.letters.proofs.Puts.{puts-byte}
 use Rattle.listing.proofs.output.put_text.Statement.{statement}
 use Rattle.listing.proofs.output.put_text.Tie as tie
 
@@ -22,7 +22,7 @@ loop-again : tie.Need-loop-again Inv-loop μ-loop
 loop-again c =
     let start = c .before .before .before in
     let loop = c .before .before .loop in
-    (omega arith, loop .inv .1, simp length-set (loop .inv .2), puts-byte (start .args .text .now) (loop .i) (omega arith) (omega arith) (loop .inv .3))
+    (omega arith, loop .inv .1, simp length-set (loop .inv .2), puts-byte (start .args .text .now) (loop .i) (omega arith) (loop .inv .3) refl)
 
 -- pub fn put_text
 returns : tie.Need-returns Inv-loop μ-loop
@@ -38,7 +38,7 @@ put-text-spec =
     tie.close (tie.spec
     Inv-loop
     μ-loop
-    (λ c. (omega arith, refl, refl, record { next = refl; room = refl; within = omega arith }))  -- loop-holds: for i in 0..
+    (λ c. (omega arith, refl, refl, record { next = refl; room = refl }))  -- loop-holds: for i in 0..
     (λ c. search needs)  -- shared-slice-read-room: room[at + i] = text[i];
     (λ c. search needs)  -- add-room
     (λ c. search needs)  -- slice-write-room

@@ -9,8 +9,9 @@ use Rattle.events.specs.Members.{marks}
 use Rattle.events.proofs.Bits.{digits}
 use Rattle.letters.proofs.Decimal.{decimal-length}
 use Rattle.listing.specs.Output.{rising}
-use Rattle.listing.specs.Inside.{Puts, items}
-use Rattle.listing.proofs.Puts.{puts-none, number-end}
+use Rattle.letters.specs.Rooms.{Puts}
+use Rattle.listing.specs.Inside.{items}
+use Rattle.letters.proofs.Puts.{puts-none, number-end}
 use Rattle.listing.proofs.Lists.{puts-event}
 use Rattle.listing.proofs.Rising.{low, one-word, low-digit, without-fits, low-rises, still-like, rising-low}
 use Rattle.listing.proofs.Rising.{rising-first}
@@ -21,7 +22,7 @@ abbrev Inv-loop : tie.InvT-loop
 Inv-loop room₀ at base word to₀ left₀ room to left =
     (length room ≡ length room₀)
     × (left < 2 ^ 64)
-    × (to ≤ at + 4 * low left)
+    × (to ≤ at + 6 * low left)
     × Puts room₀ room at (items (map (λ n. base + n) (rising (low left) (marks (word ∷ []))))) to
     × ((j : ℕ) → low left ≤ j → j < 64 → digits left j ≡ marks (word ∷ []) j)
 
@@ -38,7 +39,7 @@ loop-holds c =
       refl,
       omega arith,
       omega arith,
-      rw (rising-first word (marks (word ∷ [])) like) (puts-none (start .args .room .now) (start .args .at) (omega arith)),
+      rw (rising-first word (marks (word ∷ [])) like) (puts-none (start .args .room .now) (start .args .at)),
       λ j h k. like j k,
     )
 
@@ -49,7 +50,7 @@ put-number-requires c κs =
     let loop = c .before .before .loop in
     let loop-test = c .before .loop-test in
     let below = low-digit (loop .left) (loop .inv .1) (loop-test .taken) in
-    omega (arith, decimal-length 2 (start .args .base + low (loop .left)) (omega arith))
+    omega (arith, decimal-length 4 (start .args .base + low (loop .left)) (omega arith))
 
 -- left &= !(1 << low);
 shl-left : tie.Need-shl-left Inv-loop μ-loop
@@ -77,8 +78,9 @@ loop-again c =
     let below = low-digit left (loop .inv .1) (loop-test .taken) in (
       put-number .kept .0 ∙ loop .inv .0,
       without-fits left (loop .inv .1) (loop-test .taken),
-      omega (arith, number-end 2 (base + low left) 44 (omega arith) (put-number .ensures), low-rises left (loop .inv .1) (loop-test .taken)),
-      rw (rising-low left (loop .inv .1) (loop-test .taken) X (loop .inv .4)) (puts-event base (rising (low left) X) (low left) (loop .inv .3) (put-number .ensures)),
+      omega (arith, number-end 4 (base + low left) 44 (omega arith) (put-number .ensures), low-rises left (loop .inv .1) (loop-test .taken)),
+      rw (rising-low left (loop .inv .1) (loop-test .taken) X (loop .inv .4))
+          (puts-event base (rising (low left) X) (low left) (loop .inv .3) (put-number .ensures)),
       still-like left (loop .inv .1) (loop-test .taken) X (loop .inv .4),
     )
 

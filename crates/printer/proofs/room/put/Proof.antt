@@ -4,8 +4,8 @@ use native.Mathlib.Omega.{arith}
 use native.Mathlib.Nat.{add-zero}
 use lib.ListN.{length, take}
 use lib.Seq.{take-all}
-use Rattle.printer.specs.Printing.{Puts}
-use Rattle.printer.proofs.Puts.{puts-none, puts-byte, puts-long}
+use Rattle.letters.specs.Rooms.{Puts}
+use Rattle.letters.proofs.Puts.{puts-none, puts-byte, puts-long}
 use Rattle.printer.proofs.room.put.Statement.{statement}
 use Rattle.printer.proofs.room.put.Tie as tie
 use borrow.Author.Needs.{needs}

@@ -8,8 +8,9 @@ use native.Mathlib.Omega.{arith}
 use lib.ListN.{take, drop}
 use Rattle.form.specs.Inside.Rows.{names as table}
 use Rattle.form.proofs.Rows.{length-names}
-use Rattle.printer.specs.Printing.{Puts}
-use Rattle.printer.proofs.Puts.{puts-none, puts-on, puts-long, part-long}
+use Rattle.letters.specs.Rooms.{Puts}
+use Rattle.letters.proofs.Puts.{puts-none, puts-long}
+use Rattle.printer.proofs.FitsInParts.{puts-on, part-long}
 
 abbrev Inv-loop : tie.InvT-loop
 Inv-loop names begin end room₀ at p₀ to₀ room p to =
@@ -30,8 +31,6 @@ add-to : tie.Need-add-to Inv-loop μ-loop
 add-to c =
     let start = c .before .before .before .before .before .before .before .before in
     let loop = c .before .before .before .before .before .before .loop in
-    let loop-test = c .before .before .before .before .before .loop-test in
-    let put-byte = c .before .before .put-byte in
     let e = length-names in
     let f = part-long table (start .args .begin) (start .args .end) (omega arith) (omega arith) in
     let g = part-long table (start .args .begin) (loop .p) (loop .inv .0) (omega arith) in
@@ -40,17 +39,12 @@ add-to c =
 -- while p < end {
 loop-less : tie.Need-loop-less Inv-loop μ-loop
 loop-less c =
-    let start = c .before .before .before .before .before .before .before .before in
-    let loop = c .before .before .before .before .before .before .loop in
-    let loop-test = c .before .before .before .before .before .loop-test in
-    let put-byte = c .before .before .put-byte in
     omega arith
 
 loop-again : tie.Need-loop-again Inv-loop μ-loop
 loop-again c =
     let start = c .before .before .before .before .before .before .before .before in
     let loop = c .before .before .before .before .before .before .loop in
-    let loop-test = c .before .before .before .before .before .loop-test in
     let put-byte = c .before .before .put-byte in
     let e = length-names in (
       omega arith,
@@ -69,7 +63,6 @@ returns : tie.Need-returns Inv-loop μ-loop
 returns c =
     let start = c .before .before .before in
     let loop = c .before .loop in
-    let loop-test = c .loop-test in
     let e : loop .p ≡ start .args .end = omega arith in
     rw e at (loop .inv .2)
 

@@ -84,11 +84,13 @@ put-link-requires c κs =
 -- fn put_head
 returns : tie.Need-returns
 returns c =
-    let start = c .before .before .before .before .before .before .before .before .before .before .before .before .before .before .before .before .before .before .before in
-    let kind-at = c .before .before .before .before .before .before .before .before .before .before .before .before .before .before .before .before .kind-at in
-    let name-end = c .before .before .before .before .before .before .before .before .before .before .before .before .before .before .before .name-end in
-    let put-opening = c .before .before .before .before .before .before .before .before .before .before .before .before .before .put-opening in
-    let put-argument = c .before .before .before .before .before .before .before .before .put-argument in
+    let c8 = c .before .before .before .before .before .before .before .before in
+    let c16 = c8 .before .before .before .before .before .before .before .before in
+    let start = c16 .before .before .before in
+    let kind-at = c16 .kind-at in
+    let name-end = c8 .before .before .before .before .before .before .before .name-end in
+    let put-opening = c8 .before .before .before .before .before .put-opening in
+    let put-argument = c8 .put-argument in
     let put-link = c .before .before .put-link in
     let l = link-is (start .args .names .now) (kind-at .result) (name-end .result) (start .pre .0) (name-end .ensures .0) in
     puts-head (kind-at .ensures .0) (put-opening .ensures) (put-argument .ensures) (rw l at (put-link .ensures))

@@ -1,7 +1,7 @@
 -- `put_link` meets its contract: the test is that of the definition.
 use borrow.Author.Needs.{needs}
 use Rattle.printer.specs.Printing.{linked}
-use Rattle.printer.proofs.Puts.{puts-none}
+use Rattle.letters.proofs.Puts.{puts-none}
 use Rattle.printer.proofs.spelled.put_link.Statement.{statement}
 use Rattle.printer.proofs.spelled.put_link.Tie as tie
 

@@ -4,7 +4,8 @@ use native.Mathlib.Omega.{arith}
 use Rattle.letters.specs.Text.{bytes}
 use Rattle.form.specs.Names.{formOf, opening}
 use Rattle.form.proofs.Rows.{name-there, name-long, name-low}
-use Rattle.printer.proofs.Puts.{puts-then, fits-first, fits-on}
+use Rattle.letters.proofs.Puts.{puts-then}
+use Rattle.printer.proofs.FitsInParts.{fits-first, fits-on}
 use Rattle.printer.proofs.spelled.put_opening.Statement.{statement}
 use Rattle.printer.proofs.spelled.put_opening.Tie as tie
 use borrow.Author.Needs.{needs}

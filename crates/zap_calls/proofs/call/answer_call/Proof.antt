@@ -12,7 +12,6 @@ slice-aggregate-is-name c =
     let start = c .before .before .before .before .before .before .before .before .before .before .before in
     let find = c .before .before .before .before .find in
     let if1 = c .before .before .before .if1 in
-    let if2 = c .before .before .if2 in
     sym (length-take-le (find .result) (start .args .line .now) (omega (arith, if1 .left)))
 
 -- if is_name(&line[..name], b"start") {
@@ -21,44 +20,47 @@ slice-aggregate-is-name-3 c =
     let start = c .before .before .before .before .before .before .before .before .before .before .before .before .before .before .before in
     let find = c .before .before .before .before .before .before .before .before .find in
     let if1 = c .before .before .before .before .before .before .before .if1 in
-    let if2 = c .before .before .before .before .before .before .if2 in
-    let is-name = c .before .before .is-name in
-    let if3 = c .before .if3 in
     sym (length-take-le (find .result) (start .args .line .now) (omega (arith, if1 .left)))
 
 -- if is_name(&line[..name], b"instant") {
 slice-aggregate-is-name-5 : tie.Need-slice-aggregate-is-name-5
 slice-aggregate-is-name-5 c =
-    let start = c .before .before .before .before .before .before .before .before .before .before .before .before .before .before .before .before .before .before .before in
-    let find = c .before .before .before .before .before .before .before .before .before .before .before .before .find in
-    let if1 = c .before .before .before .before .before .before .before .before .before .before .before .if1 in
-    let if2 = c .before .before .before .before .before .before .before .before .before .before .if2 in
-    let is-name = c .before .before .before .before .before .before .is-name in
-    let if3 = c .before .before .before .before .before .if3 in
-    let is-name2 = c .before .before .is-name2 in
-    let if4 = c .before .if4 in
+    let c8 = c .before .before .before .before .before .before .before .before in
+    let c16 = c8 .before .before .before .before .before .before .before .before in
+    let start = c16 .before .before .before in
+    let find = c8 .before .before .before .before .find in
+    let if1 = c8 .before .before .before .if1 in
     sym (length-take-le (find .result) (start .args .line .now) (omega (arith, if1 .left)))
 
 -- if is_name(&line[..name], b"read") {
 slice-aggregate-is-name-7 : tie.Need-slice-aggregate-is-name-7
 slice-aggregate-is-name-7 c =
-    let start = c .before .before .before .before .before .before .before .before .before .before .before .before .before .before .before .before .before .before .before .before .before .before .before in
-    let find = c .before .before .before .before .before .before .before .before .before .before .before .before .before .before .before .before .find in
-    let if1 = c .before .before .before .before .before .before .before .before .before .before .before .before .before .before .before .if1 in
+    let c8 = c .before .before .before .before .before .before .before .before in
+    let c16 = c8 .before .before .before .before .before .before .before .before in
+    let start = c16 .before .before .before .before .before .before .before in
+    let find = c16 .find in
+    let if1 = c8 .before .before .before .before .before .before .before .if1 in
     sym (length-take-le (find .result) (start .args .line .now) (omega (arith, if1 .left)))
 
 -- if is_name(&line[..name], b"print") {
 slice-aggregate-is-name-9 : tie.Need-slice-aggregate-is-name-9
 slice-aggregate-is-name-9 c =
-    let start = c .before .before .before .before .before .before .before .before .before .before .before .before .before .before .before .before .before .before .before .before .before .before .before .before .before .before .before in
-    let find = c .before .before .before .before .before .before .before .before .before .before .before .before .before .before .before .before .before .before .before .before .find in
-    let if1 = c .before .before .before .before .before .before .before .before .before .before .before .before .before .before .before .before .before .before .before .if1 in
+    let c8 = c .before .before .before .before .before .before .before .before in
+    let c16 = c8 .before .before .before .before .before .before .before .before in
+    let c24 = c16 .before .before .before .before .before .before .before .before in
+    let start = c24 .before .before .before in
+    let find = c16 .before .before .before .before .find in
+    let if1 = c16 .before .before .before .if1 in
     sym (length-take-le (find .result) (start .args .line .now) (omega (arith, if1 .left)))
 
 -- return answer_print(words, table, text, output);
 answer-print-requires : tie.Need-answer-print-requires
 answer-print-requires c κs =
-    let start = c .before .before .before .before .before .before .before .before .before .before .before .before .before .before .before .before .before .before .before .before .before .before .before .before .before .before .before .before .before .before .before .before .before in
+    let c8 = c .before .before .before .before .before .before .before .before in
+    let c16 = c8 .before .before .before .before .before .before .before .before in
+    let c24 = c16 .before .before .before .before .before .before .before .before in
+    let c32 = c24 .before .before .before .before .before .before .before .before in
+    let start = c32 .before in
     omega (arith, start .pre)
 
 pub answer-call-spec : {M : Type 1} → statement M

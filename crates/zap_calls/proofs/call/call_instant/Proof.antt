@@ -7,60 +7,106 @@ use borrow.Author.Needs.{needs}
 -- let figures = put_numbers(
 put-numbers-requires-2 : tie.Need-put-numbers-requires-2
 put-numbers-requires-2 c κs =
-    let start = c .before .before .before .before .before .before .before .before .before .before .before .before .before .before .before .before .before .before .before .before .before .before .before .before in
-    let instant = c .before .before .before .before .before .before .before .before .before .before .before .before .before .before .before .before .before .instant in
-    let refusal-of = c .before .before .before .before .before .before .before .before .before .before .before .before .refusal-of in
-    let put-numbers = c .before .before .before .before .before .before .before .before .before .put-numbers in
+    let c8 = c .before .before .before .before .before .before .before .before in
+    let c16 = c8 .before .before .before .before .before .before .before .before in
+    let c24 = c16 .before .before .before .before .before .before .before .before in
+    let start = c24 in
+    let put-numbers = c8 .before .put-numbers in
     let put-events = c .before .before .before .before .before .put-events in
     omega (arith, start .pre, put-numbers .ensures .1, put-numbers .kept .0, put-events .ensures .1, put-events .kept .0)
 
 -- let bytes = put_bytes(output, figures, state, 32);
 put-bytes-requires : tie.Need-put-bytes-requires
 put-bytes-requires c κs =
-    let start = c .before .before .before .before .before .before .before .before .before .before .before .before .before .before .before .before .before .before .before .before .before .before .before .before .before .before .before .before .before in
-    let instant = c .before .before .before .before .before .before .before .before .before .before .before .before .before .before .before .before .before .before .before .before .before .before .instant in
-    let refusal-of = c .before .before .before .before .before .before .before .before .before .before .before .before .before .before .before .before .before .refusal-of in
-    let put-numbers = c .before .before .before .before .before .before .before .before .before .before .before .before .before .before .put-numbers in
-    let put-events = c .before .before .before .before .before .before .before .before .before .before .put-events in
+    let c8 = c .before .before .before .before .before .before .before .before in
+    let c16 = c8 .before .before .before .before .before .before .before .before in
+    let c24 = c16 .before .before .before .before .before .before .before .before in
+    let start = c24 .before .before .before .before .before in
+    let instant = c16 .before .before .before .before .before .before .instant in
+    let put-numbers = c8 .before .before .before .before .before .before .put-numbers in
+    let put-events = c8 .before .before .put-events in
     let put-numbers2 = c .before .before .before .before .put-numbers2 in
-    omega (arith, start .pre, put-numbers .ensures .1, put-numbers .kept .0, put-events .ensures .1, put-events .kept .0, put-numbers2 .ensures .1, put-numbers2 .kept .0, instant .kept .1 .0)
+    omega (
+      arith,
+      start .pre,
+      put-numbers .ensures .1,
+      put-numbers .kept .0,
+      put-events .ensures .1,
+      put-events .kept .0,
+      put-numbers2 .ensures .1,
+      put-numbers2 .kept .0,
+      instant .kept .1 .0,
+    )
 
 -- put_row(output, bytes, row, 10)
 put-row-requires : tie.Need-put-row-requires
 put-row-requires c κs =
-    let start = c .before .before .before .before .before .before .before .before .before .before .before .before .before .before .before .before .before .before .before .before .before .before .before .before .before .before .before .before .before .before .before .before .before .before in
-    let instant = c .before .before .before .before .before .before .before .before .before .before .before .before .before .before .before .before .before .before .before .before .before .before .before .before .before .before .before .instant in
-    let refusal-of = c .before .before .before .before .before .before .before .before .before .before .before .before .before .before .before .before .before .before .before .before .before .before .refusal-of in
-    let put-numbers = c .before .before .before .before .before .before .before .before .before .before .before .before .before .before .before .before .before .before .before .put-numbers in
-    let put-events = c .before .before .before .before .before .before .before .before .before .before .before .before .before .before .before .put-events in
-    let put-numbers2 = c .before .before .before .before .before .before .before .before .before .put-numbers2 in
+    let c8 = c .before .before .before .before .before .before .before .before in
+    let c16 = c8 .before .before .before .before .before .before .before .before in
+    let c24 = c16 .before .before .before .before .before .before .before .before in
+    let c32 = c24 .before .before .before .before .before .before .before .before in
+    let start = c32 .before .before in
+    let instant = c24 .before .before .before .instant in
+    let put-numbers = c16 .before .before .before .put-numbers in
+    let put-events = c8 .before .before .before .before .before .before .before .put-events in
+    let put-numbers2 = c8 .before .put-numbers2 in
     let put-bytes = c .before .before .before .before .put-bytes in
-    omega (arith, start .pre, put-numbers .ensures .1, put-numbers .kept .0, put-events .ensures .1, put-events .kept .0, put-numbers2 .ensures .1, put-numbers2 .kept .0, instant .kept .1 .0, put-bytes .ensures .1, put-bytes .kept .0, instant .kept .1 .1 .1 .0)
+    omega (
+      arith,
+      start .pre,
+      put-numbers .ensures .1,
+      put-numbers .kept .0,
+      put-events .ensures .1,
+      put-events .kept .0,
+      put-numbers2 .ensures .1,
+      put-numbers2 .kept .0,
+      instant .kept .1 .0,
+      put-bytes .ensures .1,
+      put-bytes .kept .0,
+      instant .kept .1 .1 .1 .0,
+    )
 
 -- fn call_instant
 same-length : tie.Need-same-length
 same-length c =
-    let start = c .before .before .before .before .before .before .before .before .before .before .before .before .before .before .before .before .before .before .before .before .before .before .before .before .before .before .before .before .before .before .before .before .before .before .before .before .before in
-    let instant = c .before .before .before .before .before .before .before .before .before .before .before .before .before .before .before .before .before .before .before .before .before .before .before .before .before .before .before .before .before .before .instant in
-    let refusal-of = c .before .before .before .before .before .before .before .before .before .before .before .before .before .before .before .before .before .before .before .before .before .before .before .before .before .refusal-of in
-    let put-numbers = c .before .before .before .before .before .before .before .before .before .before .before .before .before .before .before .before .before .before .before .before .before .before .put-numbers in
-    let put-events = c .before .before .before .before .before .before .before .before .before .before .before .before .before .before .before .before .before .before .put-events in
-    let put-numbers2 = c .before .before .before .before .before .before .before .before .before .before .before .before .put-numbers2 in
-    let put-bytes = c .before .before .before .before .before .before .before .put-bytes in
-    let put-row = c .before .before .put-row in
+    let c8 = c .before .before .before .before .before .before .before .before in
+    let c16 = c8 .before .before .before .before .before .before .before .before in
+    let c24 = c16 .before .before .before .before .before .before .before .before in
+    let instant = c24 .before .before .before .before .before .before .instant in
     instant .kept .1 .0
 
 same-length-2 : tie.Need-same-length-2
 same-length-2 c =
-    let start = c .before .before .before .before .before .before .before .before .before .before .before .before .before .before .before .before .before .before .before .before .before .before .before .before .before .before .before .before .before .before .before .before .before .before .before .before .before in
-    let instant = c .before .before .before .before .before .before .before .before .before .before .before .before .before .before .before .before .before .before .before .before .before .before .before .before .before .before .before .before .before .before .instant in
-    let refusal-of = c .before .before .before .before .before .before .before .before .before .before .before .before .before .before .before .before .before .before .before .before .before .before .before .before .before .refusal-of in
-    let put-numbers = c .before .before .before .before .before .before .before .before .before .before .before .before .before .before .before .before .before .before .before .before .before .before .put-numbers in
-    let put-events = c .before .before .before .before .before .before .before .before .before .before .before .before .before .before .before .before .before .before .put-events in
-    let put-numbers2 = c .before .before .before .before .before .before .before .before .before .before .before .before .put-numbers2 in
+    let c8 = c .before .before .before .before .before .before .before .before in
+    let c16 = c8 .before .before .before .before .before .before .before .before in
+    let c24 = c16 .before .before .before .before .before .before .before .before in
+    let instant = c24 .before .before .before .before .before .before .instant in
+    instant .kept .1 .1 .1 .0
+
+returns : tie.Need-returns
+returns c =
+    let c8 = c .before .before .before .before .before .before .before .before in
+    let c16 = c8 .before .before .before .before .before .before .before .before in
+    let c24 = c16 .before .before .before .before .before .before .before .before in
+    let c32 = c24 .before .before .before .before .before .before .before .before in
+    let start = c32 .before .before .before .before .before in
+    let instant = c24 .before .before .before .before .before .before .instant in
+    let put-numbers = c16 .before .before .before .before .before .before .put-numbers in
+    let put-events = c16 .before .before .put-events in
+    let put-numbers2 = c8 .before .before .before .before .put-numbers2 in
     let put-bytes = c .before .before .before .before .before .before .before .put-bytes in
     let put-row = c .before .before .put-row in
-    instant .kept .1 .1 .1 .0
+    omega (
+      arith,
+      start .pre,
+      put-numbers .ensures .1,
+      put-events .ensures .1,
+      put-numbers2 .ensures .1,
+      put-bytes .ensures .1,
+      put-row .ensures .1,
+      instant .kept .1 .0,
+      instant .kept .1 .1 .1 .0,
+    )
 
 pub call-instant-spec : {M : Type 1} → statement M
 call-instant-spec =
@@ -78,4 +124,4 @@ call-instant-spec =
     same-length
     same-length-2
     (λ c. search needs)  -- same-length-3
-    (λ c. search needs))  -- returns
+    returns)

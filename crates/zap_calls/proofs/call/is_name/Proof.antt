@@ -16,53 +16,31 @@ abbrev μ-loop : tie.MeasureT-loop
 -- return false;
 returns : tie.Need-returns Inv-loop μ-loop
 returns c =
-    let start = c .before in
-    let if1 = c .if1 in
     search needs
 
 -- for i in 0..name.len() {
 loop-holds : tie.Need-loop-holds Inv-loop μ-loop
 loop-holds c =
-    let start = c .before in
-    let if1 = c .if1 in
     (omega arith, refl)
 
 -- return false;
 returns-2 : tie.Need-returns-2 Inv-loop μ-loop
 returns-2 c =
-    let start = c .before .before .before .before .before .before in
-    let if1 = c .before .before .before .before .before .if1 in
-    let loop = c .before .before .before .before .loop in
-    let loop-test = c .before .before .before .loop-test in
-    let if2 = c .if2 in
     search needs
 
 -- for i in 0..name.len() {
 loop-less : tie.Need-loop-less Inv-loop μ-loop
 loop-less c =
-    let start = c .before .before .before .before .before .before in
-    let if1 = c .before .before .before .before .before .if1 in
-    let loop = c .before .before .before .before .loop in
-    let loop-test = c .before .before .before .loop-test in
-    let if2 = c .if2 in
     omega arith
 
 loop-again : tie.Need-loop-again Inv-loop μ-loop
 loop-again c =
-    let start = c .before .before .before .before .before .before in
-    let if1 = c .before .before .before .before .before .if1 in
     let loop = c .before .before .before .before .loop in
-    let loop-test = c .before .before .before .loop-test in
-    let if2 = c .if2 in
     (omega arith, loop .inv .1)
 
 -- fn is_name
 returns-3 : tie.Need-returns-3 Inv-loop μ-loop
 returns-3 c =
-    let start = c .before .before .before in
-    let if1 = c .before .before .if1 in
-    let loop = c .before .loop in
-    let loop-test = c .loop-test in
     search needs
 
 pub is-name-spec : {M : Type 1} → statement M

@@ -34,10 +34,12 @@ slice-aggregate-write-ran c =
 -- pub fn answer_line
 returns-2 : tie.Need-returns-2
 returns-2 c =
-    let start = c .before .before .before .before .before .before .before .before .before .before .before .before .before .before .before .before .before .before .before .before .before .before in
-    let read-line = c .before .before .before .before .before .before .before .before .before .before .before .before .before .before .before .before .read-line in
-    let if1 = c .before .before .before .before .before .before .before .before .before .before .before .before .before .before .if1 in
-    let instant = c .before .before .before .before .before .before .before .before .before .before .before .instant in
+    let c8 = c .before .before .before .before .before .before .before .before in
+    let c16 = c8 .before .before .before .before .before .before .before .before in
+    let start = c16 .before .before .before .before .before .before in
+    let read-line = c16 .read-line in
+    let if1 = c8 .before .before .before .before .before .before .if1 in
+    let instant = c8 .before .before .before .instant in
     let enum-told = c .before .before .before .before .before .enum-told in
     let write-ran = c .before .before .write-ran in
     let within = atoms-within (instant .ensures .ran (enum-told .given .1)) in
@@ -48,10 +50,12 @@ returns-2 c =
 
 returns-3 : tie.Need-returns-3
 returns-3 c =
-    let start = c .before .before .before .before .before .before .before .before .before .before .before .before .before .before .before .before .before .before .before .before .before in
-    let read-line = c .before .before .before .before .before .before .before .before .before .before .before .before .before .before .before .read-line in
-    let if1 = c .before .before .before .before .before .before .before .before .before .before .before .before .before .if1 in
-    let instant = c .before .before .before .before .before .before .before .before .before .before .instant in
+    let c8 = c .before .before .before .before .before .before .before .before in
+    let c16 = c8 .before .before .before .before .before .before .before .before in
+    let start = c16 .before .before .before .before .before in
+    let read-line = c8 .before .before .before .before .before .before .before .read-line in
+    let if1 = c8 .before .before .before .before .before .if1 in
+    let instant = c8 .before .before .instant in
     let match = c .before .before .before .before .before .match in
     let refusal-of = c .before .before .before .before .refusal-of in
     let write-refused = c .before .before .write-refused in

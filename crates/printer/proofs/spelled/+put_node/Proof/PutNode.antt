@@ -127,22 +127,26 @@ module _ (t : ℕ) where
   -- let second = put_node(table, second_at(table, i), room, between);
   second-at-requires : Of lts.Need-second-at-requires
   second-at-requires c κs =
-      let start = c .before .before .before .before .before .before .before .before .before .before .before .before .before .before .before .before .before .before .before in
-      let kind-at = c .before .before .before .before .before .before .before .before .before .before .before .before .kind-at in
-      let children-of = c .before .before .before .before .before .before .before .before .before .before .before .children-of in
-      let if1 = c .before .before .before .before .before .before .before .before .before .before .if1 in
+      let c8 = c .before .before .before .before .before .before .before .before in
+      let c16 = c8 .before .before .before .before .before .before .before .before in
+      let start = c16 .before .before .before in
+      let kind-at = c8 .before .before .before .before .kind-at in
+      let children-of = c8 .before .before .before .children-of in
+      let if1 = c8 .before .before .if1 in
       let if2 = c .before .before .before .before .before .if2 in
       let count = ap children (sym (kind-at .ensures .0)) ∙ children-of .ensures in
       second-inside (start .pre .1 .1) (λ z. if1 .left (sym count ∙ z)) (λ z. if2 .left (sym count ∙ z))
 
   put-node-requires-2 : Of lts.Need-put-node-requires-2
   put-node-requires-2 c κs =
-      let start = c .before .before .before .before .before .before .before .before .before .before .before .before .before .before .before .before .before .before .before .before .before in
-      let put-head = c .before .before .before .before .before .before .before .before .before .before .before .before .before .before .before .before .before .put-head in
-      let kind-at = c .before .before .before .before .before .before .before .before .before .before .before .before .before .before .kind-at in
-      let children-of = c .before .before .before .before .before .before .before .before .before .before .before .before .before .children-of in
-      let if1 = c .before .before .before .before .before .before .before .before .before .before .before .before .if1 in
-      let put-node = c .before .before .before .before .before .before .before .before .before .before .put-node in
+      let c8 = c .before .before .before .before .before .before .before .before in
+      let c16 = c8 .before .before .before .before .before .before .before .before in
+      let start = c16 .before .before .before .before .before in
+      let put-head = c16 .before .put-head in
+      let kind-at = c8 .before .before .before .before .before .before .kind-at in
+      let children-of = c8 .before .before .before .before .before .children-of in
+      let if1 = c8 .before .before .before .before .if1 in
+      let put-node = c8 .before .before .put-node in
       let if2 = c .before .before .before .before .before .before .before .if2 in
       let put3 = c .before .before .before .before .put3 in
       let second-at = c .before .second-at in
@@ -157,14 +161,17 @@ module _ (t : ℕ) where
   -- put(room, second, b")")
   put-requires-4 : Of lts.Need-put-requires-4
   put-requires-4 c κs =
-      let start = c .before .before .before .before .before .before .before .before .before .before .before .before .before .before .before .before .before .before .before .before .before .before .before .before .before .before in
-      let put-head = c .before .before .before .before .before .before .before .before .before .before .before .before .before .before .before .before .before .before .before .before .before .before .put-head in
-      let kind-at = c .before .before .before .before .before .before .before .before .before .before .before .before .before .before .before .before .before .before .before .kind-at in
-      let children-of = c .before .before .before .before .before .before .before .before .before .before .before .before .before .before .before .before .before .before .children-of in
-      let if1 = c .before .before .before .before .before .before .before .before .before .before .before .before .before .before .before .before .before .if1 in
-      let put-node = c .before .before .before .before .before .before .before .before .before .before .before .before .before .before .before .put-node in
-      let if2 = c .before .before .before .before .before .before .before .before .before .before .before .before .if2 in
-      let put3 = c .before .before .before .before .before .before .before .before .before .put3 in
+      let c8 = c .before .before .before .before .before .before .before .before in
+      let c16 = c8 .before .before .before .before .before .before .before .before in
+      let c24 = c16 .before .before .before .before .before .before .before .before in
+      let start = c24 .before .before in
+      let put-head = c16 .before .before .before .before .before .before .put-head in
+      let kind-at = c16 .before .before .before .kind-at in
+      let children-of = c16 .before .before .children-of in
+      let if1 = c16 .before .if1 in
+      let put-node = c8 .before .before .before .before .before .before .before .put-node in
+      let if2 = c8 .before .before .before .before .if2 in
+      let put3 = c8 .before .put3 in
       let second-at = c .before .before .before .before .before .before .second-at in
       let put-node2 = c .before .before .before .before .put-node2 in
       let count = ap children (sym (kind-at .ensures .0)) ∙ children-of .ensures in
@@ -175,14 +182,17 @@ module _ (t : ℕ) where
   -- pub fn put_node
   returns-3 : Of lts.Need-returns-3
   returns-3 c =
-      let put-head = c .before .before .before .before .before .before .before .before .before .before .before .before .before .before .before .before .before .before .before .before .before .before .before .before .before .put-head in
-      let kind-at = c .before .before .before .before .before .before .before .before .before .before .before .before .before .before .before .before .before .before .before .before .before .before .kind-at in
-      let children-of = c .before .before .before .before .before .before .before .before .before .before .before .before .before .before .before .before .before .before .before .before .before .children-of in
-      let if1 = c .before .before .before .before .before .before .before .before .before .before .before .before .before .before .before .before .before .before .before .before .if1 in
-      let put-node = c .before .before .before .before .before .before .before .before .before .before .before .before .before .before .before .before .before .before .put-node in
-      let if2 = c .before .before .before .before .before .before .before .before .before .before .before .before .before .before .before .if2 in
-      let put3 = c .before .before .before .before .before .before .before .before .before .before .before .before .put3 in
-      let second-at = c .before .before .before .before .before .before .before .before .before .second-at in
+      let c8 = c .before .before .before .before .before .before .before .before in
+      let c16 = c8 .before .before .before .before .before .before .before .before in
+      let c24 = c16 .before .before .before .before .before .before .before .before in
+      let put-head = c24 .before .put-head in
+      let kind-at = c16 .before .before .before .before .before .before .kind-at in
+      let children-of = c16 .before .before .before .before .before .children-of in
+      let if1 = c16 .before .before .before .before .if1 in
+      let put-node = c16 .before .before .put-node in
+      let if2 = c8 .before .before .before .before .before .before .before .if2 in
+      let put3 = c8 .before .before .before .before .put3 in
+      let second-at = c8 .before .second-at in
       let put-node2 = c .before .before .before .before .before .before .before .put-node2 in
       let put4 = c .before .before .put4 in
       let count = ap children (sym (kind-at .ensures .0)) ∙ children-of .ensures in

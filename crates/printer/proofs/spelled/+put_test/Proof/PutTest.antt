@@ -3,7 +3,7 @@ use mathlib.Core.Path.{sym, _∙_}
 use native.Mathlib.Omega.{arith}
 use Rattle.printer.proofs.TestsIn.{test-inside, event-fits, puts-event, not-fits, not-less, not-part}
 use Rattle.printer.proofs.TestsIn.{not-closes, puts-not, joined-fits, first-less, first-part, joint-fits, second-less}
-use Rattle.printer.proofs.TestsIn.{second-part, joined-closes, puts-joined}
+use Rattle.printer.proofs.TestsIn.{second-part, joined-closes, puts-joined, unlike}
 use Rattle.printer.proofs as proofs
 use proofs.spelled.+put_test.Lts-put_test as lts
 use proofs.spelled.put_test.Reads.{Pre, Post}
@@ -95,9 +95,11 @@ module _ (t : ℕ) where
 
   returns-2 : Of lts.Need-returns-2
   returns-2 c =
-      let part-kind = c .before .before .before .before .before .before .before .before .before .before .before .before .before .before .before .before .part-kind in
-      let if2 = c .before .before .before .before .before .before .before .before .before .before .before .before .before .before .if2 in
-      let put = c .before .before .before .before .before .before .before .before .before .before .before .put in
+      let c8 = c .before .before .before .before .before .before .before .before in
+      let c16 = c8 .before .before .before .before .before .before .before .before in
+      let part-kind = c16 .part-kind in
+      let if2 = c8 .before .before .before .before .before .before .if2 in
+      let put = c8 .before .before .before .put in
       let put-test = c .before .before .before .before .before .before .before .put-test in
       let put2 = c .before .before .put2 in
       puts-not (sym (part-kind .ensures .0) ∙ if2 .taken) (put .ensures) (put-test .ensures) (put2 .ensures)
@@ -109,7 +111,7 @@ module _ (t : ℕ) where
       let part-kind = c .before .before .before .before .part-kind in
       let if1 = c .before .before .before .if1 in
       let if2 = c .before .before .if2 in
-      joined-fits (λ e. if1 .left (part-kind .ensures .0 ∙ e)) (λ e. if2 .left (part-kind .ensures .0 ∙ e)) (start .pre .1)
+      joined-fits (unlike (part-kind .ensures .0) (if1 .left)) (unlike (part-kind .ensures .0) (if2 .left)) (start .pre .1)
 
   -- let first = put_test(table, c + 4, room, begun);
   put-test-requires-2 : Of lts.Need-put-test-requires-2
@@ -119,8 +121,8 @@ module _ (t : ℕ) where
       let if1 = c .before .before .before .before .before .before .before .if1 in
       let if2 = c .before .before .before .before .before .before .if2 in
       let put3 = c .before .before .before .put3 in (
-        omega (arith, first-less (λ e. if1 .left (part-kind .ensures .0 ∙ e)) (λ e. if2 .left (part-kind .ensures .0 ∙ e)) (start .pre .1)),
-        first-part (λ e. if1 .left (part-kind .ensures .0 ∙ e)) (λ e. if2 .left (part-kind .ensures .0 ∙ e)) (start .pre .1) (put3 .ensures),
+        omega (arith, first-less (unlike (part-kind .ensures .0) (if1 .left)) (unlike (part-kind .ensures .0) (if2 .left)) (start .pre .1)),
+        first-part (unlike (part-kind .ensures .0) (if1 .left)) (unlike (part-kind .ensures .0) (if2 .left)) (start .pre .1) (put3 .ensures),
       )
 
   -- let between = put_joint(room, first, k);
@@ -132,63 +134,83 @@ module _ (t : ℕ) where
       let if2 = c .before .before .before .before .before .before .before .before .before .before .if2 in
       let put3 = c .before .before .before .before .before .before .before .put3 in
       let put-test2 = c .before .before .before .put-test2 in
-      rw (part-kind .ensures .0) (joint-fits (λ e. if1 .left (part-kind .ensures .0 ∙ e)) (λ e. if2 .left (part-kind .ensures .0 ∙ e)) (start .pre .1) (put3 .ensures) (put-test2 .ensures))
+      let no-event = unlike (part-kind .ensures .0) (if1 .left) in
+      let no-not = unlike (part-kind .ensures .0) (if2 .left) in
+      rw (part-kind .ensures .0) (joint-fits no-event no-not (start .pre .1) (put3 .ensures) (put-test2 .ensures))
 
   -- let second = put_test(table, c + 4 + 4 * part_size(table, c + 4), room, between);
   part-size-requires : Of lts.Need-part-size-requires
   part-size-requires c κs =
-      let start = c .before .before .before .before .before .before .before .before .before .before .before .before .before .before .before .before .before .before in
-      let part-kind = c .before .before .before .before .before .before .before .before .before .before .before .before .before .before .before .part-kind in
-      let if1 = c .before .before .before .before .before .before .before .before .before .before .before .before .before .before .if1 in
-      let if2 = c .before .before .before .before .before .before .before .before .before .before .before .before .before .if2 in
-      let put3 = c .before .before .before .before .before .before .before .before .before .before .put3 in
-      omega (arith, test-inside (first-part (λ e. if1 .left (part-kind .ensures .0 ∙ e)) (λ e. if2 .left (part-kind .ensures .0 ∙ e)) (start .pre .1) (put3 .ensures)))
+      let c8 = c .before .before .before .before .before .before .before .before in
+      let c16 = c8 .before .before .before .before .before .before .before .before in
+      let start = c16 .before .before in
+      let part-kind = c8 .before .before .before .before .before .before .before .part-kind in
+      let if1 = c8 .before .before .before .before .before .before .if1 in
+      let if2 = c8 .before .before .before .before .before .if2 in
+      let put3 = c8 .before .before .put3 in
+      let no-event = unlike (part-kind .ensures .0) (if1 .left) in
+      let no-not = unlike (part-kind .ensures .0) (if2 .left) in
+      omega (arith, test-inside (first-part no-event no-not (start .pre .1) (put3 .ensures)))
 
   put-test-requires-3 : Of lts.Need-put-test-requires-3
   put-test-requires-3 c κs =
-      let start = c .before .before .before .before .before .before .before .before .before .before .before .before .before .before .before .before .before .before .before .before in
-      let part-kind = c .before .before .before .before .before .before .before .before .before .before .before .before .before .before .before .before .before .part-kind in
-      let if1 = c .before .before .before .before .before .before .before .before .before .before .before .before .before .before .before .before .if1 in
-      let if2 = c .before .before .before .before .before .before .before .before .before .before .before .before .before .before .before .if2 in
-      let put3 = c .before .before .before .before .before .before .before .before .before .before .before .before .put3 in
-      let put-test2 = c .before .before .before .before .before .before .before .before .put-test2 in
+      let c8 = c .before .before .before .before .before .before .before .before in
+      let c16 = c8 .before .before .before .before .before .before .before .before in
+      let start = c16 .before .before .before .before in
+      let part-kind = c16 .before .part-kind in
+      let if1 = c16 .if1 in
+      let if2 = c8 .before .before .before .before .before .before .before .if2 in
+      let put3 = c8 .before .before .before .before .put3 in
+      let put-test2 = c8 .put-test2 in
       let put-joint = c .before .before .before .before .put-joint in
       let part-size = c .before .part-size in
       let said = rw (part-kind .ensures .0) at (put-joint .ensures) in
-      let there = second-part (λ e. if1 .left (part-kind .ensures .0 ∙ e)) (λ e. if2 .left (part-kind .ensures .0 ∙ e)) (start .pre .1) (put3 .ensures) (put-test2 .ensures) said in
-      rw (part-size .ensures .0) (omega (arith, second-less (λ e. if1 .left (part-kind .ensures .0 ∙ e)) (λ e. if2 .left (part-kind .ensures .0 ∙ e)) (start .pre .1)), there)
+      let no-event = unlike (part-kind .ensures .0) (if1 .left) in
+      let no-not = unlike (part-kind .ensures .0) (if2 .left) in
+      let there = second-part no-event no-not (start .pre .1) (put3 .ensures) (put-test2 .ensures) said in
+      rw (part-size .ensures .0) (omega (arith, second-less no-event no-not (start .pre .1)), there)
 
   -- put(room, second, b")")
   put-requires-4 : Of lts.Need-put-requires-4
   put-requires-4 c κs =
-      let start = c .before .before .before .before .before .before .before .before .before .before .before .before .before .before .before .before .before .before .before .before .before .before .before .before .before in
-      let part-kind = c .before .before .before .before .before .before .before .before .before .before .before .before .before .before .before .before .before .before .before .before .before .before .part-kind in
-      let if1 = c .before .before .before .before .before .before .before .before .before .before .before .before .before .before .before .before .before .before .before .before .before .if1 in
-      let if2 = c .before .before .before .before .before .before .before .before .before .before .before .before .before .before .before .before .before .before .before .before .if2 in
-      let put3 = c .before .before .before .before .before .before .before .before .before .before .before .before .before .before .before .before .before .put3 in
-      let put-test2 = c .before .before .before .before .before .before .before .before .before .before .before .before .before .put-test2 in
-      let put-joint = c .before .before .before .before .before .before .before .before .before .put-joint in
+      let c8 = c .before .before .before .before .before .before .before .before in
+      let c16 = c8 .before .before .before .before .before .before .before .before in
+      let c24 = c16 .before .before .before .before .before .before .before .before in
+      let start = c24 .before in
+      let part-kind = c16 .before .before .before .before .before .before .part-kind in
+      let if1 = c16 .before .before .before .before .before .if1 in
+      let if2 = c16 .before .before .before .before .if2 in
+      let put3 = c16 .before .put3 in
+      let put-test2 = c8 .before .before .before .before .before .put-test2 in
+      let put-joint = c8 .before .put-joint in
       let part-size = c .before .before .before .before .before .before .part-size in
       let put-test3 = c .before .before .before .before .put-test3 in
       let said = rw (part-kind .ensures .0) at (put-joint .ensures) in
       let second = rw (part-size .ensures .0) at (put-test3 .ensures) in
-      joined-closes (λ e. if1 .left (part-kind .ensures .0 ∙ e)) (λ e. if2 .left (part-kind .ensures .0 ∙ e)) (start .pre .1) (put3 .ensures) (put-test2 .ensures) said second
+      let no-event = unlike (part-kind .ensures .0) (if1 .left) in
+      let no-not = unlike (part-kind .ensures .0) (if2 .left) in
+      joined-closes no-event no-not (start .pre .1) (put3 .ensures) (put-test2 .ensures) said second
 
   -- fn put_test
   returns-3 : Of lts.Need-returns-3
   returns-3 c =
-      let part-kind = c .before .before .before .before .before .before .before .before .before .before .before .before .before .before .before .before .before .before .before .before .before .before .before .before .before .part-kind in
-      let if1 = c .before .before .before .before .before .before .before .before .before .before .before .before .before .before .before .before .before .before .before .before .before .before .before .before .if1 in
-      let if2 = c .before .before .before .before .before .before .before .before .before .before .before .before .before .before .before .before .before .before .before .before .before .before .before .if2 in
-      let put3 = c .before .before .before .before .before .before .before .before .before .before .before .before .before .before .before .before .before .before .before .before .put3 in
-      let put-test2 = c .before .before .before .before .before .before .before .before .before .before .before .before .before .before .before .before .put-test2 in
-      let put-joint = c .before .before .before .before .before .before .before .before .before .before .before .before .put-joint in
-      let part-size = c .before .before .before .before .before .before .before .before .before .part-size in
+      let c8 = c .before .before .before .before .before .before .before .before in
+      let c16 = c8 .before .before .before .before .before .before .before .before in
+      let c24 = c16 .before .before .before .before .before .before .before .before in
+      let part-kind = c24 .before .part-kind in
+      let if1 = c24 .if1 in
+      let if2 = c16 .before .before .before .before .before .before .before .if2 in
+      let put3 = c16 .before .before .before .before .put3 in
+      let put-test2 = c16 .put-test2 in
+      let put-joint = c8 .before .before .before .before .put-joint in
+      let part-size = c8 .before .part-size in
       let put-test3 = c .before .before .before .before .before .before .before .put-test3 in
       let put4 = c .before .before .put4 in
       let said = rw (part-kind .ensures .0) at (put-joint .ensures) in
       let second = rw (part-size .ensures .0) at (put-test3 .ensures) in
-      puts-joined (λ e. if1 .left (part-kind .ensures .0 ∙ e)) (λ e. if2 .left (part-kind .ensures .0 ∙ e)) (put3 .ensures) (put-test2 .ensures) said second (put4 .ensures)
+      let no-event = unlike (part-kind .ensures .0) (if1 .left) in
+      let no-not = unlike (part-kind .ensures .0) (if2 .left) in
+      puts-joined no-event no-not (put3 .ensures) (put-test2 .ensures) said second (put4 .ensures)
 
   pub closed : {M : Type 1} → lts.Closed given (exactly lts.ps μ-put-test Pre t) Post M
   closed = lts.spec given (exactly lts.ps μ-put-test Pre t) Post
