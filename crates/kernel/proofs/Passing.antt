@@ -35,7 +35,7 @@ use Rattle.table.specs.Records.{nodes}
 use Rattle.table.proofs.Tree.{size-pos}
 use Rattle.state.specs.StateBytes.{zeros, below, stateBytes}
 use Rattle.state.proofs.Parts.{len-bytes}
-use Rattle.steps.specs.Running.{atoms-done, envOf, Any, Ready, Ran, Wrote}
+use Rattle.steps.specs.Running.{atoms-done, envOf, Any, Ready, Ran, Wrote, something-moved, end-declared}
 use Rattle.table.specs.Reading.{event-words}
 use Rattle.steps.specs.Numbers.{moved-at, ended-at, places-of-row, wordsOf, tallyOf, firstNumbers, nextNumbers, Numbers}
 use Rattle.steps.specs.Flags.{flagOf}
@@ -49,14 +49,14 @@ use Rattle.kernel.specs.Passes.{Startable, Reported}
 
 -- the tally for the next pass: move false, and the end declared if nothing moved
 abbrev pub next-tally : List ℕ → List ℕ
-next-tally l = set (set l 2 (boolByte (eqb (getD l 1 0) 0))) 1 0
+next-tally l = set (set l 2 (boolByte (eqb (something-moved l) 0))) 1 0
 
 -- the environment for the next pass, by whether something moved
 abbrev next-env : Bool → Env → Env
 next-env true E = unmoved E
 next-env false E = declared-end E
 
-next-is : (words l : List ℕ) → length l ≡ 3 → ltb 0 (getD l 2 0) ≡ false → (m : Bool) → ltb 0 (getD l 1 0) ≡ m
+next-is : (words l : List ℕ) → length l ≡ 3 → ltb 0 (end-declared l) ≡ false → (m : Bool) → ltb 0 (something-moved l) ≡ m
     → envOf words (next-tally l) ≡ next-env m (envOf words l)
 next-is words [] h e m f = absurd (omega arith)
 next-is words (a ∷ []) h e m f = absurd (omega arith)

@@ -5,7 +5,7 @@ use mathlib.Core.Path.{_≡_, refl, subst, _∙_}
 use mathlib.Core.Logic.{_≢_}
 use mathlib.Core.List.{List}
 use native.Mathlib.Omega.{arith}
-use lib.ListN.{length, getD}
+use lib.ListN.{length}
 use borrow.Rule.Slice.PartMut.{midOf, putMid}
 use Rattle.events.specs.Members.{marks}
 use Rattle.junior.specs.declared.Flag.{Flag}
@@ -19,9 +19,10 @@ use Rattle.junior.specs.Inside.{Going, Controlled}
 use Rattle.junior.proofs.Verdicts.{test-event}
 use Rattle.table.specs.Records.{argumentAt}
 use Rattle.table.specs.Spells.{Spells}
+use Rattle.state.specs.Kinds.{control-kind}
 use Rattle.state.proofs.Shape.{Shape, is-done, is-control, shape-by}
 use Rattle.state.proofs.Frames.{control-body}
-use Rattle.steps.specs.Running.{Ready, Ran, Live, Runs, Any, Kind, envOf}
+use Rattle.steps.specs.Running.{Ready, Ran, Live, Runs, Any, Kind, envOf, end-declared}
 use Rattle.steps.proofs.Children.{falling, only-cut, first-at}
 use Rattle.steps.proofs.Tally.{not-ended, is-ended}
 use Rattle.steps.proofs.Done.{phase-0-left, ran-alone, ran-kept}
@@ -30,11 +31,11 @@ use Rattle.runner.proofs.Only.{only-asks, only-ran}
 pub data Controls : Term → Type 0 where
   controls : (s : ℕ) (x : Term) → Controls (control s x)
 
-controls-of : {t : Term} {ph : ℕ} → Shape t 11 ph → ph ≢ 3 → Controls t
+controls-of : {t : Term} {ph : ℕ} → Shape t control-kind ph → ph ≢ 3 → Controls t
 controls-of (is-control s x) n = controls s x
 controls-of (is-done p e) n = absurd (n refl)
 
-pub controls-by : (t : Term) → Kind 11 t → Controls t
+pub controls-by : (t : Term) → Kind control-kind t → Controls t
 controls-by t w = controls-of (shape-by t (w .0) refl) (w .1)
 
 module _ {table : List ℕ} {i : ℕ} {state words row tally : List ℕ} {a : ℕ} (names : a ≡ argumentAt table i) where
@@ -73,14 +74,14 @@ module _ {table : List ℕ} {i : ℕ} {state words row tally : List ℕ} {a : �
   -- it is not
   module _ (off : marks words a ≡ false) where
     pub control-waits : {t : Term} → Controls t → Ready 0 table i state words row tally t
-        → getD tally 2 0 ≡ 0 → (P : Place) → Ran P t words row tally state words row tally SUSP
+        → end-declared tally ≡ 0 → (P : Place) → Ran P t words row tally state words row tally SUSP
     unfolding collect
     control-waits (controls s x) h z P =
         let e : marks words s ≡ false = rw (event-is s x h) at off in
         ran-alone (r28 (test-event s (envOf words tally) ∙ rw (e, not-ended z))) refl (h .bytes)
 
     pub control-stops : {t : Term} → Controls t → Ready 0 table i state words row tally t
-        → getD tally 2 0 ≢ 0 → (P : Place) → Ran P t words row tally state words row tally STOP
+        → end-declared tally ≢ 0 → (P : Place) → Ran P t words row tally state words row tally STOP
     unfolding collect
     control-stops (controls s x) h z P =
         let e : marks words s ≡ false = rw (event-is s x h) at off in

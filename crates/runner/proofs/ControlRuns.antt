@@ -12,12 +12,13 @@ use Rattle.events.specs.Members.{places, marks}
 use Rattle.junior.specs.Term.{Term, prog}
 use Rattle.table.specs.Records.{kindAt, argumentAt, sizeAt}
 use Rattle.table.specs.Spells.{Spells}
+use Rattle.state.specs.Kinds.{control-kind}
 use Rattle.steps.specs.Running.{Ready, Runs, Any}
 use Rattle.steps.proofs.LoadedNode.{control-placed}
 use Rattle.steps.proofs.Children.{own-in}
 use Rattle.runner.proofs.Control.{Controls, controls, controls-by, control-asks, control-runs, control-waits, control-stops}
 use Rattle.steps.specs.Numbers.{wordsOf, tallyOf, ended-at}
-use Rattle.steps.specs.Kinds.{OfKind, control-kind}
+use Rattle.steps.specs.Kinds.{OfKind}
 use Rattle.steps.specs.Flags.{flagOf}
 use Rattle.steps.specs.Lent.{lent, Stands, Went, CanRun, HasRun}
 use Rattle.steps.proofs.Context.{outer}

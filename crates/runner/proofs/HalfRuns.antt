@@ -8,11 +8,12 @@ use lib.Dec.{lit<}
 use lib.ListN.{length, getD, take, drop}
 use Rattle.junior.specs.Term.{Term}
 use Rattle.table.specs.Records.{sizeAt, secondAt}
-use Rattle.state.proofs.Parts.{first-of, with-first, rest-of, with-rest}
+use Rattle.state.specs.Kinds.{par-kind}
+use Rattle.state.proofs.Parts.{first-of, with-first, rest-of, with-rest, own-flags}
 use Rattle.state.proofs.Shape.{Shape, is-done, is-par, shape-by}
 use Rattle.steps.specs.Running.{Ready, Any, Kind, parEnd}
 use Rattle.steps.proofs.Children.{own-in}
-use Rattle.steps.specs.Kinds.{NotBoth, par-kind}
+use Rattle.steps.specs.Kinds.{NotBoth}
 use Rattle.steps.specs.Flags.{flagOf, ParEnds}
 use Rattle.steps.specs.Lent.{lent, Around, Stands, Went, CanRun, HasRun}
 use Rattle.steps.proofs.Context.{byte-at, byte-in, outer}
@@ -21,7 +22,7 @@ use Rattle.steps.proofs.Dispatch.{run-at, phase-is, flags-are}
 use Rattle.steps.proofs.ChildContext.{child-stands, par-end-around}
 use Rattle.runner.proofs.Par.{Left, Right, par-by, left-by, right-by, par-reads, par-fits, left-flag, right-flag, first-asks}
 use Rattle.runner.proofs.Par.{left-end-asks, left-keeps, left-ran, right-asks, right-end-asks, right-ran}
-use Rattle.runner.proofs.Falling.{weigh, child-rank, lighter, smaller-by}
+use Rattle.runner.proofs.Falling.{weigh, child-rank, lighter, smaller-by, form-rank}
 
 -- a Par that doesn't read as Nothing is in phase 0
 par-phase : {t : Term} {ph : ℕ} → Shape t par-kind ph → ph ≢ 3 → ph ≡ 0
@@ -30,7 +31,7 @@ par-phase (is-done p k) n = absurd (n refl)
 
 module _ {table : List ℕ} {i : ℕ} {state : List ℕ} (on : getD state (4 * i) 0 ≢ 3) {before part behind : List ℕ} (a : Around state i before part behind)
     {words row tally : List ℕ} {t : Term} (w : NotBoth t) (h : Ready 0 table i part words row tally t) where
-  as-par : Kind 4 t
+  as-par : Kind par-kind t
   as-par = (w .0, λ e. on (phase-is a h ∙ e))
 
   left-of : getD state (4 * i + 1) 0 % 4 ≡ 0 → Left t
@@ -39,7 +40,7 @@ module _ {table : List ℕ} {i : ℕ} {state : List ℕ} (on : getD state (4 * i
   right-of : getD state (4 * i + 1) 0 % 4 ≢ 0 → Right t
   right-of e = right-by h (as-par, λ z. e (ap (λ (n : ℕ). n % 4) (flags-are a h) ∙ z))
 
-  flags-in : getD state (4 * i + 1) 0 ≡ getD part 1 0
+  flags-in : getD state (4 * i + 1) 0 ≡ own-flags part
   flags-in = byte-at a 1 (own-in h 1 (omega arith))
 
 module _ {table : List ℕ} {i : ℕ} {state : List ℕ} (on : getD state (4 * i) 0 ≢ 3) {m row before part behind : List ℕ}
@@ -176,7 +177,7 @@ module _ {table : List ℕ} {i : ℕ} {state m row : List ℕ} (on : getD state 
     pub half-left : CanRun 0 NotBoth (lent table state m row) i → {k : ℕ} → weigh table i 2 ≡ k
         → (weigh table (i + 1) child-rank < k) × CanRun 0 Any (lent table state m row) (i + 1)
     half-left (before, part, behind, o) e =
-        (lighter 2 child-rank (lit< tt) (left-smaller on o suspended) e, (_, _, _, left-stands on o suspended))
+        (lighter form-rank child-rank (lit< tt) (left-smaller on o suspended) e, (_, _, _, left-stands on o suspended))
 
     module _ {second : ℕ} (is : second ≡ secondAt table i)
         {state′ m′ row′ : List ℕ} {f : ℕ} (run : HasRun 0 Any (lent table state m row) (i + 1) (lent table state′ m′ row′) f) where

@@ -20,7 +20,7 @@ use Rattle.junior.specs.Inside.{Going, Remains}
 use Rattle.junior.proofs.Going.{stands}
 use Rattle.table.proofs.Tree.{size-pos}
 use Rattle.state.specs.StateBytes.{code, head, zeros, below, stateBytes}
-use Rattle.state.proofs.Parts.{first-of, with-first, rest-of, with-rest, blank-two, part-is, put-is}
+use Rattle.state.proofs.Parts.{first-of, with-first, rest-of, with-rest, blank-two, part-is, put-is, own-phase, own-flags}
 use Rattle.steps.specs.Running.{Ran}
 use Rattle.steps.specs.Running.{left, gone, ended, isTERM, parEnd}
 use Rattle.steps.proofs.Done.{left-leave}
@@ -61,10 +61,10 @@ module _ {state : List ℕ} {flags n : ℕ} {a b : List ℕ} (o : Two state flag
       }
 
   -- the flags, and the second branch's phase
-  pub flags-at : getD state 1 0 ≡ flags
-  flags-at = ap (λ l. getD l 1 0) (o .state-is)
+  pub flags-at : own-flags state ≡ flags
+  flags-at = ap own-flags (o .state-is)
 
-  pub second-at : getD state (4 + 4 * n) 0 ≡ getD b 0 0
+  pub second-at : getD state (4 + 4 * n) 0 ≡ own-phase b
   second-at =
       let there : length (0 ∷ flags ∷ 0 ∷ 0 ∷ a) + 0 ≡ 4 + 4 * n = omega (arith, o .first-long) in
       rw (o .state-is, ← there) (getD-append-add (0 ∷ flags ∷ 0 ∷ 0 ∷ a) b 0 0)
@@ -85,7 +85,7 @@ unfolding prog
 over t (p, e) = e ∙ ap done (sym (ap prog e))
 
 -- a branch that stands with TERM is in phase 3
-pub stood-ended : (X : Events) (α : Flag) (t : Term) → α ≡ TERM → Remains α X t → getD (stateBytes t) 0 0 ≡ 3
+pub stood-ended : (X : Events) (α : Flag) (t : Term) → α ≡ TERM → Remains α X t → own-phase (stateBytes t) ≡ 3
 stood-ended X α t e s = let (p, is) = subst (λ f. Remains f X t) e s in ap (λ x. head x .phase) is
 
 zeros-cons : (p : Program) → zeros p ≡ 0 ∷ replicate (4 * size p - 1) 0

@@ -6,7 +6,7 @@ use mathlib.Core.Logic.{_≢_}
 use mathlib.Core.List.{List, [], _∷_, _++_}
 use native.Mathlib.Omega.{arith}
 use lib.Dec.{eqb, ltb}
-use lib.ListN.{length, getD, set}
+use lib.ListN.{length, set}
 use borrow.Author.Tests.{lt-ltb}
 use borrow.Rule.Slice.PartMut.{midOf, putMid}
 use Rattle.events.specs.Events.{Events, put}
@@ -21,9 +21,11 @@ use Rattle.junior.proofs.Little.{collect-last, put-at}
 use Rattle.junior.proofs.Grows.{grows}
 use Rattle.table.specs.Records.{argumentAt}
 use Rattle.table.specs.Spells.{Spells}
+use Rattle.state.specs.Kinds.{local-kind}
 use Rattle.state.specs.StateBytes.{in-phase}
 use Rattle.state.proofs.Shape.{Shape, is-done, is-local, shape-by}
 use Rattle.state.proofs.Frames.{local-body}
+use Rattle.state.proofs.Parts.{own-phase}
 use Rattle.steps.specs.Running.{Ready, SameLengths, Ran, Live, Runs, Any, Kind, envOf, signAfter}
 use Rattle.steps.proofs.LoadedNode.{local-placed}
 use Rattle.steps.proofs.Children.{at-node, falling, only-cut, first-at, phase-is}
@@ -33,11 +35,11 @@ use Rattle.runner.proofs.Only.{only-asks, only-ran}
 pub data Locals : Term → Type 0 where
   locals : (b : Bool) (e : ℕ) (x : Term) → Locals (local b e x)
 
-locals-of : {t : Term} {ph : ℕ} → Shape t 12 ph → ph ≢ 3 → Locals t
+locals-of : {t : Term} {ph : ℕ} → Shape t local-kind ph → ph ≢ 3 → Locals t
 locals-of (is-local b e x q) n = locals b e x
 locals-of (is-done p e) n = absurd (n refl)
 
-pub locals-by : (t : Term) → Kind 12 t → Locals t
+pub locals-by : (t : Term) → Kind local-kind t → Locals t
 locals-by t w = locals-of (shape-by t (w .0) refl) (w .1)
 
 -- the sign from the phase, and the phase from the sign: a Local+ that suspends still has its event, for events only come
@@ -82,7 +84,7 @@ module _ {table : List ℕ} {i : ℕ} {state words row tally : List ℕ} {a : �
   unfolding prog Spells
   event-is b e x h = names ∙ h .placed .spelled .1
 
-  module _ {words₁ : List ℕ} (m : Marked a (eqb (getD state 0 0) 1) words words₁) where
+  module _ {words₁ : List ℕ} (m : Marked a (eqb (own-phase state) 1) words words₁) where
     inside-marks : (b : Bool) (e : ℕ) (x : Term) → Ready 0 table i state words row tally (local b e x) → marks words₁ ≡ put e b (marks words)
     unfolding prog
     inside-marks b e x h =

@@ -13,12 +13,14 @@ use Rattle.events.specs.Members.{places, marks}
 use Rattle.junior.specs.Term.{Term, prog}
 use Rattle.table.specs.Records.{argumentAt, sizeAt}
 use Rattle.table.specs.Spells.{Spells}
+use Rattle.state.specs.Kinds.{local-kind}
+use Rattle.state.proofs.Parts.{own-phase}
 use Rattle.steps.specs.Running.{Ready, Live, Runs, Any, signAfter}
 use Rattle.steps.proofs.LoadedNode.{local-placed}
 use Rattle.steps.proofs.Children.{own-in}
 use Rattle.runner.proofs.Local.{Locals, locals, locals-by, Marked, local-asks, local-writes, local-ran}
 use Rattle.steps.specs.Numbers.{places-of-row, wordsOf, tallyOf, Put}
-use Rattle.steps.specs.Kinds.{OfKind, local-kind}
+use Rattle.steps.specs.Kinds.{OfKind}
 use Rattle.steps.specs.Flags.{flagOf}
 use Rattle.steps.specs.Lent.{lent, Around, Stands, Went, CanRun, HasRun}
 use Rattle.steps.proofs.Context.{phase-at, phase-in, put-phase, inner, outer}
@@ -53,7 +55,7 @@ module _ {table : List ℕ} {i : ℕ} {state : List ℕ} (on : getD state (4 * i
     there : e < places
     there = omega (arith, local-event)
 
-    inside-marked : Marked e (eqb (getD part 0 0) 1) (wordsOf m) (wordsOf m₁)
+    inside-marked : Marked e (eqb (own-phase part) 1) (wordsOf m) (wordsOf m₁)
     inside-marked =
         rw (phase-at (o .around) (own-in (o .live .2) 0 (lit< tt))) at (marked-by q (words-wide (o .numbers)) there)
 

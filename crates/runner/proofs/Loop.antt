@@ -5,7 +5,7 @@ use mathlib.Core.Path.{_≡_, refl, ap, sym, _∙_}
 use mathlib.Core.Logic.{_≢_}
 use mathlib.Core.List.{List, _∷_, append-nil}
 use native.Mathlib.Omega.{arith}
-use lib.ListN.{length, getD, drop, set}
+use lib.ListN.{length, drop, set}
 use borrow.Rule.Slice.PartMut.{midOf, putMid}
 use Rattle.junior.specs.declared.Flag.{Flag}
 use Rattle.junior.specs.declared.Flag.the-variants.{TERM}
@@ -20,11 +20,13 @@ use Rattle.junior.proofs.Held.{held-fresh, ends-unheld}
 use Rattle.junior.proofs.NeverRoundTwice.{never-round-twice}
 use Rattle.junior.proofs.Going.{rest-going, fresh-at-rest}
 use Rattle.junior.proofs.Figures.{pot-fresh}
+use Rattle.state.specs.Kinds.{loop-kind}
 use Rattle.state.specs.StateBytes.{below}
-use Rattle.state.proofs.Parts.{fresh-zeros}
+use Rattle.state.proofs.Parts.{fresh-zeros, own-phase}
 use Rattle.state.proofs.Shape.{Shape, is-done, is-loop0, is-loop1, shape-by}
 use Rattle.state.proofs.Frames.{loop-body}
-use Rattle.steps.specs.Running.{Ready, Ran, Live, Runs, Any, Kind, KindPhase}
+use Rattle.steps.specs.Running.{Ready, Ran, Live, Runs, Any, Kind}
+use Rattle.steps.specs.Kinds.{Beginning}
 use Rattle.steps.proofs.Children.{at-node, falling, only-cut, first-at, phase-is}
 use Rattle.steps.proofs.Done.{same-lengths, ready-as, room-after, few, ran-flag, ran-zeros, ran-long, ran-then}
 use Rattle.steps.proofs.Done.{back-kept, back-long, back-in, own-stays, ran-kept, ran-phase}
@@ -34,10 +36,10 @@ use Rattle.runner.proofs.Only.{only-asks, only-ran}
 pub data Begins : Term → Type 0 where
   begins : (p : Program) → Begins (loop0 p)
 
-begins-of : {t : Term} → Shape t 5 0 → Begins t
+begins-of : {t : Term} → Shape t loop-kind 0 → Begins t
 begins-of (is-loop0 p) = begins p
 
-pub begins-by : (t : Term) → KindPhase 5 0 t → Begins t
+pub begins-by : (t : Term) → Beginning t → Begins t
 begins-by t w = begins-of (shape-by t (w .0) (w .1))
 
 -- a fresh body that stops leaves nothing due after it
@@ -92,13 +94,13 @@ module _ {table : List ℕ} {i : ℕ} {state words row tally : List ℕ} where
 pub data Loops : Term → Type 0 where
   loops : (x : Term) → Loops (loop1 x)
 
-loops-of : {t : Term} {ph : ℕ} → Shape t 5 ph → ph ≢ 3 → ph ≢ 0 → Loops t
+loops-of : {t : Term} {ph : ℕ} → Shape t loop-kind ph → ph ≢ 3 → ph ≢ 0 → Loops t
 loops-of (is-loop1 x) a b = loops x
 loops-of (is-loop0 p) a b = absurd (b refl)
 loops-of (is-done p e) a b = absurd (a refl)
 
 module _ {table : List ℕ} {i : ℕ} {state words row tally : List ℕ} where
-  pub loops-by : {t : Term} → Kind 5 t → Ready 0 table i state words row tally t → getD state 0 0 ≢ 0 → Loops t
+  pub loops-by : {t : Term} → Kind loop-kind t → Ready 0 table i state words row tally t → own-phase state ≢ 0 → Loops t
   loops-by {t} w h n = loops-of (shape-by t (w .0) refl) (w .1) (λ e. n (phase-is h ∙ e))
 
   pub loop-asks : {t : Term} → Loops t → Ready 0 table i state words row tally t → {k : ℕ} (rank : ℕ) → falling table i rank ≡ k
@@ -135,13 +137,13 @@ module _ {table : List ℕ} {i : ℕ} {state words row tally : List ℕ} where
         (room-after h g (loop0 (prog x)) (simp (ends-unheld (g .rewrites)) (omega arith)))
 
     pub anew-asks : {t : Term} → Loops t → Ready 0 table i state words row tally t → α ≡ TERM
-        → Live 1 (KindPhase 5 0) table i (putMid 4 (length state - 4) state s) words′ row′ tally′
+        → Live 1 Beginning table i (putMid 4 (length state - 4) state s) words′ row′ tally′
     unfolding prog kind
     anew-asks (loops x) h z = (loop0 (prog x), (refl, refl), anew x h z)
 
     pub loop-again : {t : Term} → Loops t → Ready 0 table i state words row tally t → α ≡ TERM
         → {state″ words″ row″ tally″ : List ℕ} {β : Flag}
-        → Runs 1 (KindPhase 5 0) table i (putMid 4 (length state - 4) state s) words′ row′ tally′ state″ words″ row″ tally″ β
+        → Runs 1 Beginning table i (putMid 4 (length state - 4) state s) words′ row′ tally′ state″ words″ row″ tally″ β
         → (P : Place)
         → P .node ≡ i
         → Ran P t words row tally state″ words″ row″ tally″ β

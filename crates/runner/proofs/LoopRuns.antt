@@ -9,10 +9,11 @@ use lib.ListN.{length, getD, take, drop, set}
 use borrow.Rule.Slice.PartMut.{midOf, putMid}
 use Rattle.junior.specs.Term.{Term}
 use Rattle.table.specs.Records.{kindAt, sizeAt}
+use Rattle.state.specs.Kinds.{loop-kind}
 use Rattle.state.proofs.Shape.{Shape, is-done, is-loop0, is-loop1, shape-by}
 use Rattle.steps.specs.Running.{Ready, Any}
 use Rattle.steps.proofs.Children.{own-in, unseen}
-use Rattle.steps.specs.Kinds.{OfKind, Beginning, loop-kind}
+use Rattle.steps.specs.Kinds.{OfKind, Beginning}
 use Rattle.steps.specs.Lent.{Lent, lent, Around, Stands, Went, CanRun, HasRun}
 use Rattle.steps.proofs.Context.{outer, phase-at, phase-in, put-phase}
 use Rattle.steps.proofs.Row.{kept-then, still}
@@ -66,7 +67,7 @@ module _ {table : List ℕ} {i : ℕ} {state m row before part behind : List ℕ
         }
 
 -- a Loop that is neither gone nor begun
-not-begun : {t : Term} {ph : ℕ} → Shape t 5 ph → ph ≢ 3 → ph ≢ 1 → ph ≡ 0
+not-begun : {t : Term} {ph : ℕ} → Shape t loop-kind ph → ph ≢ 3 → ph ≢ 1 → ph ≡ 0
 not-begun (is-loop0 p) a b = refl
 not-begun (is-loop1 x) a b = absurd (b refl)
 not-begun (is-done p e) a b = absurd (a refl)

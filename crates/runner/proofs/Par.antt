@@ -23,8 +23,9 @@ use Rattle.table.specs.Spells.{Spells}
 use Rattle.table.specs.Inside.{Placed}
 use Rattle.table.proofs.Tree.{size-pos, written}
 use Rattle.table.proofs.Loaded.{in-table}
+use Rattle.state.specs.Kinds.{par-kind}
 use Rattle.state.specs.StateBytes.{code, head, below, stateBytes}
-use Rattle.state.proofs.Parts.{first-of, with-first, rest-of, with-rest, len-bytes}
+use Rattle.state.proofs.Parts.{first-of, with-first, rest-of, with-rest, len-bytes, own-flags}
 use Rattle.state.proofs.Shape.{Shape, is-done, is-par, shape-by}
 use Rattle.steps.specs.Running.{envOf, Ready, Wrote, SameLengths, Ran, Live, Runs, Any, Kind, LeftSuspended}
 use Rattle.steps.specs.Running.{RightSuspended, parEnd, atoms-done}
@@ -55,13 +56,13 @@ branches TERM SUSP s = only-second TERM TERM≢SUSP
 branches TERM STOP s = absurd s
 branches TERM TERM s = absurd s
 
-pub par-by : {table : List ℕ} {i : ℕ} {state words row tally : List ℕ} {t : Term} → Kind 4 t
+pub par-by : {table : List ℕ} {i : ℕ} {state words row tally : List ℕ} {t : Term} → Kind par-kind t
     → Ready 0 table i state words row tally t
     → APar t
 unfolding Going
 par-by {words = words} {t = t} w h = go (shape-by t (w .0) refl) (w .1) (h .going)
   where
-    go : {t : Term} {ph : ℕ} → Shape t 4 ph → ph ≢ 3 → Going (marks words) t → APar t
+    go : {t : Term} {ph : ℕ} → Shape t par-kind ph → ph ≢ 3 → Going (marks words) t → APar t
     go (is-par α β t u) a g = a-par t u (branches α β (g .0))
     go (is-done p k) a g = absurd (a refl)
 
@@ -103,10 +104,10 @@ module _ {table : List ℕ} {i : ℕ} {state words row tally : List ℕ} {t : Te
   right-by (w, e) = right-of (par-by w h) e
 
   -- which function runs a Par
-  flags-are : getD state 1 0 ≡ head t .flags
+  flags-are : own-flags state ≡ head t .flags
   flags-are = byte-is h 1 (omega arith)
 
-  pub both-by : Kind 4 t → getD state 1 0 ≡ 0 → First SUSP t
+  pub both-by : Kind par-kind t → own-flags state ≡ 0 → First SUSP t
   both-by w e = both-of (par-by w h) (sym flags-are ∙ e)
 
 -- the children in the table
@@ -137,19 +138,19 @@ module _ {table : List ℕ} {i : ℕ} {state words row tally : List ℕ} where
   par-reads (a-par t u b) h = next-in-table (h .placed)
 
   -- the flag of a branch that doesn't run, from the flags byte
-  pub left-flag : {t : Term} → Left t → Ready 0 table i state words row tally t → getD state 1 0 / 4 < 3
+  pub left-flag : {t : Term} → Left t → Ready 0 table i state words row tally t → own-flags state / 4 < 3
   left-flag (β, k, first-runs t u) h = omega (arith, byte-is h 1 (omega arith), code-below β)
 
-  pub right-flag : {t : Term} → Right t → Ready 0 table i state words row tally t → getD state 1 0 % 4 < 3
+  pub right-flag : {t : Term} → Right t → Ready 0 table i state words row tally t → own-flags state % 4 < 3
   right-flag (α, k, second-runs t u) h = omega (arith, byte-is h 1 (omega arith), code-below α)
 
   second-is : {β : Flag} {t u : Term} → Ready 0 table i state words row tally (par SUSP β t u) → (g : Flag)
-      → code g ≡ getD state 1 0 / 4
+      → code g ≡ own-flags state / 4
       → g ≡ β
   second-is {β} h g e = code-same g β (omega (arith, byte-is h 1 (omega arith)))
 
   first-is : {α : Flag} {t u : Term} → Ready 0 table i state words row tally (par α SUSP t u) → (f : Flag)
-      → code f ≡ getD state 1 0 % 4
+      → code f ≡ own-flags state % 4
       → f ≡ α
   first-is {α} h f e = code-same f α (omega (arith, byte-is h 1 (omega arith), code-below α))
 
@@ -250,8 +251,8 @@ module _ {table : List ℕ} {i : ℕ} {state words row tally : List ℕ} {n : �
 
     -- the flags are still those of a suspended branch and of one that isn't run, which is in phase 3 if it has ended
     pub left-keeps : {t : Term} → Left t → Ready 0 table i state words row tally t
-        → (getD (with-first state n s) 1 0 ≡ 4 * (getD state 1 0 / 4))
-        × (getD state 1 0 / 4 ≡ 2 → getD (with-first state n s) (4 + 4 * n) 0 ≡ 3)
+        → (own-flags (with-first state n s) ≡ 4 * (own-flags state / 4))
+        × (own-flags state / 4 ≡ 2 → getD (with-first state n s) (4 + 4 * n) 0 ≡ 3)
     unfolding Going
     left-keeps (β, k, first-runs t u) h =
         let flags = byte-is h 1 (omega arith) in (
@@ -263,7 +264,7 @@ module _ {table : List ℕ} {i : ℕ} {state words row tally : List ℕ} {n : �
 
     pub left-ran : {t : Term} → Left t → Ready 0 table i state words row tally t
         → (g : Flag)
-        → code g ≡ getD state 1 0 / 4
+        → code g ≡ own-flags state / 4
         → {r : Flag} {end : List ℕ}
         → (r ≡ γ α g) × (end ≡ parEnd α g (4 + 4 * n) (with-first state n s))
         → (P : Place)
@@ -362,7 +363,7 @@ module _ {table : List ℕ} {i : ℕ} {state words row tally : List ℕ} {n : �
 
     pub right-ran : {t : Term} → Right t → Ready 0 table i state words row tally t
         → (f : Flag)
-        → code f ≡ getD state 1 0 % 4
+        → code f ≡ own-flags state % 4
         → {r : Flag} {end : List ℕ}
         → (r ≡ γ f β) × (end ≡ parEnd f β (4 + 4 * n) (with-rest state n s))
         → (P : Place)

@@ -8,7 +8,8 @@ use lib.ListN.{length, getD, take, drop}
 use Rattle.junior.specs.declared.Flag.the-variants.{SUSP}
 use Rattle.junior.specs.Term.{Term}
 use Rattle.table.specs.Records.{sizeAt, secondAt}
-use Rattle.state.proofs.Parts.{first-of, with-first, rest-of, with-rest}
+use Rattle.state.specs.Kinds.{par-kind}
+use Rattle.state.proofs.Parts.{first-of, with-first, rest-of, with-rest, own-flags}
 use Rattle.steps.specs.Running.{Ready, Any, Kind, parEnd}
 use Rattle.steps.proofs.Children.{byte-is, own-in}
 use Rattle.steps.specs.Kinds.{BothSuspended}
@@ -19,13 +20,13 @@ use Rattle.steps.proofs.Row.{kept-then, still}
 use Rattle.steps.proofs.Dispatch.{run-at}
 use Rattle.steps.proofs.ChildContext.{child-stands, front-stays, par-end-around}
 use Rattle.runner.proofs.Par.{First, par-by, both-by, par-reads, first-asks, both-fits, then-asks, both-end-asks, both-ran}
-use Rattle.runner.proofs.Falling.{weigh, child-rank, lighter, smaller-by}
+use Rattle.runner.proofs.Falling.{weigh, child-rank, lighter, smaller-by, form-rank}
 
 module _ {table : List ℕ} {i : ℕ} {part words row tally : List ℕ} {t : Term} (w : BothSuspended t) (h : Ready 0 table i part words row tally t) where
-  pub as-par : Kind 4 t
+  pub as-par : Kind par-kind t
   as-par = (w .0, λ e. omega (arith, w .1))
 
-  no-flags : getD part 1 0 ≡ 0
+  no-flags : own-flags part ≡ 0
   no-flags = byte-is h 1 (omega arith) ∙ w .2
 
   pub both-of : First SUSP t
@@ -118,7 +119,7 @@ module _ {table : List ℕ} {i : ℕ} {state m row before part behind : List ℕ
 module _ {table : List ℕ} {i : ℕ} {state m row : List ℕ} where
   pub par-first : CanRun 0 BothSuspended (lent table state m row) i → {k : ℕ} → weigh table i 2 ≡ k
       → (weigh table (i + 1) child-rank < k) × CanRun 0 Any (lent table state m row) (i + 1)
-  par-first (before, part, behind, o) e = (lighter 2 child-rank (lit< tt) (first-smaller o) e, (_, _, _, first-stands o))
+  par-first (before, part, behind, o) e = (lighter form-rank child-rank (lit< tt) (first-smaller o) e, (_, _, _, first-stands o))
 
   pub par-second-in : CanRun 0 BothSuspended (lent table state m row) i → 6 * i + 11 < length table
   par-second-in (before, part, behind, o) = omega (arith, par-reads-in o)

@@ -22,8 +22,9 @@ use Rattle.junior.proofs.Going.{rest-going, fresh-at-rest}
 use Rattle.junior.proofs.Figures.{pot-at-rest, pot-again}
 use Rattle.table.specs.Records.{word, argumentAt}
 use Rattle.table.specs.Spells.{Spells}
+use Rattle.state.specs.Kinds.{repeat-kind}
 use Rattle.state.specs.StateBytes.{head, below, zeros}
-use Rattle.state.proofs.Parts.{fresh-zeros, blank-below, own-of}
+use Rattle.state.proofs.Parts.{fresh-zeros, blank-below, own-of, own-phase, own-flags}
 use Rattle.state.proofs.Shape.{Shape, is-done, is-repeat0, is-repeat1, shape-by}
 use Rattle.state.proofs.Frames.{repeat-body}
 use Rattle.steps.specs.Running.{Ready, Ran, Live, Runs, Any, Kind, Times}
@@ -39,7 +40,7 @@ use Rattle.runner.proofs.Only.{only-asks, only-ran}
 pub data Unbegun : Term → Type 0 where
   unbegun : (n : ℕ) (p : Program) → Unbegun (repeat0 n p)
 
-unbegun-of : {t : Term} → Shape t 6 0 → Unbegun t
+unbegun-of : {t : Term} → Shape t repeat-kind 0 → Unbegun t
 unbegun-of (is-repeat0 n p) = unbegun n p
 
 -- once begun it can run no more than before
@@ -51,7 +52,7 @@ pot-begun n p =
     subst (λ (q : Program). pot (per 2) t ≤ figure (per 2) (Repeat (suc n) q)) (prog-fresh p) l
 
 module _ {table : List ℕ} {i : ℕ} {state words row tally : List ℕ} where
-  pub unbegun-by : {t : Term} → Kind 6 t → Ready 0 table i state words row tally t → getD state 0 0 ≡ 0 → Unbegun t
+  pub unbegun-by : {t : Term} → Kind repeat-kind t → Ready 0 table i state words row tally t → own-phase state ≡ 0 → Unbegun t
   unbegun-by {t} w h z = unbegun-of (shape-by t (w .0) (sym (phase-is h) ∙ z))
 
   -- the first of its runs: the same bytes but for the node's own
@@ -73,7 +74,7 @@ module _ {table : List ℕ} {i : ℕ} {state words row tally : List ℕ} where
     -- what run_times asks, one run less being then to begin, and that it is the Repeat's own run
     pub repeat-asks : {t : Term} → Unbegun t → Ready 0 table i state words row tally t → a ≢ 0
         → {k : ℕ} → falling table i 2 ≡ k
-        → (falling table i 0 < k) × ((Live 4 (Times (a - 1)) table i state words row tally) × (getD state 1 0 ≡ 0))
+        → (falling table i 0 < k) × ((Live 4 (Times (a - 1)) table i state words row tally) × (own-flags state ≡ 0))
     unfolding prog kind Spells
     repeat-asks (unbegun zero p) h n falls = absurd (n (names ∙ h .placed .spelled .1))
     repeat-asks (unbegun (suc n) p) h _ falls =
@@ -95,13 +96,13 @@ module _ {table : List ℕ} {i : ℕ} {state words row tally : List ℕ} where
 pub data InRun : ℕ → Term → Type 0 where
   in-run : (n k : ℕ) (x : Term) → InRun k (repeat1 n k x)
 
-in-run-of : {t : Term} {k : ℕ} → Shape t 6 1 → head t .count ≡ k → InRun k t
+in-run-of : {t : Term} {k : ℕ} → Shape t repeat-kind 1 → head t .count ≡ k → InRun k t
 in-run-of (is-repeat1 n j x) e = subst (λ (k : ℕ). InRun k (repeat1 n j x)) e (in-run n j x)
 
 pub in-run-by : (t : Term) {k : ℕ} → Times k t → InRun k t
 in-run-by t w = in-run-of (shape-by t (w .0) (w .1)) (w .2)
 
-in-phase-1 : {t : Term} {ph : ℕ} → Shape t 6 ph → ph ≢ 3 → ph ≢ 0 → ph ≡ 1
+in-phase-1 : {t : Term} {ph : ℕ} → Shape t repeat-kind ph → ph ≢ 3 → ph ≢ 0 → ph ≡ 1
 in-phase-1 (is-repeat1 n j x) a b = refl
 in-phase-1 (is-repeat0 n p) a b = absurd (b refl)
 in-phase-1 (is-done p e) a b = absurd (a refl)
@@ -117,7 +118,8 @@ module _ {table : List ℕ} {i : ℕ} {state words row tally : List ℕ} where
       → Ran P (repeat1 n k x) words row tally state″ words″ row″ tally″ α
   run-then h g r = ran-then h g r (r4-repeat (g .rewrites) (r .rewrites))
 
-  module _ {t : Term} (w : Kind 6 t) (h : Ready 0 table i state words row tally t) (begun : getD state 0 0 ≢ 0) {k : ℕ} (is : k ≡ word state 2) where
+  module _ {t : Term} (w : Kind repeat-kind t) (h : Ready 0 table i state words row tally t) (begun : own-phase state ≢ 0) {k : ℕ}
+      (is : k ≡ word state 2) where
     -- the count is what the bytes say
     pub counts : Times k t
     counts = (
@@ -127,7 +129,7 @@ module _ {table : List ℕ} {i : ℕ} {state words row tally : List ℕ} where
     )
 
     pub counts-asks : {m : ℕ} → falling table i 2 ≡ m
-        → (falling table i 0 < m) × ((Live 4 (Times k) table i state words row tally) × (getD state 1 0 ≡ 0))
+        → (falling table i 0 < m) × ((Live 4 (Times k) table i state words row tally) × (own-flags state ≡ 0))
     counts-asks falls = (omega arith, ((t, counts, unseen h 4), byte-is h 1 (omega arith) ∙ no-flags (in-run-by t counts)))
 
   pub times-asks : {t : Term} {k : ℕ} → InRun k t → Ready 4 table i state words row tally t → {m : ℕ} → falling table i 0 ≡ m
@@ -157,7 +159,7 @@ module _ {table : List ℕ} {i : ℕ} {state words row tally : List ℕ} where
     back n k x h = put-back (repeat-body n k) h (only-cut h (repeat-body n k)) (omega arith) s
 
     -- it waits
-    pub times-waits : {t : Term} {k : ℕ} → InRun k t → Ready 4 table i state words row tally t → getD state 1 0 ≡ 0 → α ≢ TERM
+    pub times-waits : {t : Term} {k : ℕ} → InRun k t → Ready 4 table i state words row tally t → own-flags state ≡ 0 → α ≢ TERM
         → {state′ : List ℕ} → state′ ≡ set (set (set (putMid 4 (length state - 4) state s) 0 1) 2 (k / 256)) 3 (k % 256)
         → (P : Place)
         → P .node ≡ i
@@ -168,7 +170,7 @@ module _ {table : List ℕ} {i : ℕ} {state words row tally : List ℕ} where
         (e ∙ rw (back n k x h, z, own-stays α {o = record { phase = 1; flags = 0; count = k }} w))
 
     -- it has ended, and was the last
-    pub times-ends : {t : Term} {k : ℕ} → InRun k t → Ready 4 table i state words row tally t → getD state 1 0 ≡ 0 → α ≡ TERM → k ≡ 0
+    pub times-ends : {t : Term} {k : ℕ} → InRun k t → Ready 4 table i state words row tally t → own-flags state ≡ 0 → α ≡ TERM → k ≡ 0
         → {state′ : List ℕ} → state′ ≡ set (set (set (putMid 4 (length state - 4) state s) 0 0) 2 0) 3 0
         → (P : Place)
         → P .node ≡ i
@@ -200,9 +202,9 @@ module _ {table : List ℕ} {i : ℕ} {state words row tally : List ℕ} where
     next-live (in-run n zero x) h a l = absurd (l refl)
     next-live (in-run n (suc k) x) h a l = (repeat1 n k (fresh (prog x)), (refl, refl, omega arith), next n k x h a)
 
-    pub next-flags : {t : Term} {k : ℕ} → InRun k t → Ready 4 table i state words row tally t → getD state 1 0 ≡ 0
+    pub next-flags : {t : Term} {k : ℕ} → InRun k t → Ready 4 table i state words row tally t → own-flags state ≡ 0
         → getD (putMid 4 (length state - 4) state s) 1 0 ≡ 0
-    next-flags (in-run n k x) h z = ap (λ y. getD y 1 0) (back n k x h) ∙ z
+    next-flags (in-run n k x) h z = ap own-flags (back n k x h) ∙ z
 
     pub times-again : {t : Term} {k : ℕ} → InRun k t → Ready 4 table i state words row tally t → α ≡ TERM → k ≢ 0
         → {state″ words″ row″ tally″ : List ℕ} {β : Flag}
@@ -219,13 +221,13 @@ module _ {table : List ℕ} {i : ℕ} {state words row tally : List ℕ} where
 -- before a turn of the loop: the Repeat with `left` runs still to begin can be run, and what that does now is what it does from the entry on
 pub record Turn (table : List ℕ) (i : ℕ) (state₀ words₀ row₀ tally₀ : List ℕ) (k : ℕ) (state words row tally : List ℕ) (left : ℕ) : Type 0 where
   pub live : Live 4 (Times left) table i state words row tally
-  pub no-flags-yet : getD state 1 0 ≡ 0
+  pub no-flags-yet : own-flags state ≡ 0
   pub goes-on : {state′ words′ row′ tally′ : List ℕ} {α : Flag}
       → Runs 4 (Times left) table i state words row tally state′ words′ row′ tally′ α
       → Runs 4 (Times k) table i state₀ words₀ row₀ tally₀ state′ words′ row′ tally′ α
 
 module _ {table : List ℕ} {i : ℕ} {state₀ words₀ row₀ tally₀ : List ℕ} {k : ℕ} where
-  pub first-turn : Live 4 (Times k) table i state₀ words₀ row₀ tally₀ → getD state₀ 1 0 ≡ 0
+  pub first-turn : Live 4 (Times k) table i state₀ words₀ row₀ tally₀ → own-flags state₀ ≡ 0
       → Turn table i state₀ words₀ row₀ tally₀ k state₀ words₀ row₀ tally₀ k
   first-turn l z = record { live = l; no-flags-yet = z; goes-on = λ run. run }
 

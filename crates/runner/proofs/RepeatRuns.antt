@@ -11,12 +11,14 @@ use borrow.Author.Tests.{eq-eqb, ne-eqb}
 use borrow.Rule.Slice.PartMut.{midOf, putMid}
 use Rattle.junior.specs.Term.{Term}
 use Rattle.table.specs.Records.{word, argumentAt, sizeAt}
+use Rattle.state.specs.Kinds.{repeat-kind}
+use Rattle.state.proofs.Parts.{own-phase, own-flags}
 use Rattle.steps.specs.Running.{Ready, Live, Any, Kind, Times}
 use Rattle.steps.proofs.Children.{falling, own-in, unseen}
 use Rattle.runner.proofs.Repeat.{InRun, in-run-by, times-asks, times-below, times-writes, times-waits, times-ends, next-live, next-flags, times-again}
 use Rattle.runner.proofs.Repeat.{unbegun-by, repeat-ends, repeat-asks, repeat-ran, counts, counts-asks}
 use Rattle.steps.specs.Numbers.{wordsOf, tallyOf}
-use Rattle.steps.specs.Kinds.{OfKind, repeat-kind}
+use Rattle.steps.specs.Kinds.{OfKind}
 use Rattle.steps.specs.Lent.{Lent, lent, Around, Stands, Went, CanRun, HasRun}
 use Rattle.steps.proofs.Context.{byte-at, byte-in, phase-at, put-byte, put-phase, outer}
 use Rattle.steps.proofs.Row.{kept-same, still}
@@ -51,7 +53,7 @@ module _ {k : ℕ} {table : List ℕ} {i : ℕ} {state m row before part behind 
   pub left-below : k < 65536
   left-below = times-below the (o .live .2)
 
-  flags-in : getD state (4 * i + 1) 0 ≡ getD part 1 0
+  flags-in : getD state (4 * i + 1) 0 ≡ own-flags part
   flags-in = byte-at (o .around) 1 (own-in (o .live .2) 1 (lit< tt))
 
   module _ {state₁ m₁ row₁ : List ℕ} {f : ℕ} (run : HasRun 0 Any (lent table state m row) (i + 1) (lent table state₁ m₁ row₁) f) where
@@ -168,10 +170,10 @@ turnsAt table i state =
 
 module _ {table : List ℕ} {i : ℕ} {state : List ℕ} (on : getD state (4 * i) 0 ≢ 3) {before part behind : List ℕ} (a : Around state i before part behind)
     {words row tally : List ℕ} {t : Term} (w : OfKind repeat-kind t) (h : Ready 0 table i part words row tally t) where
-  as-repeat : Kind 6 t
+  as-repeat : Kind repeat-kind t
   as-repeat = (w, λ e. on (phase-is a h ∙ e))
 
-  phase-there : getD state (4 * i) 0 ≡ getD part 0 0
+  phase-there : getD state (4 * i) 0 ≡ own-phase part
   phase-there = phase-at a (own-in h 0 (lit< tt))
 
   byte-there : (k : ℕ) → k < 4 → getD state (4 * i + k) 0 ≡ getD part k 0
@@ -212,7 +214,7 @@ module _ {table : List ℕ} {i : ℕ} {state : List ℕ} (on : getD state (4 * i
       }
 
   module _ (some : turns ≢ 0) where
-    in-turn : Live 4 (Times (turns - 1)) table i part (wordsOf m) row (tallyOf m) × (getD part 1 0 ≡ 0)
+    in-turn : Live 4 (Times (turns - 1)) table i part (wordsOf m) row (tallyOf m) × (own-flags part ≡ 0)
     in-turn =
         let (t, w, h) = o .live in
         by-zero (getD state (4 * i) 0)

@@ -5,7 +5,7 @@ use mathlib.Core.Path.{_≡_, refl, ap, sym, _∙_}
 use mathlib.Core.Logic.{_≢_}
 use mathlib.Core.List.{List, _∷_, _++_}
 use native.Mathlib.Omega.{arith}
-use lib.ListN.{length, getD, drop, set}
+use lib.ListN.{length, drop, set}
 use Rattle.events.specs.Events.{Events}
 use Rattle.junior.specs.declared.Flag.{Flag}
 use Rattle.junior.specs.declared.Flag.the-variants.{TERM}
@@ -23,11 +23,13 @@ use Rattle.table.specs.Records.{sizeAt}
 use Rattle.table.specs.Spells.{Spells}
 use Rattle.table.specs.Inside.{Placed}
 use Rattle.table.proofs.Tree.{written}
+use Rattle.state.specs.Kinds.{seq-kind}
 use Rattle.state.specs.StateBytes.{in-phase, zeros, below}
-use Rattle.state.proofs.Parts.{first-of, with-first, rest-of, with-rest, fresh-zeros}
+use Rattle.state.proofs.Parts.{first-of, with-first, rest-of, with-rest, fresh-zeros, own-phase}
 use Rattle.state.proofs.Shape.{Shape, is-done, is-seq0, is-seq2, is-when2, is-until2, is-local, shape-by}
 use Rattle.state.proofs.Frames.{Frame, size-in, seq-first, seq-second, when-second, until-second}
-use Rattle.steps.specs.Running.{Ready, Ran, Live, Runs, Any, Kind, Phase, phaseAfter}
+use Rattle.steps.specs.Running.{Ready, Ran, Live, Runs, Any, Kind, phaseAfter}
+use Rattle.steps.specs.Kinds.{InSecond}
 use Rattle.steps.proofs.Children.{at-node, falling, first-cut, second-cut, asks, child-ran, next-index}
 use Rattle.steps.proofs.Children.{first-at, second-at, phase-is, next-in-table, till-in}
 use Rattle.steps.proofs.Done.{ready-as, room-after, few, ran-flag, ran-zeros, ran-long, ran-then}
@@ -52,7 +54,7 @@ second-of (is-until2 c p x) =
 second-of (is-local true s x e) = absurd (omega arith)
 second-of (is-local false s x e) = absurd (omega arith)
 
-pub second-by : (t : Term) → Phase 2 t → Second t
+pub second-by : (t : Term) → InSecond t → Second t
 second-by t e = second-of (shape-by t refl e)
 
 pub second-reads : {table : List ℕ} {i : ℕ} {state words row tally : List ℕ} {t : Term} → Second t
@@ -102,14 +104,14 @@ module _ {table : List ℕ} {i : ℕ} {state words row tally : List ℕ} {n : �
 pub data Seq0 : Term → Type 0 where
   in-first : (x : Term) (q : Program) → Seq0 (seq0 x q)
 
-seq0-of : {t : Term} {ph : ℕ} → Shape t 3 ph → ph ≢ 3 → ph ≢ 2 → Seq0 t
+seq0-of : {t : Term} {ph : ℕ} → Shape t seq-kind ph → ph ≢ 3 → ph ≢ 2 → Seq0 t
 seq0-of (is-seq0 x q) a b = in-first x q
 seq0-of (is-seq2 p x) a b = absurd (b refl)
 seq0-of (is-done p e) a b = absurd (a refl)
 
-pub seq0-by : {table : List ℕ} {i : ℕ} {state words row tally : List ℕ} {t : Term} → Kind 3 t
+pub seq0-by : {table : List ℕ} {i : ℕ} {state words row tally : List ℕ} {t : Term} → Kind seq-kind t
     → Ready 0 table i state words row tally t
-    → getD state 0 0 ≢ 2
+    → own-phase state ≢ 2
     → Seq0 t
 seq0-by {t = t} w h n = seq0-of (shape-by t (w .0) refl) (w .1) (λ e. n (phase-is h ∙ e))
 
@@ -171,12 +173,12 @@ module _ {table : List ℕ} {i : ℕ} {state words row tally : List ℕ} {n : �
         (room-after h g (seq2 (prog x) (fresh q)) (omega arith))
 
     pub over-asks : {t : Term} → Seq0 t → Ready 0 table i state words row tally t → α ≡ TERM
-        → Live 1 (Phase 2) table i (with-first state n s) words′ row′ tally′
+        → Live 1 InSecond table i (with-first state n s) words′ row′ tally′
     over-asks (in-first x q) h z = (seq2 (prog x) (fresh q), refl, over x q h z)
 
     pub seq-goes-over : {t : Term} → Seq0 t → Ready 0 table i state words row tally t → α ≡ TERM
         → {state″ words″ row″ tally″ : List ℕ} {β : Flag}
-        → Runs 1 (Phase 2) table i (with-first state n s) words′ row′ tally′ state″ words″ row″ tally″ β
+        → Runs 1 InSecond table i (with-first state n s) words′ row′ tally′ state″ words″ row″ tally″ β
         → (P : Place)
         → P .node ≡ i
         → Ran P t words row tally state″ words″ row″ tally″ β

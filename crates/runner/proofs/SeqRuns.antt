@@ -8,10 +8,11 @@ use lib.Dec.{lit<}
 use lib.ListN.{length, getD, take, drop, set}
 use Rattle.junior.specs.Term.{Term}
 use Rattle.table.specs.Records.{sizeAt, secondAt}
+use Rattle.state.specs.Kinds.{seq-kind}
 use Rattle.state.proofs.Parts.{first-of, with-first, rest-of, with-rest}
 use Rattle.steps.specs.Running.{Ready, Any, phaseAfter}
 use Rattle.steps.proofs.Children.{own-in}
-use Rattle.steps.specs.Kinds.{OfKind, InSecond, seq-kind}
+use Rattle.steps.specs.Kinds.{OfKind, InSecond}
 use Rattle.steps.specs.Flags.{flagOf}
 use Rattle.steps.specs.Lent.{Lent, lent, Around, Stands, Went, CanRun, HasRun}
 use Rattle.steps.proofs.Context.{outer, phase-at, phase-in, put-phase}
@@ -22,7 +23,7 @@ use Rattle.steps.proofs.ChildContext.{child-stands}
 use Rattle.runner.proofs.Seq.{Second, second-by, second-reads, second-fits, second-asks, second-writes, second-ran}
 use Rattle.runner.proofs.Seq.{Seq0, seq0-by, first-reads, first-asks, seq-waits, over-asks, seq-goes-over}
 use Rattle.runner.proofs.GoesOn.{to-phase, by-phase, went-as}
-use Rattle.runner.proofs.Falling.{weigh, child-rank, lighter, smaller-by}
+use Rattle.runner.proofs.Falling.{weigh, child-rank, lighter, smaller-by, form-rank}
 
 -- gone over: the second child runs
 module _ {table : List ℕ} {i : ℕ} {state m row before part behind : List ℕ}
@@ -162,7 +163,7 @@ module _ {table : List ℕ} {i : ℕ} {state m row : List ℕ} (on : getD state 
   pub seq-first : CanRun 0 (OfKind seq-kind) (lent table state m row) i → {k : ℕ} → weigh table i 2 ≡ k
       → (weigh table (i + 1) child-rank < k) × CanRun 0 Any (lent table state m row) (i + 1)
   seq-first (before, part, behind, o) e =
-      (lighter 2 child-rank (lit< tt) (first-smaller on in-first o) e, (_, _, _, first-stands on in-first o))
+      (lighter form-rank child-rank (lit< tt) (first-smaller on in-first o) e, (_, _, _, first-stands on in-first o))
 
   pub seq-second-in : CanRun 0 (OfKind seq-kind) (lent table state m row) i → 6 * i + 11 < length table
   seq-second-in (before, part, behind, o) = omega (arith, first-reads-in on in-first o)

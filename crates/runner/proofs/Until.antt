@@ -6,7 +6,7 @@ use mathlib.Core.Logic.{_≢_}
 use mathlib.Core.List.{List, [], _∷_, _++_}
 use native.Mathlib.Omega.{arith}
 use lib.Dec.{ltb}
-use lib.ListN.{length, getD, drop, set, replicate, length-append, length-replicate}
+use lib.ListN.{length, drop, set, replicate, length-append, length-replicate}
 use borrow.Rule.Slice.PartMut.{midOf, putMid}
 use Rattle.junior.specs.declared.Flag.{Flag}
 use Rattle.junior.specs.declared.Flag.the-variants.{SUSP, STOP}
@@ -26,11 +26,13 @@ use Rattle.table.specs.Records.{sizeAt}
 use Rattle.table.specs.Spells.{Spells}
 use Rattle.table.proofs.Tree.{size-pos, written}
 use Rattle.table.proofs.Loaded.{in-table}
+use Rattle.state.specs.Kinds.{until-kind}
 use Rattle.state.specs.StateBytes.{zeros, below, stateBytes}
-use Rattle.state.proofs.Parts.{len-bytes, fresh-zeros, own-of, part-is, put-is}
+use Rattle.state.proofs.Parts.{len-bytes, fresh-zeros, own-of, part-is, put-is, own-phase}
 use Rattle.state.proofs.Shape.{Shape, is-done, is-until0, is-until*, is-until2, shape-by}
 use Rattle.state.proofs.Frames.{until-first}
-use Rattle.steps.specs.Running.{Ready, Ran, Live, Runs, Any, Kind, Phase, KindPhase, envOf}
+use Rattle.steps.specs.Running.{Ready, Ran, Live, Runs, Any, Kind, envOf, end-declared}
+use Rattle.steps.specs.Kinds.{InSecond, Starred}
 use Rattle.steps.specs.Running.{HasTest, TestRead}
 use Rattle.steps.proofs.Children.{at-node, falling, first-cut, asks, child-ran, next-index, first-at}
 use Rattle.steps.proofs.Children.{phase-is}
@@ -45,16 +47,16 @@ use Rattle.steps.proofs.LoadedNode.{until-test}
 pub data Until0 : Term → Type 0 where
   in-body : (c : Config) (x : Term) (q : Program) → Until0 (until0 c x q)
 
-until0-of : {t : Term} {ph : ℕ} → Shape t 10 ph → ph ≢ 3 → ph ≢ 1 → ph ≢ 2 → Until0 t
+until0-of : {t : Term} {ph : ℕ} → Shape t until-kind ph → ph ≢ 3 → ph ≢ 1 → ph ≢ 2 → Until0 t
 until0-of (is-until0 c x q) a b d = in-body c x q
 until0-of (is-until* c x q) a b d = absurd (b refl)
 until0-of (is-until2 c p x) a b d = absurd (d refl)
 until0-of (is-done p e) a b d = absurd (a refl)
 
-pub until0-by : {table : List ℕ} {i : ℕ} {state words row tally : List ℕ} {t : Term} → Kind 10 t
+pub until0-by : {table : List ℕ} {i : ℕ} {state words row tally : List ℕ} {t : Term} → Kind until-kind t
     → Ready 0 table i state words row tally t
-    → getD state 0 0 ≢ 1
-    → getD state 0 0 ≢ 2
+    → own-phase state ≢ 1
+    → own-phase state ≢ 2
     → Until0 t
 until0-by {t = t} w h a b = until0-of (shape-by t (w .0) refl) (w .1) (λ e. a (phase-is h ∙ e)) (λ e. b (phase-is h ∙ e))
 
@@ -97,7 +99,7 @@ module _ {table : List ℕ} {i : ℕ} {state words row tally : List ℕ} {n : �
         (room-after h g (until* c (g .to) q) (omega arith))
 
     pub star-asks : {t : Term} → Until0 t → Ready 0 table i state words row tally t → α ≡ STOP
-        → Live 1 (KindPhase 10 1) table i (putMid 4 (4 + 4 * n - 4) state s) words′ row′ tally′
+        → Live 1 Starred table i (putMid 4 (4 + 4 * n - 4) state s) words′ row′ tally′
     unfolding kind prog
     star-asks (in-body c x q) h z =
         let g = ran-flag z (body-ran c x q h (at-node i) refl) in
@@ -105,7 +107,7 @@ module _ {table : List ℕ} {i : ℕ} {state words row tally : List ℕ} {n : �
 
     pub until-stops : {t : Term} → Until0 t → Ready 0 table i state words row tally t → α ≡ STOP
         → {state″ words″ row″ tally″ : List ℕ} {β : Flag}
-        → Runs 1 (KindPhase 10 1) table i (putMid 4 (4 + 4 * n - 4) state s) words′ row′ tally′ state″ words″ row″ tally″ β
+        → Runs 1 Starred table i (putMid 4 (4 + 4 * n - 4) state s) words′ row′ tally′ state″ words″ row″ tally″ β
         → (P : Place)
         → P .node ≡ i
         → Ran P t words row tally state″ words″ row″ tally″ β
@@ -119,10 +121,10 @@ module _ {table : List ℕ} {i : ℕ} {state words row tally : List ℕ} {n : �
 pub data Star : Term → Type 0 where
   pending : (c : Config) (x : Term) (q : Program) → Star (until* c x q)
 
-star-of : {t : Term} → Shape t 10 1 → Star t
+star-of : {t : Term} → Shape t until-kind 1 → Star t
 star-of (is-until* c x q) = pending c x q
 
-pub star-by : (t : Term) → KindPhase 10 1 t → Star t
+pub star-by : (t : Term) → Starred t → Star t
 star-by t w = star-of (shape-by t (w .0) (w .1))
 
 -- the handler begins: the test is in front of what it does
@@ -194,12 +196,12 @@ module _ {table : List ℕ} {i : ℕ} {state words row tally : List ℕ} where
           (omega (arith, h .room, pot-fresh (per 2) q))
 
       pub handler-live : {t : Term} → Star t → Ready 1 table i state words row tally t
-          → Live 1 (Phase 2) table i (putMid 4 (4 + 4 * n - 4) state s) words row tally
+          → Live 1 InSecond table i (putMid 4 (4 + 4 * n - 4) state s) words row tally
       handler-live (pending c x q) h = (until2 c (prog x) (fresh q), refl, handler c x q h)
 
-      pub handler-goes : {t : Term} → Star t → Ready 1 table i state words row tally t → v ≡ Sat → ltb 0 (getD tally 2 0) ≡ false
+      pub handler-goes : {t : Term} → Star t → Ready 1 table i state words row tally t → v ≡ Sat → ltb 0 (end-declared tally) ≡ false
           → {state′ words′ row′ tally′ : List ℕ} {α : Flag}
-          → Runs 1 (Phase 2) table i (putMid 4 (4 + 4 * n - 4) state s) words row tally state′ words′ row′ tally′ α
+          → Runs 1 InSecond table i (putMid 4 (4 + 4 * n - 4) state s) words row tally state′ words′ row′ tally′ α
           → (P : Place)
           → P .node ≡ i
           → Ran P t words row tally state′ words′ row′ tally′ α
@@ -208,7 +210,7 @@ module _ {table : List ℕ} {i : ℕ} {state words row tally : List ℕ} where
           let k = run (until2 c (prog x) (fresh q)) refl (handler c x q h) P at in
           ran-by k (handler-begins (star-test c x q h e) f (k .rewrites)) refl
 
-      pub handler-later : {t : Term} → Star t → Ready 1 table i state words row tally t → v ≡ Sat → ltb 0 (getD tally 2 0) ≡ true
+      pub handler-later : {t : Term} → Star t → Ready 1 table i state words row tally t → v ≡ Sat → ltb 0 (end-declared tally) ≡ true
           → (P : Place)
           → P .node ≡ i
           → Ran P t words row tally (set (putMid 4 (4 + 4 * n - 4) state s) 0 2) words row tally STOP

@@ -12,12 +12,13 @@ use Rattle.junior.specs.declared.Verdict.{Verdict}
 use Rattle.junior.specs.declared.Verdict.the-variants.{Sat, Unsat, Unknown}
 use Rattle.junior.specs.Term.{Term}
 use Rattle.table.specs.Records.{sizeAt, secondAt}
+use Rattle.state.specs.Kinds.{until-kind}
 use Rattle.state.proofs.Parts.{first-of, with-first}
 use Rattle.steps.specs.Running.{Ready, Any, TestRead}
 use Rattle.steps.proofs.Children.{own-in}
 use Rattle.steps.proofs.Tally.{not-ended, is-ended}
 use Rattle.steps.specs.Numbers.{ended-at, wordsOf, tallyOf}
-use Rattle.steps.specs.Kinds.{OfKind, Starred, InSecond, until-kind}
+use Rattle.steps.specs.Kinds.{OfKind, Starred, InSecond}
 use Rattle.steps.specs.Tests.{CanTest}
 use Rattle.steps.specs.Lent.{Lent, lent, Around, Stands, Went, CanRun, HasRun}
 use Rattle.steps.proofs.Context.{inner, outer, phase-at, phase-in, put-phase, byte-in}

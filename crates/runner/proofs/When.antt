@@ -6,7 +6,7 @@ use mathlib.Core.Logic.{_≢_}
 use mathlib.Core.List.{List, [], _∷_, _++_}
 use native.Mathlib.Omega.{arith}
 use lib.Dec.{ltb}
-use lib.ListN.{length, getD, drop, set}
+use lib.ListN.{length, drop, set}
 use borrow.Rule.Slice.PartMut.{midOf, putMid}
 use Rattle.junior.specs.declared.Flag.{Flag}
 use Rattle.junior.specs.declared.Flag.the-variants.{SUSP, STOP}
@@ -24,11 +24,13 @@ use Rattle.junior.proofs.Going.{rest-going, fresh-at-rest}
 use Rattle.junior.proofs.Figures.{pot-fresh}
 use Rattle.table.specs.Records.{sizeAt}
 use Rattle.table.specs.Spells.{Spells}
+use Rattle.state.specs.Kinds.{when-kind}
 use Rattle.state.specs.StateBytes.{in-phase, zeros, below, stateBytes}
-use Rattle.state.proofs.Parts.{fresh-zeros}
+use Rattle.state.proofs.Parts.{fresh-zeros, own-phase}
 use Rattle.state.proofs.Shape.{Shape, is-done, is-when0, is-when1, is-when2, shape-by}
 use Rattle.state.proofs.Frames.{when-first}
-use Rattle.steps.specs.Running.{Ready, Ran, Live, Runs, Any, Kind, Phase, KindPhase, phaseAfter, envOf}
+use Rattle.steps.specs.Running.{Ready, Ran, Live, Runs, Any, Kind, phaseAfter, envOf, end-declared}
+use Rattle.steps.specs.Kinds.{InSecond, InThen}
 use Rattle.steps.specs.Running.{HasTest, TestRead}
 use Rattle.steps.proofs.Children.{at-node, falling, first-cut, asks, child-ran, next-index, first-at}
 use Rattle.steps.proofs.Children.{phase-is}
@@ -39,10 +41,10 @@ use Rattle.steps.proofs.LoadedNode.{when-test}
 pub data Then : Term → Type 0 where
   in-then : (c : Config) (x : Term) (q : Program) → Then (when1 c x q)
 
-then-of : {t : Term} → Shape t 9 1 → Then t
+then-of : {t : Term} → Shape t when-kind 1 → Then t
 then-of (is-when1 c x q) = in-then c x q
 
-pub then-by : (t : Term) → KindPhase 9 1 t → Then t
+pub then-by : (t : Term) → InThen t → Then t
 then-by t w = then-of (shape-by t (w .0) (w .1))
 
 module _ {table : List ℕ} {i : ℕ} {state words row tally : List ℕ} {n : ℕ} (m : n ≡ sizeAt table (i + 1)) where
@@ -82,16 +84,16 @@ module _ {table : List ℕ} {i : ℕ} {state words row tally : List ℕ} {n : �
 pub data When0 : Term → Type 0 where
   testing : (c : Config) (p q : Program) → When0 (when0 c p q)
 
-when0-of : {t : Term} {ph : ℕ} → Shape t 9 ph → ph ≢ 3 → ph ≢ 1 → ph ≢ 2 → When0 t
+when0-of : {t : Term} {ph : ℕ} → Shape t when-kind ph → ph ≢ 3 → ph ≢ 1 → ph ≢ 2 → When0 t
 when0-of (is-when0 c p q) a b d = testing c p q
 when0-of (is-when1 c x q) a b d = absurd (b refl)
 when0-of (is-when2 c p x) a b d = absurd (d refl)
 when0-of (is-done p e) a b d = absurd (a refl)
 
-pub when0-by : {table : List ℕ} {i : ℕ} {state words row tally : List ℕ} {t : Term} → Kind 9 t
+pub when0-by : {table : List ℕ} {i : ℕ} {state words row tally : List ℕ} {t : Term} → Kind when-kind t
     → Ready 0 table i state words row tally t
-    → getD state 0 0 ≢ 1
-    → getD state 0 0 ≢ 2
+    → own-phase state ≢ 1
+    → own-phase state ≢ 2
     → When0 t
 when0-by {t = t} w h a b = when0-of (shape-by t (w .0) refl) (w .1) (λ e. a (phase-is h ∙ e)) (λ e. b (phase-is h ∙ e))
 
@@ -146,11 +148,11 @@ module _ {table : List ℕ} {i : ℕ} {state words row tally : List ℕ} where
       (rest-going _ (fresh q) (fresh-at-rest q))
       (omega (arith, h .room, pot-fresh (per 2) q))
 
-  pub then-live : {t : Term} → When0 t → Ready 0 table i state words row tally t → Live 1 (KindPhase 9 1) table i state words row tally
+  pub then-live : {t : Term} → When0 t → Ready 0 table i state words row tally t → Live 1 InThen table i state words row tally
   unfolding kind prog
   then-live (testing c p q) h = (when1 c (fresh p) q, (refl, refl), then-ready c p q h)
 
-  pub else-live : {t : Term} → When0 t → Ready 0 table i state words row tally t → Live 1 (Phase 2) table i state words row tally
+  pub else-live : {t : Term} → When0 t → Ready 0 table i state words row tally t → Live 1 InSecond table i state words row tally
   else-live (testing c p q) h = (when2 c p (fresh q), refl, else-ready c p q h)
 
   module _ {v : Verdict} (read : TestRead table i words tally v) where
@@ -165,9 +167,9 @@ module _ {table : List ℕ} {i : ℕ} {state words row tally : List ℕ} where
     unfolding collect
     when-waits (testing c p q) h e P at = ran-alone (r21 (own-test c p q h e)) refl (h .bytes)
 
-    pub then-goes : {t : Term} → When0 t → Ready 0 table i state words row tally t → v ≡ Sat → ltb 0 (getD tally 2 0) ≡ false
+    pub then-goes : {t : Term} → When0 t → Ready 0 table i state words row tally t → v ≡ Sat → ltb 0 (end-declared tally) ≡ false
         → {state′ words′ row′ tally′ : List ℕ} {α : Flag}
-        → Runs 1 (KindPhase 9 1) table i state words row tally state′ words′ row′ tally′ α
+        → Runs 1 InThen table i state words row tally state′ words′ row′ tally′ α
         → (P : Place)
         → P .node ≡ i
         → Ran P t words row tally state′ words′ row′ tally′ α
@@ -176,16 +178,16 @@ module _ {table : List ℕ} {i : ℕ} {state words row tally : List ℕ} where
         let k = run (when1 c (fresh p) q) (refl, refl) (then-ready c p q h) P at in
         ran-by k (then-begins (own-test c p q h e) f (k .rewrites)) refl
 
-    pub then-later : {t : Term} → When0 t → Ready 0 table i state words row tally t → v ≡ Sat → ltb 0 (getD tally 2 0) ≡ true
+    pub then-later : {t : Term} → When0 t → Ready 0 table i state words row tally t → v ≡ Sat → ltb 0 (end-declared tally) ≡ true
         → (P : Place)
         → P .node ≡ i
         → Ran P t words row tally (set state 0 1) words row tally STOP
     unfolding collect
     then-later (testing c p q) h e f P at = ran-alone (r18 (own-test c p q h e) f) refl (then-bytes c p q h 1)
 
-    pub else-goes : {t : Term} → When0 t → Ready 0 table i state words row tally t → v ≡ Unsat → ltb 0 (getD tally 2 0) ≡ false
+    pub else-goes : {t : Term} → When0 t → Ready 0 table i state words row tally t → v ≡ Unsat → ltb 0 (end-declared tally) ≡ false
         → {state′ words′ row′ tally′ : List ℕ} {α : Flag}
-        → Runs 1 (Phase 2) table i state words row tally state′ words′ row′ tally′ α
+        → Runs 1 InSecond table i state words row tally state′ words′ row′ tally′ α
         → (P : Place)
         → P .node ≡ i
         → Ran P t words row tally state′ words′ row′ tally′ α
@@ -194,7 +196,7 @@ module _ {table : List ℕ} {i : ℕ} {state words row tally : List ℕ} where
         let k = run (when2 c p (fresh q)) refl (else-ready c p q h) P at in
         ran-by k (else-begins (own-test c p q h e) f (k .rewrites)) refl
 
-    pub else-later : {t : Term} → When0 t → Ready 0 table i state words row tally t → v ≡ Unsat → ltb 0 (getD tally 2 0) ≡ true
+    pub else-later : {t : Term} → When0 t → Ready 0 table i state words row tally t → v ≡ Unsat → ltb 0 (end-declared tally) ≡ true
         → (P : Place)
         → P .node ≡ i
         → Ran P t words row tally (set state 0 2) words row tally STOP

@@ -10,12 +10,13 @@ use Rattle.junior.specs.declared.Verdict.{Verdict}
 use Rattle.junior.specs.declared.Verdict.the-variants.{Sat, Unsat, Unknown}
 use Rattle.junior.specs.Term.{Term}
 use Rattle.table.specs.Records.{sizeAt}
+use Rattle.state.specs.Kinds.{when-kind}
 use Rattle.state.proofs.Parts.{first-of, with-first}
 use Rattle.steps.specs.Running.{Ready, Any, TestRead, phaseAfter}
 use Rattle.steps.proofs.Children.{own-in}
 use Rattle.steps.proofs.Tally.{not-ended, is-ended}
 use Rattle.steps.specs.Numbers.{ended-at, wordsOf, tallyOf}
-use Rattle.steps.specs.Kinds.{OfKind, InThen, InSecond, when-kind}
+use Rattle.steps.specs.Kinds.{OfKind, InThen, InSecond}
 use Rattle.steps.specs.Flags.{flagOf}
 use Rattle.steps.specs.Tests.{CanTest}
 use Rattle.steps.specs.Lent.{Lent, lent, Around, Stands, Went, CanRun, HasRun}

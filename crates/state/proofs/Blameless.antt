@@ -4,7 +4,7 @@ use mathlib.Core.Bool.{true, false, true≢false}
 use mathlib.Core.Path.{_≡_, refl, sym, ap, _∙_}
 use mathlib.Core.List.{List, _++_}
 use native.Mathlib.Omega.{arith}
-use lib.ListN.{length, getD, take, drop, replicate, length-take, length-drop, length-replicate}
+use lib.ListN.{length, take, drop, replicate, length-take, length-drop, length-replicate}
 use lib.Seq.{take-at, drop-at, length-take-le}
 use lib.Dec.{eqb}
 use borrow.Author.Tests.{lt-ltb}
@@ -21,7 +21,7 @@ use Rattle.table.proofs.Tree.{size-pos, written, spells-two, second-is, second}
 use Rattle.table.proofs.Loaded.{all-nodes}
 use Rattle.state.specs.StateBytes.{Own, head, code, before, in-phase, zeros, below, stateBytes}
 use Rattle.state.specs.Resting.{phaseAt, firstZero, secondZero, belowZero, phaseRests, flagsRest, countRests, rests, blamed}
-use Rattle.state.proofs.Parts.{blank, len-bytes, fresh-zeros}
+use Rattle.state.proofs.Parts.{blank, len-bytes, fresh-zeros, own-phase}
 use Rattle.state.proofs.Frames.{Side, only-part, first-part, second-part, Frame, size-in, spells-in, seq-first, seq-second, loop-body}
 use Rattle.state.proofs.Frames.{repeat-body, when-first, when-second, until-first, until-second, control-body, local-body}
 use Rattle.state.proofs.Zeros.{Owns, zero-each}
@@ -110,8 +110,8 @@ module _ (t s : List ℕ) (l : Loaded t) (long : 4 * nodes t ≤ length s) where
   -- a TERM flag stands over phase 3
   over-3 : (x : Term) (i : ℕ) → bytesAt s i (size (prog x)) ≡ stateBytes x → Over TERM x → eqb (phaseAt s i) 3 ≡ true
   over-3 x i b (p, e) =
-      let f : getD (stateBytes x) 0 0 ≡ 3 = ap (λ y. head y .phase) e in
-      let g : phaseAt s i ≡ 3 = sym (first-byte s i (size (prog x)) (size-pos (prog x))) ∙ (ap (λ l. getD l 0 0) b ∙ f) in
+      let f : own-phase (stateBytes x) ≡ 3 = ap (λ y. head y .phase) e in
+      let g : phaseAt s i ≡ 3 = sym (first-byte s i (size (prog x)) (size-pos (prog x))) ∙ (ap own-phase b ∙ f) in
       simp g
 
   par-flags : (α β : Flag) (u v : Term) (i : ℕ) → Waiting α β → Over α u → Over β v → Spells t (i + 1) (prog u)

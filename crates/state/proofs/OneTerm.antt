@@ -15,7 +15,7 @@ use Rattle.junior.specs.Term.{Term, done, seq0, seq2, loop0, loop1, repeat0, re
 use Rattle.junior.specs.Term.{prog, fresh}
 use Rattle.junior.specs.Term
 use Rattle.state.specs.StateBytes.{code, zeros, below, stateBytes}
-use Rattle.state.proofs.Parts.{len-bytes}
+use Rattle.state.proofs.Parts.{len-bytes, own-phase, own-flags}
 
 abbrev flag-of : ℕ → Flag
 flag-of n = cond (eqb n 0) SUSP (cond (eqb n 1) STOP TERM)
@@ -34,11 +34,11 @@ flags-back TERM TERM = (refl, refl)
 
 -- by the phase, in front of the bytes l: one of three terms, not begun or in its first part, then in it, then in its second part
 abbrev by-phase : List ℕ → Term → Term → Term → Term
-by-phase l x y z = let ph = getD l 0 0 in cond (eqb ph 0) x (cond (eqb ph 1) y z)
+by-phase l x y z = let ph = own-phase l in cond (eqb ph 0) x (cond (eqb ph 1) y z)
 
 -- phase 3 tells no more than the program
 abbrev or-done : Program → List ℕ → Term → Term
-or-done p l x = cond (eqb (getD l 0 0) 3) (done p) x
+or-done p l x = cond (eqb (own-phase l) 3) (done p) x
 
 abbrev of-one : {p q : Program} → One p q → List ℕ → Term → Term
 of-one (loop p) l x = by-phase l (loop0 p) (loop1 x) (loop1 x)
@@ -48,7 +48,7 @@ of-one (local s p) l x = by-phase l (Term.local false s x) (Term.local true s x)
 
 abbrev of-two : {p q r : Program} → Two p q r → List ℕ → Term → Term → Term
 of-two (seq p q) l x y = by-phase l (seq0 x q) (seq0 x q) (seq2 p y)
-of-two (par p q) l x y = let fl = getD l 1 0 in Term.par (flag-of (fl % 4)) (flag-of (fl / 4)) x y
+of-two (par p q) l x y = let fl = own-flags l in Term.par (flag-of (fl % 4)) (flag-of (fl / 4)) x y
 of-two (when c p q) l x y = by-phase l (when0 c p q) (when1 c x q) (when2 c p y)
 of-two (until c p q) l x y = by-phase l (until0 c x q) (until* c x q) (until2 c p y)
 

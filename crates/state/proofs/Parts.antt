@@ -76,9 +76,16 @@ fresh-zeros (Until c p q) = ap (λ l. before (in-phase 0) (l ++ zeros q)) (fresh
 fresh-zeros (Control s p) = ap (λ l. before (in-phase 0) l) (fresh-zeros p) ∙ blank-below (size p)
 fresh-zeros (Local s p) = ap (λ l. before (in-phase 0) l) (fresh-zeros p) ∙ blank-below (size p)
 
+-- the phase and the flags of the node whose bytes a list begins with
+abbrev pub own-phase : List ℕ → ℕ
+own-phase l = getD l 0 0
+
+abbrev pub own-flags : List ℕ → ℕ
+own-flags l = getD l 1 0
+
 -- a list's first four bytes, in front of others
 abbrev pub own-of : List ℕ → List ℕ → List ℕ
-own-of l r = getD l 0 0 ∷ getD l 1 0 ∷ getD l 2 0 ∷ getD l 3 0 ∷ r
+own-of l r = own-phase l ∷ own-flags l ∷ getD l 2 0 ∷ getD l 3 0 ∷ r
 
 pub own-below : (l : List ℕ) → 4 ≤ length l → l ≡ own-of l (drop 4 l)
 own-below (a ∷ []) h = absurd (omega arith)

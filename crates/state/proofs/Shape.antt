@@ -8,30 +8,32 @@ use Rattle.junior.specs.Configuration.{Config}
 use Rattle.junior.specs.Program.{Program, kind}
 use Rattle.junior.specs.Term.{Term, done, nothing, stop, atom, generate, await, seq0, seq2, par, loop0, loop1}
 use Rattle.junior.specs.Term.{repeat0, repeat1, when0, when1, when2, until0, until*, until2, control, local, prog}
+use Rattle.state.specs.Kinds.{nothing-kind, stop-kind, atom-kind, seq-kind, par-kind, loop-kind}
+use Rattle.state.specs.Kinds.{repeat-kind, generate-kind, await-kind, when-kind, until-kind, control-kind, local-kind}
 use Rattle.state.specs.StateBytes.{head}
 
 pub data Shape : Term → ℕ → ℕ → Type 0 where
   is-done : (p : Program) {k : ℕ} → kind p ≡ k → Shape (done p) k 3
-  is-nothing : Shape nothing 0 0
-  is-stop : Shape stop 1 0
-  is-atom : (a : ℕ) → Shape (atom a) 2 0
-  is-seq0 : (t : Term) (q : Program) → Shape (seq0 t q) 3 0
-  is-seq2 : (p : Program) (t : Term) → Shape (seq2 p t) 3 2
-  is-par : (α β : Flag) (t u : Term) → Shape (par α β t u) 4 0
-  is-loop0 : (p : Program) → Shape (loop0 p) 5 0
-  is-loop1 : (t : Term) → Shape (loop1 t) 5 1
-  is-repeat0 : (n : ℕ) (p : Program) → Shape (repeat0 n p) 6 0
-  is-repeat1 : (n k : ℕ) (t : Term) → Shape (repeat1 n k t) 6 1
-  is-generate : (s : ℕ) → Shape (generate s) 7 0
-  is-await : (c : Config) → Shape (await c) 8 0
-  is-when0 : (c : Config) (p q : Program) → Shape (when0 c p q) 9 0
-  is-when1 : (c : Config) (t : Term) (q : Program) → Shape (when1 c t q) 9 1
-  is-when2 : (c : Config) (p : Program) (t : Term) → Shape (when2 c p t) 9 2
-  is-until0 : (c : Config) (t : Term) (q : Program) → Shape (until0 c t q) 10 0
-  is-until* : (c : Config) (t : Term) (q : Program) → Shape (until* c t q) 10 1
-  is-until2 : (c : Config) (p : Program) (t : Term) → Shape (until2 c p t) 10 2
-  is-control : (s : ℕ) (t : Term) → Shape (control s t) 11 0
-  is-local : (b : Bool) (s : ℕ) (t : Term) {ph : ℕ} → cond b 1 0 ≡ ph → Shape (local b s t) 12 ph
+  is-nothing : Shape nothing nothing-kind 0
+  is-stop : Shape stop stop-kind 0
+  is-atom : (a : ℕ) → Shape (atom a) atom-kind 0
+  is-seq0 : (t : Term) (q : Program) → Shape (seq0 t q) seq-kind 0
+  is-seq2 : (p : Program) (t : Term) → Shape (seq2 p t) seq-kind 2
+  is-par : (α β : Flag) (t u : Term) → Shape (par α β t u) par-kind 0
+  is-loop0 : (p : Program) → Shape (loop0 p) loop-kind 0
+  is-loop1 : (t : Term) → Shape (loop1 t) loop-kind 1
+  is-repeat0 : (n : ℕ) (p : Program) → Shape (repeat0 n p) repeat-kind 0
+  is-repeat1 : (n k : ℕ) (t : Term) → Shape (repeat1 n k t) repeat-kind 1
+  is-generate : (s : ℕ) → Shape (generate s) generate-kind 0
+  is-await : (c : Config) → Shape (await c) await-kind 0
+  is-when0 : (c : Config) (p q : Program) → Shape (when0 c p q) when-kind 0
+  is-when1 : (c : Config) (t : Term) (q : Program) → Shape (when1 c t q) when-kind 1
+  is-when2 : (c : Config) (p : Program) (t : Term) → Shape (when2 c p t) when-kind 2
+  is-until0 : (c : Config) (t : Term) (q : Program) → Shape (until0 c t q) until-kind 0
+  is-until* : (c : Config) (t : Term) (q : Program) → Shape (until* c t q) until-kind 1
+  is-until2 : (c : Config) (p : Program) (t : Term) → Shape (until2 c p t) until-kind 2
+  is-control : (s : ℕ) (t : Term) → Shape (control s t) control-kind 0
+  is-local : (b : Bool) (s : ℕ) (t : Term) {ph : ℕ} → cond b 1 0 ≡ ph → Shape (local b s t) local-kind ph
 
 shape : (t : Term) → Shape t (kind (prog t)) (head t .phase)
 unfolding kind prog

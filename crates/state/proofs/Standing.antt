@@ -25,11 +25,12 @@ use Rattle.table.proofs.Parts.{of-none}
 use Rattle.table.proofs.Tree.{size-pos, kind-is, written, spells-one, spells-two, second-is, second}
 use Rattle.table.proofs.Laid.{both}
 use Rattle.table.proofs.Loaded.{all-nodes}
+use Rattle.state.specs.Kinds.{par-kind, repeat-kind}
 use Rattle.state.specs.StateBytes.{Own, code, head, before, in-phase, below, stateBytes}
 use Rattle.state.specs.Resting.{phaseAt, flagsAt, countAt, zeroNodes, firstZero, secondZero, belowZero, phaseRests}
 use Rattle.state.specs.Resting.{flagsRest, countRests, rests, blamed}
 use Rattle.state.proofs.Little.{either-true}
-use Rattle.state.proofs.Parts.{blank, blank-below, blank-both, fresh-zeros}
+use Rattle.state.proofs.Parts.{blank, blank-below, blank-both, fresh-zeros, own-phase}
 use Rattle.state.proofs.Shape.{Shape, is-done, is-local, shape-by, no-sign}
 use Rattle.state.proofs.Frames.{Frame, size-in, seq-first, seq-second, loop-body, repeat-body, when-first, when-second}
 use Rattle.state.proofs.Frames.{until-first, until-second, control-body, local-body}
@@ -82,7 +83,7 @@ module _ (t s : List ℕ) (small : (i : ℕ) → byte s i < 256) (long : 4 * nod
           → eqb (phaseAt s i) 3 ≡ b
           → cond b (eqb (flagsAt s i) 0 && (eqb (countAt s i) 0 && belowZero t s i))
           (phaseRests t s i (kindAt t i) (phaseAt s i)
-          && (cond (eqb (kindAt t i) 4) (flagsRest t s i (flagsAt s i)) (eqb (flagsAt s i) 0)
+          && (cond (eqb (kindAt t i) par-kind) (flagsRest t s i (flagsAt s i)) (eqb (flagsAt s i) 0)
           && countRests t i (kindAt t i) (phaseAt s i) (countAt s i)))
           ≡ true
           → TermAt s i p
@@ -129,10 +130,10 @@ module _ (t s : List ℕ) (small : (i : ℕ) → byte s i < 256) (long : 4 * nod
 
   phase-3 : {j : ℕ} {u : Term} → Rests s j u → eqb (phaseAt s j) 3 ≡ true → Over TERM u
   phase-3 {j} {u} x e =
-      over u (sym (ap (λ l. getD l 0 0) (x .bytes)) ∙ (first-byte s j (size (prog u)) (size-pos (prog u)) ∙ eqb-true _ 3 e))
+      over u (sym (ap own-phase (x .bytes)) ∙ (first-byte s j (size (prog u)) (size-pos (prog u)) ∙ eqb-true _ 3 e))
 
   -- a Repeat's count, by its phase
-  counted : (i ph n : ℕ) → argumentAt t i ≡ n → phaseAt s i ≡ ph → countRests t i 6 (phaseAt s i) (countAt s i) ≡ true
+  counted : (i ph n : ℕ) → argumentAt t i ≡ n → phaseAt s i ≡ ph → countRests t i repeat-kind (phaseAt s i) (countAt s i) ≡ true
       → cond (eqb ph 1) (ltb (countAt s i) n) (eqb (countAt s i) 0) ≡ true
   unfolding countRests
   counted i ph n a e c = rw (a, e) at c

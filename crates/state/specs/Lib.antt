@@ -1,3 +1,4 @@
+pub mod Kinds
 pub mod StateBytes
 pub mod Resting
 pub mod Inside

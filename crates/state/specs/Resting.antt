@@ -5,6 +5,7 @@ use mathlib.Core.List.{List}
 use lib.Dec.{eqb, ltb}
 use Rattle.events.specs.Events.{lowest}
 use Rattle.table.specs.Records.{byte, word, nodes, kindAt, argumentAt, sizeAt, secondAt}
+use Rattle.state.specs.Kinds.{seq-kind, par-kind, loop-kind, repeat-kind, when-kind, until-kind}
 
 -- node i's own bytes
 abbrev pub phaseAt : List ℕ → ℕ → ℕ
@@ -37,11 +38,11 @@ belowZero t s i = zeroNodes s (i + 1) (sizeAt t i - 1)
 -- the phases at rest of a kind, but for phase 3, and the subtrees that each wants zero
 unfoldable pub phaseRests : List ℕ → List ℕ → ℕ → ℕ → ℕ → Bool
 phaseRests t s i k ph =
-    cond (eqb k 3) ((eqb ph 0 && secondZero t s i) || (eqb ph 2 && firstZero t s i))
-    (cond (eqb k 5 || eqb k 6) ((eqb ph 0 && firstZero t s i) || eqb ph 1)
-    (cond (eqb k 9)
+    cond (eqb k seq-kind) ((eqb ph 0 && secondZero t s i) || (eqb ph 2 && firstZero t s i))
+    (cond (eqb k loop-kind || eqb k repeat-kind) ((eqb ph 0 && firstZero t s i) || eqb ph 1)
+    (cond (eqb k when-kind)
     ((eqb ph 0 && (firstZero t s i && secondZero t s i)) || ((eqb ph 1 && secondZero t s i) || (eqb ph 2 && firstZero t s i)))
-    (cond (eqb k 10) ((eqb ph 0 && secondZero t s i) || (eqb ph 2 && firstZero t s i)) (eqb ph 0))))
+    (cond (eqb k until-kind) ((eqb ph 0 && secondZero t s i) || (eqb ph 2 && firstZero t s i)) (eqb ph 0))))
 
 -- Par's flags: each SUSP or TERM and not both TERM, a TERM flag only over a child in phase 3
 unfoldable pub flagsRest : List ℕ → List ℕ → ℕ → ℕ → Bool
@@ -50,7 +51,7 @@ flagsRest t s i fl =
 
 -- a begun Repeat's count is below its argument, any other count is 0
 unfoldable pub countRests : List ℕ → ℕ → ℕ → ℕ → ℕ → Bool
-countRests t i k ph ct = cond (eqb k 6 && eqb ph 1) (ltb ct (argumentAt t i)) (eqb ct 0)
+countRests t i k ph ct = cond (eqb k repeat-kind && eqb ph 1) (ltb ct (argumentAt t i)) (eqb ct 0)
 
 -- node i isn't to blame
 unfoldable pub rests : List ℕ → List ℕ → ℕ → Bool
@@ -63,7 +64,7 @@ rests t s i =
     (eqb ph 3)
     (eqb fl 0 && (eqb ct 0 && belowZero t s i))
     (phaseRests t s i k ph
-    && (cond (eqb k 4) (flagsRest t s i fl) (eqb fl 0) && countRests t i k ph ct))
+    && (cond (eqb k par-kind) (flagsRest t s i fl) (eqb fl 0) && countRests t i k ph ct))
 
 -- the lowest node to blame; N if none is
 abbrev pub blamed : List ℕ → List ℕ → ℕ

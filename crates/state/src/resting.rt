@@ -8,6 +8,7 @@ ghost use lib.ListN.{length};
 ghost use Rattle.table.specs.Records.{nodes, kindAt, secondAt};
 ghost use Rattle.table.specs.Good.{children};
 ghost use Rattle.table.specs.Inside.{Loaded};
+ghost use Rattle.state.specs.Kinds.{when-kind};
 ghost use Rattle.state.specs.Resting.{phaseAt, flagsAt, countAt, zeroNodes, firstZero, secondZero};
 ghost use Rattle.state.specs.Resting.{phaseRests, flagsRest, countRests, rests, blamed};
 ghost use Rattle.state.specs.Inside.{ZeroFrom, Tells, Judged, Judging, Blamed};
@@ -75,7 +76,8 @@ fn second_zero(table: &[u8], state: &[u8], i: usize, near: usize) -> bool
 fn part_rests(table: &[u8], state: &[u8], i: usize, near: usize, phase: usize) -> bool
     requires { ⌜ Judging (now table) (now state) i near ⌝ }
     requires { ⌜ children (kindAt (now table) i) ≡ 2 ⌝ }
-    ensures { λ r. ⌜ r ≡ ((eqb phase 0 && secondZero (now (table .entry)) (now (state .entry)) i) || (eqb phase 2 && firstZero (now (table .entry)) (now (state .entry)) i)) ⌝ }
+    ensures { λ r. ⌜ r ≡ ((eqb phase 0 && secondZero (now (table .entry)) (now (state .entry)) i)
+        || (eqb phase 2 && firstZero (now (table .entry)) (now (state .entry)) i)) ⌝ }
 {
     match phase {
         0 => second_zero(table, state, i, near),
@@ -87,8 +89,8 @@ fn part_rests(table: &[u8], state: &[u8], i: usize, near: usize, phase: usize) -
 // Whether a When rests, testing or in a branch.
 fn branch_rests(table: &[u8], state: &[u8], i: usize, near: usize, phase: usize) -> bool
     requires { ⌜ Judging (now table) (now state) i near ⌝ }
-    requires { ⌜ kindAt (now table) i ≡ 9 ⌝ }
-    ensures { λ r. ⌜ r ≡ phaseRests (now (table .entry)) (now (state .entry)) i 9 phase ⌝ }
+    requires { ⌜ kindAt (now table) i ≡ when-kind ⌝ }
+    ensures { λ r. ⌜ r ≡ phaseRests (now (table .entry)) (now (state .entry)) i when-kind phase ⌝ }
 {
     match phase {
         0 => i + size_at(table, i) <= near,

@@ -14,13 +14,14 @@ use Rattle.junior.specs.Configuration.{Config, Event, Not, And, Or, test, fixed
 use Rattle.table.specs.Records.{partKind, partEvent}
 use Rattle.table.specs.Spells.{Configured, tested}
 use Rattle.table.specs.Inside.Ranks.{unranked}
+use Rattle.state.specs.Kinds.{await-kind}
 use Rattle.state.proofs.Shape.{shape-by}
 use Rattle.steps.specs.Running.{TestRead, Runs}
 use Rattle.steps.proofs.Children.{own-in}
 use Rattle.steps.proofs.LeafParts.{await-has, await-waits, await-fails, await-ends, await-stops}
 use Rattle.steps.proofs.Tally.{not-ended, is-ended}
 use Rattle.steps.specs.Numbers.{ended-at, wordsOf, tallyOf}
-use Rattle.steps.specs.Kinds.{OfKind, await-kind}
+use Rattle.steps.specs.Kinds.{OfKind}
 use Rattle.steps.specs.Tests.{CanTest, TestRanked, loneEvent}
 use Rattle.steps.specs.Flags.{flagOf}
 use Rattle.steps.specs.Lent.{lent, CanRun, HasRun}

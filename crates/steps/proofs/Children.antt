@@ -18,7 +18,7 @@ use Rattle.table.specs.Inside.{Placed}
 use Rattle.table.proofs.Tree.{size-pos}
 use Rattle.table.proofs.Loaded.{size-of, in-table}
 use Rattle.state.specs.StateBytes.{Own, head, below, stateBytes}
-use Rattle.state.proofs.Parts.{blank, len-bytes, own-of, own-below, part-is, put-is}
+use Rattle.state.proofs.Parts.{blank, len-bytes, own-of, own-below, part-is, put-is, own-phase}
 use Rattle.state.proofs.Frames.{Frame, size-in, spells-in}
 use Rattle.steps.specs.Running.{Ready, Ran, Live, Runs, Any}
 
@@ -48,7 +48,7 @@ module _ {skip : ℕ} {table : List ℕ} {i : ℕ} {state words row tally : List
 
 module _ {table : List ℕ} {i : ℕ} {state words row tally : List ℕ} {t : Term}
     (h : Ready 0 table i state words row tally t) where
-  pub phase-is : getD state 0 0 ≡ head t .phase
+  pub phase-is : own-phase state ≡ head t .phase
   phase-is = byte-is h 0 (omega arith)
 
   -- looked at less closely

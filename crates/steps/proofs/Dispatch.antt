@@ -11,11 +11,12 @@ use Rattle.junior.specs.Term.{Term, prog}
 use Rattle.table.specs.Records.{kindAt}
 use Rattle.table.proofs.Tree.{size-pos}
 use Rattle.table.proofs.Loaded.{kind-of, in-table, own-node}
+use Rattle.state.specs.Kinds.{seq-kind, par-kind, await-kind, local-kind}
 use Rattle.state.specs.StateBytes.{head}
 use Rattle.steps.specs.Running.{Ready}
 use Rattle.steps.proofs.Children.{byte-is, own-in}
 use Rattle.steps.specs.Numbers.{wordsOf, tallyOf}
-use Rattle.steps.specs.Kinds.{OfKind, BothSuspended, NotBoth, Others, par-kind, seq-kind, await-kind, local-kind}
+use Rattle.steps.specs.Kinds.{OfKind, BothSuspended, NotBoth, Others}
 use Rattle.steps.specs.Lent.{Lent, lent, Around, Stands, CanRun, HasRun}
 use Rattle.steps.proofs.Context.{byte-at, byte-in, phase-at, phase-in}
 

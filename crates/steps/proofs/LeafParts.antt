@@ -24,6 +24,7 @@ use Rattle.junior.specs.Inside.{pot}
 use Rattle.table.specs.Records.{argumentAt}
 use Rattle.table.specs.Spells.{Spells}
 use Rattle.table.proofs.Tree.{size-pos}
+use Rattle.state.specs.Kinds.{stop-kind, atom-kind, generate-kind, await-kind}
 use Rattle.state.specs.StateBytes.{zeros, below, stateBytes}
 use Rattle.state.proofs.Shape.{Shape, is-done, is-stop, is-atom, is-generate, is-await, is-local, no-sign}
 use Rattle.steps.specs.Running.{Ready, Ran, HasTest, TestRead, envOf, atoms-done}
@@ -55,19 +56,19 @@ module _ {table : List ℕ} {i : ℕ} {state words row tally : List ℕ} where
   done-ran (is-done p k) h = ran-alone r1-on refl (ap (λ (l : List ℕ). set l 0 0) (h .bytes) ∙ done-zeros p)
   done-ran (is-local b s u k) h = absurd (no-sign b k)
 
-  pub stop-ran : {P : Place} {t : Term} {ph : ℕ} → Shape t 1 ph → ph ≢ 3 → Ready 0 table i state words row tally t
+  pub stop-ran : {P : Place} {t : Term} {ph : ℕ} → Shape t stop-kind ph → ph ≢ 3 → Ready 0 table i state words row tally t
       → Ran P t words row tally (set state 0 3) words row tally STOP
   unfolding collect below size
   stop-ran (is-done p k) n h = absurd (n refl)
   stop-ran is-stop n h = ran-alone r2 refl (ap (λ (l : List ℕ). set l 0 3) (h .bytes))
 
-  pub atom-room : {t : Term} {ph : ℕ} → Shape t 2 ph → ph ≢ 3 → Ready 0 table i state words row tally t
+  pub atom-room : {t : Term} {ph : ℕ} → Shape t atom-kind ph → ph ≢ 3 → Ready 0 table i state words row tally t
       → atoms-done tally < length row
   unfolding pot kind
   atom-room (is-done p k) n h = absurd (n refl)
   atom-room (is-atom a) n h = omega (arith, h .room)
 
-  pub atom-ran : {P : Place} {t : Term} {ph : ℕ} → Shape t 2 ph → ph ≢ 3 → Ready 0 table i state words row tally t
+  pub atom-ran : {P : Place} {t : Term} {ph : ℕ} → Shape t atom-kind ph → ph ≢ 3 → Ready 0 table i state words row tally t
       → (a : ℕ) → a ≡ argumentAt table i
       → Ran P t words row tally state words (set row (atoms-done tally) a) (set tally 0 (atoms-done tally + 1)) TERM
   unfolding collect below prog size Spells
@@ -87,7 +88,7 @@ module _ {table : List ℕ} {i : ℕ} {state words row tally : List ℕ} where
         lengths = record { of-words = refl; of-tally = length-set tally 0 (at + 1) };
       }
 
-  pub generate-ran : {P : Place} {t : Term} {ph : ℕ} → Shape t 7 ph → ph ≢ 3 → Ready 0 table i state words row tally t
+  pub generate-ran : {P : Place} {t : Term} {ph : ℕ} → Shape t generate-kind ph → ph ≢ 3 → Ready 0 table i state words row tally t
       → (s : ℕ) → s ≡ argumentAt table i
       → (words′ : List ℕ) → length words′ ≡ length words → marks words′ ≡ put s (ltb s (64 * length words)) (marks words)
       → Ran P t words row tally state words′ row (set tally 1 1) TERM
@@ -106,31 +107,31 @@ module _ {table : List ℕ} {i : ℕ} {state words row tally : List ℕ} where
       }
 
   -- an Await's configuration can be read, and the Await goes by what it is read as
-  pub await-has : {t : Term} {ph : ℕ} → Shape t 8 ph → ph ≢ 3 → Ready 0 table i state words row tally t → HasTest table i tally
+  pub await-has : {t : Term} {ph : ℕ} → Shape t await-kind ph → ph ≢ 3 → Ready 0 table i state words row tally t → HasTest table i tally
   unfolding prog
   await-has (is-done p k) n h = absurd (n refl)
   await-has (is-await c) n h = await-test (h .tallied) (h .placed)
 
   module _ {v : Verdict} (reads : TestRead table i words tally v) where
-    pub await-waits : {P : Place} {t : Term} {ph : ℕ} → Shape t 8 ph → ph ≢ 3 → Ready 0 table i state words row tally t
+    pub await-waits : {P : Place} {t : Term} {ph : ℕ} → Shape t await-kind ph → ph ≢ 3 → Ready 0 table i state words row tally t
         → v ≡ Unknown → Ran P t words row tally state words row tally SUSP
     unfolding collect prog Spells
     await-waits (is-done p k) n h e = absurd (n refl)
     await-waits (is-await c) n h e = ran-alone (r25 (sym (reads c (h .placed .spelled .1)) ∙ e)) refl (h .bytes)
 
-    pub await-fails : {P : Place} {t : Term} {ph : ℕ} → Shape t 8 ph → ph ≢ 3 → Ready 0 table i state words row tally t
+    pub await-fails : {P : Place} {t : Term} {ph : ℕ} → Shape t await-kind ph → ph ≢ 3 → Ready 0 table i state words row tally t
         → v ≡ Unsat → Ran P t words row tally state words row tally STOP
     unfolding collect prog Spells
     await-fails (is-done p k) n h e = absurd (n refl)
     await-fails (is-await c) n h e = ran-alone (r24 (sym (reads c (h .placed .spelled .1)) ∙ e)) refl (h .bytes)
 
-    pub await-ends : {P : Place} {t : Term} {ph : ℕ} → Shape t 8 ph → ph ≢ 3 → Ready 0 table i state words row tally t
+    pub await-ends : {P : Place} {t : Term} {ph : ℕ} → Shape t await-kind ph → ph ≢ 3 → Ready 0 table i state words row tally t
         → v ≡ Sat → envOf words tally .eoi ≡ false → Ran P t words row tally state words row tally TERM
     unfolding collect below prog size Spells
     await-ends (is-done p k) n h e o = absurd (n refl)
     await-ends (is-await c) n h e o = ran-alone (r22 (sym (reads c (h .placed .spelled .1)) ∙ e) o) refl (h .bytes)
 
-    pub await-stops : {P : Place} {t : Term} {ph : ℕ} → Shape t 8 ph → ph ≢ 3 → Ready 0 table i state words row tally t
+    pub await-stops : {P : Place} {t : Term} {ph : ℕ} → Shape t await-kind ph → ph ≢ 3 → Ready 0 table i state words row tally t
         → v ≡ Sat → envOf words tally .eoi ≡ true → Ran P t words row tally (set state 0 3) words row tally STOP
     unfolding collect below prog size Spells
     await-stops (is-done p k) n h e o = absurd (n refl)

@@ -18,6 +18,7 @@ use Rattle.junior.specs.Trace.{Place, collect}
 use Rattle.junior.specs.Rules.{r1}
 use Rattle.table.specs.Records.{argumentAt}
 use Rattle.table.specs.Spells.{Spells}
+use Rattle.state.specs.Kinds.{nothing-kind, stop-kind, atom-kind, generate-kind}
 use Rattle.state.specs.StateBytes.{below}
 use Rattle.state.proofs.Shape.{Shape, is-done, is-nothing, is-generate, shape-by}
 use Rattle.steps.specs.Running.{Ready, Ran}
@@ -26,7 +27,7 @@ use Rattle.steps.proofs.Children.{own-in}
 use Rattle.steps.proofs.Done.{ran-alone}
 use Rattle.steps.proofs.LeafParts.{done-ran, stop-ran, atom-room, atom-ran, generate-ran}
 use Rattle.steps.specs.Numbers.{atoms-at, moved-at, Put}
-use Rattle.steps.specs.Kinds.{OfKind, nothing-kind, stop-kind, atom-kind, generate-kind}
+use Rattle.steps.specs.Kinds.{OfKind}
 use Rattle.steps.specs.Lent.{lent, CanRun, HasRun}
 use Rattle.steps.proofs.Context.{put-phase}
 use Rattle.steps.proofs.Row.{kept-same, kept-then, kept-but, words-stay, words-wide, tally-0, tally-1}
@@ -42,7 +43,7 @@ ran-in {P} {t} {words} {row} {tally} {state′} {words′} {row′} {tally′} {
     subst (λ (w : List ℕ). Ran P t words row tally state′ w row′ tally″ α) (sym e)
     (subst (λ (l : List ℕ). Ran P t words row tally state′ words′ row′ l α) (sym f) g)
 
-nothing-ran : {table : List ℕ} {i : ℕ} {state words row tally : List ℕ} {P : Place} {t : Term} {ph : ℕ} → Shape t 0 ph
+nothing-ran : {table : List ℕ} {i : ℕ} {state words row tally : List ℕ} {P : Place} {t : Term} {ph : ℕ} → Shape t nothing-kind ph
     → Ready 0 table i state words row tally t
     → Ran P t words row tally (set state 0 0) words row tally TERM
 unfolding collect below size prog

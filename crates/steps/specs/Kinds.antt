@@ -1,50 +1,12 @@
--- The kinds of nodes by name (01, "The table"), and which terms each function of a pass runs.
+-- Which terms each function of a pass runs.
 use Prim.Native.Nat.{ℕ}
 use mathlib.Core.Path.{_≡_}
 use mathlib.Core.Logic.{_≢_}
 use Rattle.junior.specs.Program.{kind}
 use Rattle.junior.specs.Term.{Term, prog}
+use Rattle.state.specs.Kinds.{seq-kind, par-kind, loop-kind, await-kind, when-kind, until-kind}
 use Rattle.state.specs.StateBytes.{head}
 use Rattle.steps.specs.Running.{Phase, KindPhase}
-
-abbrev pub nothing-kind : ℕ
-nothing-kind = 0
-
-abbrev pub stop-kind : ℕ
-stop-kind = 1
-
-abbrev pub atom-kind : ℕ
-atom-kind = 2
-
-abbrev pub seq-kind : ℕ
-seq-kind = 3
-
-abbrev pub par-kind : ℕ
-par-kind = 4
-
-abbrev pub loop-kind : ℕ
-loop-kind = 5
-
-abbrev pub repeat-kind : ℕ
-repeat-kind = 6
-
-abbrev pub generate-kind : ℕ
-generate-kind = 7
-
-abbrev pub await-kind : ℕ
-await-kind = 8
-
-abbrev pub when-kind : ℕ
-when-kind = 9
-
-abbrev pub until-kind : ℕ
-until-kind = 10
-
-abbrev pub control-kind : ℕ
-control-kind = 11
-
-abbrev pub local-kind : ℕ
-local-kind = 12
 
 -- how many of a node's own bytes a function does not look at: none, the phase, all four
 abbrev pub all-seen : ℕ

@@ -21,15 +21,22 @@ use Rattle.junior.specs.Inside.{Going, pot}
 use Rattle.table.specs.Records.{nodes, configurations, argumentAt}
 use Rattle.table.specs.Spells.{Configured, tested}
 use Rattle.table.specs.Inside.{Loaded, Placed}
+use Rattle.state.specs.Kinds.{par-kind, repeat-kind}
 use Rattle.state.specs.StateBytes.{code, head, zeros, stateBytes}
 
 -- The tally of an instant: how many atoms are done, whether something moved, whether the end is declared (0 for no).
 abbrev pub atoms-done : List ℕ → ℕ
 atoms-done tally = getD tally 0 0
 
+abbrev pub something-moved : List ℕ → ℕ
+something-moved tally = getD tally 1 0
+
+abbrev pub end-declared : List ℕ → ℕ
+end-declared tally = getD tally 2 0
+
 -- the environment that the words and the tally stand for
 abbrev pub envOf : List ℕ → List ℕ → Env
-envOf words tally = record { now = marks words; eoi = ltb 0 (getD tally 2 0); move = ltb 0 (getD tally 1 0) }
+envOf words tally = record { now = marks words; eoi = ltb 0 (end-declared tally); move = ltb 0 (something-moved tally) }
 
 -- the bytes of a term, all but the first few
 abbrev pub Bytes : ℕ → List ℕ → Term → Type 0
@@ -90,14 +97,14 @@ KindPhase k ph t = (kind (prog t) ≡ k) × (head t .phase ≡ ph)
 
 -- begun Repeats with k runs still to begin
 abbrev pub Times : ℕ → Term → Type 0
-Times k t = (kind (prog t) ≡ 6) × (head t .phase ≡ 1) × (head t .count ≡ k)
+Times k t = (kind (prog t) ≡ repeat-kind) × (head t .phase ≡ 1) × (head t .count ≡ k)
 
 -- Pars of which only the first branch is suspended, or only the second
 abbrev pub LeftSuspended : Term → Type 0
-LeftSuspended t = Kind 4 t × (head t .flags % 4 ≡ 0) × (head t .flags ≢ 0)
+LeftSuspended t = Kind par-kind t × (head t .flags % 4 ≡ 0) × (head t .flags ≢ 0)
 
 abbrev pub RightSuspended : Term → Type 0
-RightSuspended t = Kind 4 t × (head t .flags % 4 ≢ 0)
+RightSuspended t = Kind par-kind t × (head t .flags % 4 ≢ 0)
 
 -- what each function of the cycle asks, and what it gives: whatever such term stands there was run once
 abbrev pub Live : ℕ → (Term → Type 0) → List ℕ → ℕ → List ℕ → List ℕ → List ℕ → List ℕ → Type 0

@@ -5,7 +5,7 @@ ghost use Prim.Native.Nat.{_+_, _-_, _*_, _<_, _≤_, _/_, _%_};
 ghost use lib.Dec.{eqb};
 ghost use lib.ListN.{length, set, replicate};
 ghost use borrow.Rule.Slice.PartMut.{putMid};
-ghost use Rattle.steps.specs.Kinds.{par-kind};
+ghost use Rattle.state.specs.Kinds.{par-kind};
 use crate::kinds::PAR;
 use state::clear;
 use table::records::wide;
