@@ -61,7 +61,8 @@ pub extern "C" fn zapper_instant(
     atoms: &mut [u16],
     answer: &mut [u64; INSTANT_PLACES],
 )
-    ensures { λ _. ⌜ AnsweredInPlaces (now (table .entry)) (now (state .entry)) (now («handed_in» .entry)) (now (atoms .entry)) (now (state .exit)) (now (atoms .exit)) (now (answer .exit)) ⌝ }
+    ensures { λ _. ⌜ AnsweredInPlaces (now (table .entry)) (now (state .entry)) (now («handed_in» .entry)) (now (atoms .entry))
+        (now (state .exit)) (now (atoms .exit)) (now (answer .exit)) ⌝ }
 {
     let words = *handed_in;
     let a = instant(table, state, EventSet { words }, atoms);

@@ -21,7 +21,8 @@ use table::records::word_at;
 // references of one register each, which no slice that is a parameter can be lent as otherwise.
 pub fn run_passes(table: &[u8], state: &mut [u8], events: EventSet, atoms: &mut [u16]) -> Answer
     requires { ⌜ Startable (now table) (now state) (now atoms) ⌝ }
-    ensures { λ r. ⌜ (r .outcome ≡ Ran) × Run (now (table .entry)) (now (state .entry)) (members events) (now (atoms .entry)) (now (state .exit)) (now (atoms .exit)) r ⌝ }
+    ensures { λ r. ⌜ (r .outcome ≡ Ran)
+        × Run (now (table .entry)) (now (state .entry)) (members events) (now (atoms .entry)) (now (state .exit)) (now (atoms .exit)) r ⌝ }
 {
     let mut s = state;
     let mut w = atoms;

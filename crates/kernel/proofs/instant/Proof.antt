@@ -76,7 +76,6 @@ returns c =
 
 returns-2 : tie.Need-returns-2
 returns-2 c =
-    let start = c .before .before .before .before .before .before .before .before in
     let outcome-of = c .before .before .outcome-of in
     let match = c .before .match in
     let refused = c .refused in

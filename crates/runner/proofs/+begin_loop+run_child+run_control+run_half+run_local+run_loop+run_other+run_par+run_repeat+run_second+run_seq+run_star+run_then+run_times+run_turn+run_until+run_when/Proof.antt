@@ -1,3 +1,4 @@
+-- All functions of a pass meet their contracts, together: they call one another.
 mod Measures
 mod BeginLoop
 mod RunChild

@@ -43,7 +43,8 @@ loop-again c =
     let start = c .before .before .before in
     let loop = c .before .before .loop in
     let A = start .args in
-    (search needs, simp length-set (loop .inv .1), rw (loop .inv .2, add-one) (copy-behind (A .from) (loop .at) (A .numbers .now) (A .row .now) (search needs) (search needs)))
+    let copied = copy-behind (A .from) (loop .at) (A .numbers .now) (A .row .now) (search needs) (search needs) in
+    (search needs, simp length-set (loop .inv .1), rw (loop .inv .2, add-one) copied)
 
 returns : tie.Need-returns Inv-loop μ-loop
 returns c =

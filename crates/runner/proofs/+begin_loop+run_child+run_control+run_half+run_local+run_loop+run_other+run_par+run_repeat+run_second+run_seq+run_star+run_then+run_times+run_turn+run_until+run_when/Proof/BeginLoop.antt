@@ -1,7 +1,9 @@
+-- A Loop whose body begins meets its contract: rule 12.
 use Rattle.runner.proofs as proofs
-use proofs.+begin_loop+run_child+run_control+run_half+run_local+run_loop+run_other+run_par+run_repeat+run_second+run_seq+run_star+run_then+run_times+run_turn+run_until+run_when.Lts-begin_loop as lts
+use proofs.+begin_loop+run_child+run_control+run_half+run_local+run_loop+run_other+run_par+run_repeat+run_second+run_seq+run_star+run_then+run_times+run_turn+run_until+run_when as cycle
+use cycle.Lts-begin_loop as lts
 use proofs.begin_loop.Reads.{Pre, Post}
-use proofs.+begin_loop+run_child+run_control+run_half+run_local+run_loop+run_other+run_par+run_repeat+run_second+run_seq+run_star+run_then+run_times+run_turn+run_until+run_when.Proof.Measures.{exactly, smaller, μ-begin-loop, μ-run-child}
+use cycle.Proof.Measures.{exactly, smaller, μ-begin-loop, μ-run-child}
 use borrow.Fn.Kinds.{In, Out}
 use Prim.Native.Nat.{ℕ}
 use borrow.Author.Needs.{needs}

@@ -1,3 +1,4 @@
+-- What falls with each call of the cycle: the nodes of the subtree, then the rank of the function.
 use Rattle.runner.proofs as proofs
 use borrow.Fn.Kinds.{In, PK}
 use borrow.Fn.PlainCycle.{Measures, is, falls, and}

@@ -1,7 +1,9 @@
+-- A node run once, the most frequent kinds told apart first: whatever function runs it, it is run by the rules.
 use Rattle.runner.proofs as proofs
-use proofs.+begin_loop+run_child+run_control+run_half+run_local+run_loop+run_other+run_par+run_repeat+run_second+run_seq+run_star+run_then+run_times+run_turn+run_until+run_when.Lts-run_child as lts
+use proofs.+begin_loop+run_child+run_control+run_half+run_local+run_loop+run_other+run_par+run_repeat+run_second+run_seq+run_star+run_then+run_times+run_turn+run_until+run_when as cycle
+use cycle.Lts-run_child as lts
 use proofs.run_child.Reads.{Pre, Post}
-use proofs.+begin_loop+run_child+run_control+run_half+run_local+run_loop+run_other+run_par+run_repeat+run_second+run_seq+run_star+run_then+run_times+run_turn+run_until+run_when.Proof.Measures.{exactly, smaller, μ-run-child, μ-run-half, μ-run-other, μ-run-par, μ-run-seq}
+use cycle.Proof.Measures.{exactly, smaller, μ-run-child, μ-run-half, μ-run-other, μ-run-par, μ-run-seq}
 use Rattle.table.proofs.records.kind_at.Reads as kind-at-reads
 use borrow.Fn.Kinds.{In, Out}
 use Prim.Native.Nat.{ℕ}
@@ -11,7 +13,7 @@ use lib.Dec.{lit<}
 use Rattle.steps.proofs.Tested.{both-zero, not-both-zero}
 use Rattle.steps.proofs.Dispatch.{kind-reads, phase-reads, own-reads, to-kind, by-kind, to-both, by-both, to-half, by-half, to-others, by-others}
 use Rattle.steps.proofs.Awaits.{await-tests}
-use Rattle.runner.proofs.Falling.{lower-rank}
+use Rattle.runner.proofs.Falling.{lower-rank, child-rank, other-rank, form-rank}
 
 module _ (t : ℕ) where
   abbrev given : lts.Claims
@@ -48,7 +50,7 @@ module _ (t : ℕ) where
       let both-suspended = c .before .before .before .before .both-suspended in
       let if2 = c .before .before .before .if2 in
       let z = both-zero _ _ (sym (both-suspended .ensures) ∙ if2 .taken) in
-      (lower-rank _ 4 2 (lit< tt) (start .pre .0), to-both (kind-at .ensures .0) (if1 .taken) z (start .pre .1))
+      (lower-rank _ child-rank form-rank (lit< tt) (start .pre .0), to-both (kind-at .ensures .0) (if1 .taken) z (start .pre .1))
 
   returns : Of lts.Need-returns
   returns c =
@@ -69,7 +71,7 @@ module _ (t : ℕ) where
       let both-suspended = c .before .before .before .before .both-suspended in
       let if2 = c .before .before .before .if2 in
       let z = not-both-zero _ _ (sym (both-suspended .ensures) ∙ if2 .left) in
-      (lower-rank _ 4 2 (lit< tt) (start .pre .0), to-half (kind-at .ensures .0) (if1 .taken) z (start .pre .1))
+      (lower-rank _ child-rank form-rank (lit< tt) (start .pre .0), to-half (kind-at .ensures .0) (if1 .taken) z (start .pre .1))
 
   returns-2 : Of lts.Need-returns-2
   returns-2 c =
@@ -127,7 +129,7 @@ module _ (t : ℕ) where
       let start = c .before .before .before .before .before .before .before .before in
       let kind-at = c .before .before .before .before .before .before .kind-at in
       let if5 = c .before .before .before .if5 in
-      (lower-rank _ 4 2 (lit< tt) (start .pre .0), to-kind (kind-at .ensures .0) (if5 .taken) (start .pre .1))
+      (lower-rank _ child-rank form-rank (lit< tt) (start .pre .0), to-kind (kind-at .ensures .0) (if5 .taken) (start .pre .1))
 
   returns-5 : Of lts.Need-returns-5
   returns-5 c =
@@ -144,7 +146,7 @@ module _ (t : ℕ) where
       let if1 = c .before .before .before .before .before .if1 in
       let if3 = c .before .before .before .before .if3 in
       let if5 = c .before .before .before .if5 in
-      (lower-rank _ 4 3 (lit< tt) (start .pre .0), to-others (kind-at .ensures .0) (if1 .left) (if3 .left) (if5 .left) (start .pre .1))
+      (lower-rank _ child-rank other-rank (lit< tt) (start .pre .0), to-others (kind-at .ensures .0) (if1 .left) (if3 .left) (if5 .left) (start .pre .1))
 
   -- pub fn run_child
   returns-6 : Of lts.Need-returns-6

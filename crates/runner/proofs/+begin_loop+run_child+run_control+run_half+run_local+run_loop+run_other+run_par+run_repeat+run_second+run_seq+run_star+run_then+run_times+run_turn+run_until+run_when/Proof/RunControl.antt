@@ -1,7 +1,9 @@
+-- A Control meets its contract: rules 26 to 28.
 use Rattle.runner.proofs as proofs
-use proofs.+begin_loop+run_child+run_control+run_half+run_local+run_loop+run_other+run_par+run_repeat+run_second+run_seq+run_star+run_then+run_times+run_turn+run_until+run_when.Lts-run_control as lts
+use proofs.+begin_loop+run_child+run_control+run_half+run_local+run_loop+run_other+run_par+run_repeat+run_second+run_seq+run_star+run_then+run_times+run_turn+run_until+run_when as cycle
+use cycle.Lts-run_control as lts
 use proofs.run_control.Reads.{Pre, Post}
-use proofs.+begin_loop+run_child+run_control+run_half+run_local+run_loop+run_other+run_par+run_repeat+run_second+run_seq+run_star+run_then+run_times+run_turn+run_until+run_when.Proof.Measures.{exactly, smaller, μ-run-child, μ-run-control}
+use cycle.Proof.Measures.{exactly, smaller, μ-run-child, μ-run-control}
 use Rattle.table.proofs.records.argument_at.Reads as argument-at-reads
 use Rattle.events.proofs.marked.Reads as marked-reads
 use Rattle.table.proofs.records.kind_at.Reads as kind-at-reads
@@ -35,7 +37,6 @@ module _ (t : ℕ) where
   argument-at-requires : Of lts.Need-argument-at-requires
   argument-at-requires c κs =
       let start = c .before .before .before .before .before in
-      let if1 = c .before .before .before .if1 in
       argument-reads (start .pre .1)
 
   -- if kind_at(*table, i + 1) == kinds::CONTROL {

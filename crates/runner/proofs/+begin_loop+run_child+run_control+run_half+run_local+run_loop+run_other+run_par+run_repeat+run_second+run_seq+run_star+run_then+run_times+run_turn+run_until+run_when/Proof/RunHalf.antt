@@ -1,7 +1,9 @@
+-- A Par of which one branch is run meets its contract: rules 10 and 11.
 use Rattle.runner.proofs as proofs
-use proofs.+begin_loop+run_child+run_control+run_half+run_local+run_loop+run_other+run_par+run_repeat+run_second+run_seq+run_star+run_then+run_times+run_turn+run_until+run_when.Lts-run_half as lts
+use proofs.+begin_loop+run_child+run_control+run_half+run_local+run_loop+run_other+run_par+run_repeat+run_second+run_seq+run_star+run_then+run_times+run_turn+run_until+run_when as cycle
+use cycle.Lts-run_half as lts
 use proofs.run_half.Reads.{Pre, Post}
-use proofs.+begin_loop+run_child+run_control+run_half+run_local+run_loop+run_other+run_par+run_repeat+run_second+run_seq+run_star+run_then+run_times+run_turn+run_until+run_when.Proof.Measures.{exactly, smaller, μ-run-child, μ-run-half}
+use cycle.Proof.Measures.{exactly, smaller, μ-run-child, μ-run-half}
 use Rattle.table.proofs.records.second_at.Reads as second-at-reads
 use Rattle.table.proofs.records.kind_at.Reads as kind-at-reads
 use borrow.Fn.Kinds.{In, Out}
@@ -13,8 +15,9 @@ use native.Mathlib.Omega.{arith}
 use Rattle.steps.proofs.Tested.{half-pair}
 use Rattle.steps.proofs.Ended.{done-run}
 use Rattle.steps.proofs.Dispatch.{few-nodes, kind-reads, phase-reads, own-reads, to-half, by-half}
-use Rattle.runner.proofs.Falling.{lighter}
-use proofs.HalfRuns.{half-second-in, half-left, half-left-joins, half-left-keeps, half-left-done, half-right, half-right-joins, half-right-done, half-second-few}
+use Rattle.runner.proofs.Falling.{lighter, child-rank, form-rank}
+use proofs.HalfRuns.{half-second-in, half-left, half-left-joins, half-left-keeps, half-left-done}
+use proofs.HalfRuns.{half-right, half-right-joins, half-right-done, half-second-few}
 
 module _ (t : ℕ) where
   abbrev given : lts.Claims
@@ -143,7 +146,7 @@ module _ (t : ℕ) where
       let if3 = c .before .before .before .if3 in
       let (l, s) = half-right (if1 .left) (if2 .left) (second-at .ensures) (start .pre .1) in
       let (k, z) = half-pair _ _ _ (sym (half-par .ensures) ∙ if3 .taken) in
-      (lighter 2 2 (lit< tt) l (start .pre .0), to-half (kind-at .ensures .0) k z s)
+      (lighter form-rank form-rank (lit< tt) l (start .pre .0), to-half (kind-at .ensures .0) k z s)
 
   -- return par_end(*state, 4 * i, 4 * second, f, g);
   mul-par-end-2 : Of lts.Need-mul-par-end-2
@@ -190,7 +193,7 @@ module _ (t : ℕ) where
       let second-at = c .before .before .before .before .before .before .before .before .before .before .second-at in
       let if2 = c .before .before .before .before .before .before .before .before .before .if2 in
       let (l, s) = half-right (if1 .left) (if2 .left) (second-at .ensures) (start .pre .1) in
-      (lighter 2 4 (lit< tt) l (start .pre .0), s)
+      (lighter form-rank child-rank (lit< tt) l (start .pre .0), s)
 
   -- par_end(*state, 4 * i, 4 * second, f, g)
   mul-par-end-4 : Of lts.Need-mul-par-end-4

@@ -1,7 +1,9 @@
+-- A Local meets its contract: rules 35 to 39.
 use Rattle.runner.proofs as proofs
-use proofs.+begin_loop+run_child+run_control+run_half+run_local+run_loop+run_other+run_par+run_repeat+run_second+run_seq+run_star+run_then+run_times+run_turn+run_until+run_when.Lts-run_local as lts
+use proofs.+begin_loop+run_child+run_control+run_half+run_local+run_loop+run_other+run_par+run_repeat+run_second+run_seq+run_star+run_then+run_times+run_turn+run_until+run_when as cycle
+use cycle.Lts-run_local as lts
 use proofs.run_local.Reads.{Pre, Post}
-use proofs.+begin_loop+run_child+run_control+run_half+run_local+run_loop+run_other+run_par+run_repeat+run_second+run_seq+run_star+run_then+run_times+run_turn+run_until+run_when.Proof.Measures.{exactly, smaller, μ-run-child, μ-run-local}
+use cycle.Proof.Measures.{exactly, smaller, μ-run-child, μ-run-local}
 use Rattle.table.proofs.records.argument_at.Reads as argument-at-reads
 use Rattle.table.proofs.records.kind_at.Reads as kind-at-reads
 use borrow.Fn.Kinds.{In, Out}
@@ -12,7 +14,7 @@ use lib.Dec.{lit<}
 use native.Mathlib.Omega.{arith}
 use Rattle.steps.proofs.Ended.{done-run}
 use Rattle.steps.proofs.Dispatch.{few-nodes, kind-reads, argument-reads, phase-reads, to-kind, by-kind}
-use Rattle.runner.proofs.Falling.{lighter}
+use Rattle.runner.proofs.Falling.{lighter, child-rank, form-rank}
 use proofs.LocalRuns.{local-enters, local-body, local-leaves, local-flag, local-writes-in, local-done}
 
 module _ (t : ℕ) where
@@ -62,7 +64,7 @@ module _ (t : ℕ) where
       let kind-at = c .before .before .before .before .kind-at in
       let if2 = c .before .before .before .if2 in
       let (l, s) = local-body (if1 .left) (argument-at .ensures .0) (exchange-event .ensures .1) (start .pre .1) in
-      (lighter 2 2 (lit< tt) l (start .pre .0), to-kind (kind-at .ensures .0) (if2 .taken) s)
+      (lighter form-rank form-rank (lit< tt) l (start .pre .0), to-kind (kind-at .ensures .0) (if2 .taken) s)
 
   -- let inside = exchange_event(numbers, event, outside);
   exchange-event-requires-2 : Of lts.Need-exchange-event-requires-2
@@ -119,7 +121,8 @@ module _ (t : ℕ) where
       let exchange-event2 = c .before .exchange-event2 in
       let sign-after = c .sign-after in
       let body = by-kind (kind-at .ensures .0) (if2 .taken) (run-local .ensures .0) in
-      (local-done (if1 .left) (argument-at .ensures .0) (exchange-event .ensures .1) body (exchange-event .ensures .0) (exchange-event2 .ensures) (sign-after .ensures), search needs)
+      let (was, marked) = exchange-event .ensures in
+      (local-done (if1 .left) (argument-at .ensures .0) marked body was (exchange-event2 .ensures) (sign-after .ensures), search needs)
 
   -- let f = run_child(table, i + 1, state, numbers, atoms);
   run-child-requires : Of lts.Need-run-child-requires
@@ -129,7 +132,7 @@ module _ (t : ℕ) where
       let argument-at = c .before .before .before .before .before .before .before .before .argument-at in
       let exchange-event = c .before .before .before .before .before .before .exchange-event in
       let (l, s) = local-body (if1 .left) (argument-at .ensures .0) (exchange-event .ensures .1) (start .pre .1) in
-      (lighter 2 4 (lit< tt) l (start .pre .0), s)
+      (lighter form-rank child-rank (lit< tt) l (start .pre .0), s)
 
   -- let inside = exchange_event(numbers, event, outside);
   exchange-event-requires-3 : Of lts.Need-exchange-event-requires-3
@@ -178,7 +181,8 @@ module _ (t : ℕ) where
       let exchange-event3 = c .before .exchange-event3 in
       let sign-after2 = c .sign-after2 in
       let body = run-child .ensures .0 in
-      (local-done (if1 .left) (argument-at .ensures .0) (exchange-event .ensures .1) body (exchange-event .ensures .0) (exchange-event3 .ensures) (sign-after2 .ensures), search needs)
+      let (was, marked) = exchange-event .ensures in
+      (local-done (if1 .left) (argument-at .ensures .0) marked body was (exchange-event3 .ensures) (sign-after2 .ensures), search needs)
 
   pub closed : {M : Type 1} → lts.Closed given (exactly lts.ps μ-run-local Pre t) Post M
   closed = lts.spec given (exactly lts.ps μ-run-local Pre t) Post

@@ -1,13 +1,15 @@
+-- A node of a kind that is not told apart first: the function of its kind runs it by the rules.
 use Rattle.runner.proofs as proofs
-use proofs.+begin_loop+run_child+run_control+run_half+run_local+run_loop+run_other+run_par+run_repeat+run_second+run_seq+run_star+run_then+run_times+run_turn+run_until+run_when.Lts-run_other as lts
+use proofs.+begin_loop+run_child+run_control+run_half+run_local+run_loop+run_other+run_par+run_repeat+run_second+run_seq+run_star+run_then+run_times+run_turn+run_until+run_when as cycle
+use cycle.Lts-run_other as lts
 use proofs.run_other.Reads.{Pre, Post}
-use proofs.+begin_loop+run_child+run_control+run_half+run_local+run_loop+run_other+run_par+run_repeat+run_second+run_seq+run_star+run_then+run_times+run_turn+run_until+run_when.Proof.Measures.{exactly, smaller, μ-run-control, μ-run-local, μ-run-loop, μ-run-other, μ-run-repeat, μ-run-until, μ-run-when}
+use cycle.Proof.Measures.{exactly, smaller, μ-run-control, μ-run-local, μ-run-loop, μ-run-other, μ-run-repeat, μ-run-until, μ-run-when}
 use Rattle.table.proofs.records.kind_at.Reads as kind-at-reads
 use borrow.Fn.Kinds.{In, Out}
 use Prim.Native.Nat.{ℕ}
 use lib.Dec.{lit<}
 use Rattle.steps.proofs.Dispatch.{kind-reads, to-kind, by-kind, the-last}
-use Rattle.runner.proofs.Falling.{lower-rank}
+use Rattle.runner.proofs.Falling.{lower-rank, other-rank, form-rank}
 
 module _ (t : ℕ) where
   abbrev given : lts.Claims
@@ -69,7 +71,7 @@ module _ (t : ℕ) where
       let start = c .before .before .before .before .before .before in
       let kind-at = c .before .before .before .before .kind-at in
       let match = c .before .before .before .match in
-      (lower-rank _ 3 2 (lit< tt) (start .pre .0), to-kind (kind-at .ensures .0) (match .keys4) (start .pre .1))
+      (lower-rank _ other-rank form-rank (lit< tt) (start .pre .0), to-kind (kind-at .ensures .0) (match .keys4) (start .pre .1))
 
   -- kinds::REPEAT => run_repeat(table, i, state, numbers, atoms),
   run-repeat-requires : Of lts.Need-run-repeat-requires
@@ -77,7 +79,7 @@ module _ (t : ℕ) where
       let start = c .before .before .before .before .before .before in
       let kind-at = c .before .before .before .before .kind-at in
       let match = c .before .before .before .match in
-      (lower-rank _ 3 2 (lit< tt) (start .pre .0), to-kind (kind-at .ensures .0) (match .keys5) (start .pre .1))
+      (lower-rank _ other-rank form-rank (lit< tt) (start .pre .0), to-kind (kind-at .ensures .0) (match .keys5) (start .pre .1))
 
   -- kinds::GENERATE => run_generate(table, i, state, numbers, atoms),
   run-generate-requires : Of lts.Need-run-generate-requires
@@ -93,7 +95,7 @@ module _ (t : ℕ) where
       let start = c .before .before .before .before .before .before in
       let kind-at = c .before .before .before .before .kind-at in
       let match = c .before .before .before .match in
-      (lower-rank _ 3 2 (lit< tt) (start .pre .0), to-kind (kind-at .ensures .0) (match .keys7) (start .pre .1))
+      (lower-rank _ other-rank form-rank (lit< tt) (start .pre .0), to-kind (kind-at .ensures .0) (match .keys7) (start .pre .1))
 
   -- kinds::UNTIL => run_until(table, i, state, numbers, atoms),
   run-until-requires : Of lts.Need-run-until-requires
@@ -101,7 +103,7 @@ module _ (t : ℕ) where
       let start = c .before .before .before .before .before .before in
       let kind-at = c .before .before .before .before .kind-at in
       let match = c .before .before .before .match in
-      (lower-rank _ 3 2 (lit< tt) (start .pre .0), to-kind (kind-at .ensures .0) (match .keys8) (start .pre .1))
+      (lower-rank _ other-rank form-rank (lit< tt) (start .pre .0), to-kind (kind-at .ensures .0) (match .keys8) (start .pre .1))
 
   -- kinds::CONTROL => run_control(table, i, state, numbers, atoms),
   run-control-requires : Of lts.Need-run-control-requires
@@ -109,7 +111,7 @@ module _ (t : ℕ) where
       let start = c .before .before .before .before .before .before in
       let kind-at = c .before .before .before .before .kind-at in
       let match = c .before .before .before .match in
-      (lower-rank _ 3 2 (lit< tt) (start .pre .0), to-kind (kind-at .ensures .0) (match .keys9) (start .pre .1))
+      (lower-rank _ other-rank form-rank (lit< tt) (start .pre .0), to-kind (kind-at .ensures .0) (match .keys9) (start .pre .1))
 
   -- _ => run_local(table, i, state, numbers, atoms),
   run-local-requires : Of lts.Need-run-local-requires
@@ -117,7 +119,8 @@ module _ (t : ℕ) where
       let start = c .before .before .before .before .before .before in
       let kind-at = c .before .before .before .before .kind-at in
       let match = c .before .before .before .match in
-      (lower-rank _ 3 2 (lit< tt) (start .pre .0), to-kind (kind-at .ensures .0) (the-last (start .pre .1) (kind-at .ensures .0) (match .rest)) (start .pre .1))
+      let falls = lower-rank _ other-rank form-rank (lit< tt) (start .pre .0) in
+      (falls, to-kind (kind-at .ensures .0) (the-last (start .pre .1) (kind-at .ensures .0) (match .rest)) (start .pre .1))
 
   -- fn run_other
   returns : Of lts.Need-returns

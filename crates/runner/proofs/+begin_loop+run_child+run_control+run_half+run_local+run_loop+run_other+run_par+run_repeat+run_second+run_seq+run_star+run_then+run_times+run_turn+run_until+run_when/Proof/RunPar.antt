@@ -1,7 +1,9 @@
+-- A Par of which both branches are run meets its contract: rule 8.
 use Rattle.runner.proofs as proofs
-use proofs.+begin_loop+run_child+run_control+run_half+run_local+run_loop+run_other+run_par+run_repeat+run_second+run_seq+run_star+run_then+run_times+run_turn+run_until+run_when.Lts-run_par as lts
+use proofs.+begin_loop+run_child+run_control+run_half+run_local+run_loop+run_other+run_par+run_repeat+run_second+run_seq+run_star+run_then+run_times+run_turn+run_until+run_when as cycle
+use cycle.Lts-run_par as lts
 use proofs.run_par.Reads.{Pre, Post}
-use proofs.+begin_loop+run_child+run_control+run_half+run_local+run_loop+run_other+run_par+run_repeat+run_second+run_seq+run_star+run_then+run_times+run_turn+run_until+run_when.Proof.Measures.{exactly, smaller, μ-run-child, μ-run-par}
+use cycle.Proof.Measures.{exactly, smaller, μ-run-child, μ-run-par}
 use Rattle.table.proofs.records.second_at.Reads as second-at-reads
 use Rattle.table.proofs.records.kind_at.Reads as kind-at-reads
 use borrow.Fn.Kinds.{In, Out}
@@ -12,7 +14,7 @@ use lib.Dec.{lit<}
 use native.Mathlib.Omega.{arith}
 use Rattle.steps.proofs.Tested.{fresh-pair}
 use Rattle.steps.proofs.Dispatch.{few-nodes, kind-reads, phase-reads, own-reads, to-both, by-both}
-use Rattle.runner.proofs.Falling.{lighter}
+use Rattle.runner.proofs.Falling.{lighter, child-rank, form-rank}
 use proofs.ParRuns.{par-first, par-second-in, par-second, par-joins, par-done}
 
 module _ (t : ℕ) where
@@ -97,7 +99,7 @@ module _ (t : ℕ) where
       let if1 = c .before .before .before .if1 in
       let (l, s) = par-second (run-child .ensures .0) (second-at .ensures) (start .pre .1) in
       let (k, z) = fresh-pair _ _ _ (sym (fresh-par .ensures) ∙ if1 .taken) in
-      (lighter 2 2 (lit< tt) l (start .pre .0), to-both (kind-at .ensures .0) k z s)
+      (lighter form-rank form-rank (lit< tt) l (start .pre .0), to-both (kind-at .ensures .0) k z s)
 
   -- return both_ran(*state, 4 * i, 4 * second, f, g);
   mul-both-ran : Of lts.Need-mul-both-ran
@@ -145,7 +147,7 @@ module _ (t : ℕ) where
       let run-child = c .before .before .before .before .before .before .before .before .before .before .before .run-child in
       let second-at = c .before .before .before .before .before .before .before .before .before .second-at in
       let (l, s) = par-second (run-child .ensures .0) (second-at .ensures) (start .pre .1) in
-      (lighter 2 4 (lit< tt) l (start .pre .0), s)
+      (lighter form-rank child-rank (lit< tt) l (start .pre .0), s)
 
   -- both_ran(*state, 4 * i, 4 * second, f, g)
   mul-both-ran-3 : Of lts.Need-mul-both-ran-3

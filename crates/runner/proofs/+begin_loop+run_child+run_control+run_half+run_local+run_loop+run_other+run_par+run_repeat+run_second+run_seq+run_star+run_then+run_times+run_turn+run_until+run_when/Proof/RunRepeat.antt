@@ -1,7 +1,9 @@
+-- A Repeat meets its contract: rules 14 and 15 when it begins, 4 and 5 in the rest of a run of its body.
 use Rattle.runner.proofs as proofs
-use proofs.+begin_loop+run_child+run_control+run_half+run_local+run_loop+run_other+run_par+run_repeat+run_second+run_seq+run_star+run_then+run_times+run_turn+run_until+run_when.Lts-run_repeat as lts
+use proofs.+begin_loop+run_child+run_control+run_half+run_local+run_loop+run_other+run_par+run_repeat+run_second+run_seq+run_star+run_then+run_times+run_turn+run_until+run_when as cycle
+use cycle.Lts-run_repeat as lts
 use proofs.run_repeat.Reads.{Pre, Post}
-use proofs.+begin_loop+run_child+run_control+run_half+run_local+run_loop+run_other+run_par+run_repeat+run_second+run_seq+run_star+run_then+run_times+run_turn+run_until+run_when.Proof.Measures.{exactly, smaller, μ-run-repeat, μ-run-times}
+use cycle.Proof.Measures.{exactly, smaller, μ-run-repeat, μ-run-times}
 use Rattle.table.proofs.records.argument_at.Reads as argument-at-reads
 use Rattle.table.proofs.records.kind_at.Reads as kind-at-reads
 use borrow.Fn.Kinds.{In, Out}
@@ -12,7 +14,7 @@ use lib.Dec.{lit<}
 use native.Mathlib.Omega.{arith}
 use Rattle.steps.proofs.Ended.{done-run}
 use Rattle.steps.proofs.Dispatch.{kind-reads, argument-reads, phase-reads, own-reads, to-kind, by-kind}
-use Rattle.runner.proofs.Falling.{lower-rank, lighter}
+use Rattle.runner.proofs.Falling.{lower-rank, lighter, form-rank, last-rank}
 use proofs.RepeatRuns.{turns-are, repeat-none, repeat-turn, repeat-by, times-body, times-own, times-wait, times-end, times-next, times-then}
 
 module _ (t : ℕ) where
@@ -83,7 +85,7 @@ module _ (t : ℕ) where
       let is = turns-are (A .table .now .now) (A .i) (A .state .now .now) (argument-at .result) (argument-at .ensures .0) (turns-of .ensures) in
       let (o, z) = repeat-turn (if1 .left) is (if2 .left) (start .pre .1) in
       let (l, s) = times-body o in
-      (lighter 2 2 (lit< tt) l (start .pre .0), to-kind (kind-at .ensures .0) (if3 .taken) s)
+      (lighter form-rank form-rank (lit< tt) l (start .pre .0), to-kind (kind-at .ensures .0) (if3 .taken) s)
 
   -- begin_turn(*state, 4 * i, left);
   begin-turn-requires : Of lts.Need-begin-turn-requires
@@ -175,7 +177,7 @@ module _ (t : ℕ) where
       let is = turns-are (A .table .now .now) (A .i) (A .state .now .now) (argument-at .result) (argument-at .ensures .0) (turns-of .ensures) in
       let (o, z) = repeat-turn (if1 .left) is (if2 .left) (start .pre .1) in
       let body = by-kind (kind-at .ensures .0) (if3 .taken) (run-repeat .ensures .0) in
-      (lower-rank _ 2 0 (lit< tt) (start .pre .0), times-next body (if4 .left) (if5 .left) o z)
+      (lower-rank _ form-rank last-rank (lit< tt) (start .pre .0), times-next body (if4 .left) (if5 .left) o z)
 
   returns-5 : Of lts.Need-returns-5
   returns-5 c =
@@ -205,7 +207,7 @@ module _ (t : ℕ) where
       let if2 = c .before .before .before .before .before .before .if2 in
       let A = start .args in
       let is = turns-are (A .table .now .now) (A .i) (A .state .now .now) (argument-at .result) (argument-at .ensures .0) (turns-of .ensures) in
-      (lower-rank _ 2 0 (lit< tt) (start .pre .0), repeat-turn (if1 .left) is (if2 .left) (start .pre .1))
+      (lower-rank _ form-rank last-rank (lit< tt) (start .pre .0), repeat-turn (if1 .left) is (if2 .left) (start .pre .1))
 
   -- fn run_repeat
   returns-6 : Of lts.Need-returns-6

@@ -1,7 +1,9 @@
+-- A Seq, When or Until in its second child meets its contract: in phase 2 until that ends.
 use Rattle.runner.proofs as proofs
-use proofs.+begin_loop+run_child+run_control+run_half+run_local+run_loop+run_other+run_par+run_repeat+run_second+run_seq+run_star+run_then+run_times+run_turn+run_until+run_when.Lts-run_second as lts
+use proofs.+begin_loop+run_child+run_control+run_half+run_local+run_loop+run_other+run_par+run_repeat+run_second+run_seq+run_star+run_then+run_times+run_turn+run_until+run_when as cycle
+use cycle.Lts-run_second as lts
 use proofs.run_second.Reads.{Pre, Post}
-use proofs.+begin_loop+run_child+run_control+run_half+run_local+run_loop+run_other+run_par+run_repeat+run_second+run_seq+run_star+run_then+run_times+run_turn+run_until+run_when.Proof.Measures.{exactly, smaller, μ-run-child, μ-run-second}
+use cycle.Proof.Measures.{exactly, smaller, μ-run-child, μ-run-second}
 use Rattle.table.proofs.records.second_at.Reads as second-at-reads
 use borrow.Fn.Kinds.{In, Out}
 use Prim.Native.Nat.{ℕ}
@@ -9,7 +11,7 @@ use borrow.Author.Needs.{needs}
 use lib.Dec.{lit<}
 use native.Mathlib.Omega.{arith}
 use Rattle.steps.proofs.Dispatch.{few-nodes, phase-reads}
-use Rattle.runner.proofs.Falling.{lighter}
+use Rattle.runner.proofs.Falling.{lighter, child-rank, last-rank}
 use proofs.SeqRuns.{second-in, goes-into, second-writes-in, second-below, second-done, to-second, by-second}
 
 module _ (t : ℕ) where
@@ -48,7 +50,7 @@ module _ (t : ℕ) where
       let second-at = c .before .before .before .before .before .second-at in
       let if1 = c .before .before .before .if1 in
       let (l, s) = goes-into (second-at .ensures) (start .pre .1) in
-      (lighter 0 0 (lit< tt) l (start .pre .0), to-second (if1 .taken) s)
+      (lighter last-rank last-rank (lit< tt) l (start .pre .0), to-second (if1 .taken) s)
 
   -- state[4 * i] = phase_after(f, SECOND);
   phase-after-requires : Of lts.Need-phase-after-requires
@@ -82,7 +84,7 @@ module _ (t : ℕ) where
       let start = c .before .before .before .before .before .before .before in
       let second-at = c .before .before .before .before .before .second-at in
       let (l, s) = goes-into (second-at .ensures) (start .pre .1) in
-      (lighter 0 4 (lit< tt) l (start .pre .0), s)
+      (lighter last-rank child-rank (lit< tt) l (start .pre .0), s)
 
   -- state[4 * i] = phase_after(f, SECOND);
   phase-after-requires-2 : Of lts.Need-phase-after-requires-2

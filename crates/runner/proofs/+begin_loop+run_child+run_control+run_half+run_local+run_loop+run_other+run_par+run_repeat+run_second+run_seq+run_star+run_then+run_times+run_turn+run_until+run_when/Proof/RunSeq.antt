@@ -1,7 +1,9 @@
+-- A Seq in its first child meets its contract: rules 4 and 5.
 use Rattle.runner.proofs as proofs
-use proofs.+begin_loop+run_child+run_control+run_half+run_local+run_loop+run_other+run_par+run_repeat+run_second+run_seq+run_star+run_then+run_times+run_turn+run_until+run_when.Lts-run_seq as lts
+use proofs.+begin_loop+run_child+run_control+run_half+run_local+run_loop+run_other+run_par+run_repeat+run_second+run_seq+run_star+run_then+run_times+run_turn+run_until+run_when as cycle
+use cycle.Lts-run_seq as lts
 use proofs.run_seq.Reads.{Pre, Post}
-use proofs.+begin_loop+run_child+run_control+run_half+run_local+run_loop+run_other+run_par+run_repeat+run_second+run_seq+run_star+run_then+run_times+run_turn+run_until+run_when.Proof.Measures.{exactly, smaller, μ-run-child, μ-run-second, μ-run-seq}
+use cycle.Proof.Measures.{exactly, smaller, μ-run-child, μ-run-second, μ-run-seq}
 use Rattle.table.proofs.records.second_at.Reads as second-at-reads
 use Rattle.table.proofs.records.kind_at.Reads as kind-at-reads
 use borrow.Fn.Kinds.{In, Out}
@@ -11,7 +13,7 @@ use mathlib.Core.Path.{refl}
 use lib.Dec.{lit<}
 use Rattle.steps.proofs.Ended.{done-run}
 use Rattle.steps.proofs.Dispatch.{kind-reads, phase-reads, to-kind, by-kind, few-nodes}
-use Rattle.runner.proofs.Falling.{lower-rank, lighter}
+use Rattle.runner.proofs.Falling.{lower-rank, lighter, child-rank, form-rank, last-rank}
 use proofs.SeqRuns.{goes-into, second-writes-in, second-below, second-done, to-second, by-second, seq-first, seq-second-in, seq-stays, seq-over, seq-goes-on}
 use native.Mathlib.Omega.{arith}
 
@@ -40,7 +42,7 @@ module _ (t : ℕ) where
   run-second-requires c κs =
       let start = c .before .before .before .before .before .before in
       let if2 = c .before .before .before .if2 in
-      (lower-rank _ 2 0 (lit< tt) (start .pre .0), to-second (if2 .taken) (start .pre .1))
+      (lower-rank _ form-rank last-rank (lit< tt) (start .pre .0), to-second (if2 .taken) (start .pre .1))
 
   returns-2 : Of lts.Need-returns-2
   returns-2 c =
@@ -98,7 +100,7 @@ module _ (t : ℕ) where
       let if4 = c .before .before .before .if4 in
       let over = seq-over (if1 .left) (if2 .left) (run-child .ensures .0) (start .pre .1) (if3 .left) in
       let (l, s) = goes-into (second-at .ensures) over in
-      (lighter 2 2 (lit< tt) l (start .pre .0), to-kind (kind-at .ensures .0) (if4 .taken) s)
+      (lighter form-rank form-rank (lit< tt) l (start .pre .0), to-kind (kind-at .ensures .0) (if4 .taken) s)
 
   -- state[4 * i] = phase_after(g, SECOND);
   phase-after-requires : Of lts.Need-phase-after-requires
@@ -163,7 +165,7 @@ module _ (t : ℕ) where
       let second-at = c .before .before .before .before .before .before .second-at in
       let over = seq-over (if1 .left) (if2 .left) (run-child .ensures .0) (start .pre .1) (if3 .left) in
       let (l, s) = goes-into (second-at .ensures) over in
-      (lighter 2 4 (lit< tt) l (start .pre .0), s)
+      (lighter form-rank child-rank (lit< tt) l (start .pre .0), s)
 
   -- state[4 * i] = phase_after(g, SECOND);
   phase-after-requires-2 : Of lts.Need-phase-after-requires-2

@@ -1,7 +1,9 @@
+-- An Until* meets its contract: rules 31 to 34.
 use Rattle.runner.proofs as proofs
-use proofs.+begin_loop+run_child+run_control+run_half+run_local+run_loop+run_other+run_par+run_repeat+run_second+run_seq+run_star+run_then+run_times+run_turn+run_until+run_when.Lts-run_star as lts
+use proofs.+begin_loop+run_child+run_control+run_half+run_local+run_loop+run_other+run_par+run_repeat+run_second+run_seq+run_star+run_then+run_times+run_turn+run_until+run_when as cycle
+use cycle.Lts-run_star as lts
 use proofs.run_star.Reads.{Pre, Post}
-use proofs.+begin_loop+run_child+run_control+run_half+run_local+run_loop+run_other+run_par+run_repeat+run_second+run_seq+run_star+run_then+run_times+run_turn+run_until+run_when.Proof.Measures.{exactly, smaller, μ-run-second, μ-run-star}
+use cycle.Proof.Measures.{exactly, smaller, μ-run-second, μ-run-star}
 use Rattle.table.proofs.records.second_at.Reads as second-at-reads
 use borrow.Fn.Kinds.{In, Out}
 use Prim.Native.Nat.{ℕ}
@@ -9,9 +11,10 @@ use borrow.Author.Needs.{needs}
 use native.Mathlib.Omega.{arith}
 use lib.Dec.{lit<}
 use Rattle.steps.proofs.Dispatch.{phase-reads}
-use Rattle.runner.proofs.Falling.{lower-rank}
+use Rattle.runner.proofs.Falling.{lower-rank, stage-rank, last-rank}
 use Rattle.steps.proofs.Awaits.{ranked-0, ranked-1, ranked-2}
-use proofs.UntilRuns.{star-tests, star-second-in, star-few, star-body, star-cleared, star-suspends, star-refused, now-handler, handler-writes-in, handler-begins, handler-next}
+use proofs.UntilRuns.{star-tests, star-second-in, star-few, star-body, star-cleared, star-suspends, star-refused}
+use proofs.UntilRuns.{now-handler, handler-writes-in, handler-begins, handler-next}
 
 module _ (t : ℕ) where
   abbrev given : lts.Claims
@@ -69,7 +72,7 @@ module _ (t : ℕ) where
       let second-at = c .before .before .before .before .before .before .second-at in
       let clear-part = c .before .before .before .before .before .clear-part in
       let cleared = star-cleared (second-at .ensures) (start .pre .1) (clear-part .ensures) in
-      (lower-rank _ 1 0 (lit< tt) (start .pre .0), now-handler (test-rank .ensures) cleared (start .pre .1))
+      (lower-rank _ stage-rank last-rank (lit< tt) (start .pre .0), now-handler (test-rank .ensures) cleared (start .pre .1))
 
   returns-3 : Of lts.Need-returns-3
   returns-3 c =

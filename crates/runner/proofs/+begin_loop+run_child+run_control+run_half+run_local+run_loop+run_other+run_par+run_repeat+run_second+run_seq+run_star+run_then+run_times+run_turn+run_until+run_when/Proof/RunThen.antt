@@ -1,12 +1,14 @@
+-- A When in its then branch meets its contract: in phase 1 until that ends.
 use Rattle.runner.proofs as proofs
-use proofs.+begin_loop+run_child+run_control+run_half+run_local+run_loop+run_other+run_par+run_repeat+run_second+run_seq+run_star+run_then+run_times+run_turn+run_until+run_when.Lts-run_then as lts
+use proofs.+begin_loop+run_child+run_control+run_half+run_local+run_loop+run_other+run_par+run_repeat+run_second+run_seq+run_star+run_then+run_times+run_turn+run_until+run_when as cycle
+use cycle.Lts-run_then as lts
 use proofs.run_then.Reads.{Pre, Post}
-use proofs.+begin_loop+run_child+run_control+run_half+run_local+run_loop+run_other+run_par+run_repeat+run_second+run_seq+run_star+run_then+run_times+run_turn+run_until+run_when.Proof.Measures.{exactly, smaller, μ-run-child, μ-run-then}
+use cycle.Proof.Measures.{exactly, smaller, μ-run-child, μ-run-then}
 use borrow.Fn.Kinds.{In, Out}
 use Prim.Native.Nat.{ℕ}
 use borrow.Author.Needs.{needs}
 use lib.Dec.{lit<}
-use Rattle.runner.proofs.Falling.{lighter}
+use Rattle.runner.proofs.Falling.{lighter, child-rank, last-rank}
 use proofs.WhenRuns.{then-first, then-below, then-writes-in, then-done}
 
 module _ (t : ℕ) where
@@ -26,7 +28,7 @@ module _ (t : ℕ) where
   run-child-requires c κs =
       let start = c .before .before .before in
       let (l, s) = then-first (start .pre .1) in
-      (lighter 0 4 (lit< tt) l (start .pre .0), s)
+      (lighter last-rank child-rank (lit< tt) l (start .pre .0), s)
 
   -- state[4 * i] = phase_after(f, THEN);
   phase-after-requires : Of lts.Need-phase-after-requires

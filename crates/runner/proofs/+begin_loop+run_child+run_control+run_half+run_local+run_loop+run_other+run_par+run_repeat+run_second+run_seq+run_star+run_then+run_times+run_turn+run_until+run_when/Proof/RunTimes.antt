@@ -1,7 +1,9 @@
+-- The rest of a run of a Repeat's body, and the runs still to begin, meet their contract: rules 4 and 5.
 use Rattle.runner.proofs as proofs
-use proofs.+begin_loop+run_child+run_control+run_half+run_local+run_loop+run_other+run_par+run_repeat+run_second+run_seq+run_star+run_then+run_times+run_turn+run_until+run_when.Lts-run_times as lts
+use proofs.+begin_loop+run_child+run_control+run_half+run_local+run_loop+run_other+run_par+run_repeat+run_second+run_seq+run_star+run_then+run_times+run_turn+run_until+run_when as cycle
+use cycle.Lts-run_times as lts
 use proofs.run_times.Reads.{Pre, Post}
-use proofs.+begin_loop+run_child+run_control+run_half+run_local+run_loop+run_other+run_par+run_repeat+run_second+run_seq+run_star+run_then+run_times+run_turn+run_until+run_when.Proof.Measures.{exactly, smaller, μ-run-times, μ-run-turn}
+use cycle.Proof.Measures.{exactly, smaller, μ-run-times, μ-run-turn}
 use Rattle.table.proofs.records.kind_at.Reads as kind-at-reads
 use borrow.Fn.Kinds.{In, Out}
 use Prim.Native.Nat.{ℕ}
@@ -11,7 +13,7 @@ use lib.Dec.{lit<}
 use native.Mathlib.Omega.{arith}
 use Rattle.steps.specs.Lent.{lent, Named}
 use Rattle.steps.proofs.Dispatch.{few-nodes, kind-reads}
-use Rattle.runner.proofs.Falling.{lighter}
+use Rattle.runner.proofs.Falling.{lighter, turn-rank, last-rank}
 use proofs.RepeatRuns.{Turn, first-turn, next-turn, times-body, times-own, times-wait, times-end}
 
 module _ (t : ℕ) where
@@ -51,7 +53,7 @@ module _ (t : ℕ) where
       let kind-at = c .before .before .before .before .kind-at in
       let loop = c .before .before .before .loop in
       let (l, s) = times-body (loop .inv .0 .can) in
-      (lighter 0 5 (lit< tt) l (start .pre .0), (s, kind-at .ensures .0))
+      (lighter last-rank turn-rank (lit< tt) l (start .pre .0), (s, kind-at .ensures .0))
 
   -- begin_turn(*state, 4 * i, left);
   mul-begin-turn : Of lts.Need-mul-begin-turn

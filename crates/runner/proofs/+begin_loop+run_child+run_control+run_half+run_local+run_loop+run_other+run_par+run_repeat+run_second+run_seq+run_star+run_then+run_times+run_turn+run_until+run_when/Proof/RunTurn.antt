@@ -1,12 +1,14 @@
+-- A Repeat's body run once: whatever function runs it, it is run by the rules.
 use Rattle.runner.proofs as proofs
-use proofs.+begin_loop+run_child+run_control+run_half+run_local+run_loop+run_other+run_par+run_repeat+run_second+run_seq+run_star+run_then+run_times+run_turn+run_until+run_when.Lts-run_turn as lts
+use proofs.+begin_loop+run_child+run_control+run_half+run_local+run_loop+run_other+run_par+run_repeat+run_second+run_seq+run_star+run_then+run_times+run_turn+run_until+run_when as cycle
+use cycle.Lts-run_turn as lts
 use proofs.run_turn.Reads.{Pre, Post}
-use proofs.+begin_loop+run_child+run_control+run_half+run_local+run_loop+run_other+run_par+run_repeat+run_second+run_seq+run_star+run_then+run_times+run_turn+run_until+run_when.Proof.Measures.{exactly, smaller, μ-run-child, μ-run-other, μ-run-seq, μ-run-turn}
+use cycle.Proof.Measures.{exactly, smaller, μ-run-child, μ-run-other, μ-run-seq, μ-run-turn}
 use borrow.Fn.Kinds.{In, Out}
 use Prim.Native.Nat.{ℕ}
 use lib.Dec.{lit<}
 use Rattle.steps.proofs.Dispatch.{to-kind, by-kind, to-others, by-others}
-use Rattle.runner.proofs.Falling.{lower-rank}
+use Rattle.runner.proofs.Falling.{lower-rank, turn-rank, child-rank, other-rank, form-rank}
 
 module _ (t : ℕ) where
   abbrev given : lts.Claims
@@ -59,7 +61,7 @@ module _ (t : ℕ) where
   run-seq-requires c κs =
       let start = c .before .before .before .before .before .before .before in
       let if4 = c .before .before .before .if4 in
-      (lower-rank _ 5 2 (lit< tt) (start .pre .0), to-kind (start .pre .1 .1) (if4 .taken) (start .pre .1 .0))
+      (lower-rank _ turn-rank form-rank (lit< tt) (start .pre .0), to-kind (start .pre .1 .1) (if4 .taken) (start .pre .1 .0))
 
   returns-4 : Of lts.Need-returns-4
   returns-4 c =
@@ -75,7 +77,7 @@ module _ (t : ℕ) where
       let if2 = c .before .before .before .before .before .if2 in
       let if3 = c .before .before .before .before .if3 in
       let if4 = c .before .before .before .if4 in
-      (lower-rank _ 5 3 (lit< tt) (start .pre .0), to-others (start .pre .1 .1) (if2 .left) (if3 .left) (if4 .left) (start .pre .1 .0))
+      (lower-rank _ turn-rank other-rank (lit< tt) (start .pre .0), to-others (start .pre .1 .1) (if2 .left) (if3 .left) (if4 .left) (start .pre .1 .0))
 
   -- fn run_turn
   returns-5 : Of lts.Need-returns-5
@@ -91,7 +93,7 @@ module _ (t : ℕ) where
   closed = lts.spec given (exactly lts.ps μ-run-turn Pre t) Post
       run-nothing-requires
       returns
-      (λ c κs. (lower-rank _ 5 4 (lit< tt) (c .before .before .before .before .before .pre .0), c .before .before .before .before .before .pre .1 .0))  -- run-child-requires: return run_child(..
+      (λ c κs. let p = c .before .before .before .before .before .pre in (lower-rank _ turn-rank child-rank (lit< tt) (p .0), p .1 .0))  -- run-child-requires
       (λ c. (c .run-child .ensures .0, c .run-child .ensures .1))  -- returns-2
       run-await-requires
       returns-3

@@ -1,7 +1,9 @@
+-- An Until whose body runs meets its contract: rules 29 and 30.
 use Rattle.runner.proofs as proofs
-use proofs.+begin_loop+run_child+run_control+run_half+run_local+run_loop+run_other+run_par+run_repeat+run_second+run_seq+run_star+run_then+run_times+run_turn+run_until+run_when.Lts-run_until as lts
+use proofs.+begin_loop+run_child+run_control+run_half+run_local+run_loop+run_other+run_par+run_repeat+run_second+run_seq+run_star+run_then+run_times+run_turn+run_until+run_when as cycle
+use cycle.Lts-run_until as lts
 use proofs.run_until.Reads.{Pre, Post}
-use proofs.+begin_loop+run_child+run_control+run_half+run_local+run_loop+run_other+run_par+run_repeat+run_second+run_seq+run_star+run_then+run_times+run_turn+run_until+run_when.Proof.Measures.{exactly, smaller, μ-run-child, μ-run-second, μ-run-star, μ-run-until}
+use cycle.Proof.Measures.{exactly, smaller, μ-run-child, μ-run-second, μ-run-star, μ-run-until}
 use Rattle.table.proofs.records.kind_at.Reads as kind-at-reads
 use borrow.Fn.Kinds.{In, Out}
 use Prim.Native.Nat.{ℕ}
@@ -10,7 +12,7 @@ use mathlib.Core.Path.{refl}
 use lib.Dec.{lit<}
 use Rattle.steps.proofs.Ended.{done-run}
 use Rattle.steps.proofs.Dispatch.{kind-reads, phase-reads, to-kind, by-kind}
-use Rattle.runner.proofs.Falling.{lower-rank, lighter}
+use Rattle.runner.proofs.Falling.{lower-rank, lighter, child-rank, form-rank, stage-rank, last-rank}
 use proofs.SeqRuns.{to-second, by-second}
 use proofs.UntilRuns.{until-first, until-stays, until-starred, until-goes-on, to-star, by-star}
 
@@ -37,7 +39,7 @@ module _ (t : ℕ) where
   run-star-requires c κs =
       let start = c .before .before .before .before .before .before in
       let if2 = c .before .before .before .if2 in
-      (lower-rank _ 2 1 (lit< tt) (start .pre .0), to-star (if2 .taken) (start .pre .1))
+      (lower-rank _ form-rank stage-rank (lit< tt) (start .pre .0), to-star (if2 .taken) (start .pre .1))
 
   returns-2 : Of lts.Need-returns-2
   returns-2 c =
@@ -50,7 +52,7 @@ module _ (t : ℕ) where
   run-second-requires c κs =
       let start = c .before .before .before .before .before .before .before in
       let if3 = c .before .before .before .if3 in
-      (lower-rank _ 2 0 (lit< tt) (start .pre .0), to-second (if3 .taken) (start .pre .1))
+      (lower-rank _ form-rank last-rank (lit< tt) (start .pre .0), to-second (if3 .taken) (start .pre .1))
 
   returns-3 : Of lts.Need-returns-3
   returns-3 c =
@@ -77,7 +79,7 @@ module _ (t : ℕ) where
       let kind-at = c .before .before .before .before .kind-at in
       let if4 = c .before .before .before .if4 in
       let (l, s) = until-first (if1 .left) (if2 .left) (if3 .left) (start .pre .1) in
-      (lighter 2 2 (lit< tt) l (start .pre .0), to-kind (kind-at .ensures .0) (if4 .taken) s)
+      (lighter form-rank form-rank (lit< tt) l (start .pre .0), to-kind (kind-at .ensures .0) (if4 .taken) s)
 
   -- return f;
   returns-4 : Of lts.Need-returns-4
@@ -103,7 +105,7 @@ module _ (t : ℕ) where
       let run-until = c .before .before .before .before .run-until in
       let if5 = c .before .before .before .if5 in
       let body = by-kind (kind-at .ensures .0) (if4 .taken) (run-until .ensures .0) in
-      (lower-rank _ 2 1 (lit< tt) (start .pre .0), until-starred (if1 .left) (if2 .left) (if3 .left) body (if5 .left) (start .pre .1))
+      (lower-rank _ form-rank stage-rank (lit< tt) (start .pre .0), until-starred (if1 .left) (if2 .left) (if3 .left) body (if5 .left) (start .pre .1))
 
   returns-5 : Of lts.Need-returns-5
   returns-5 c =
@@ -126,7 +128,7 @@ module _ (t : ℕ) where
       let if2 = c .before .before .before .before .before .before .before .if2 in
       let if3 = c .before .before .before .before .before .before .if3 in
       let (l, s) = until-first (if1 .left) (if2 .left) (if3 .left) (start .pre .1) in
-      (lighter 2 4 (lit< tt) l (start .pre .0), s)
+      (lighter form-rank child-rank (lit< tt) l (start .pre .0), s)
 
   -- return f;
   returns-6 : Of lts.Need-returns-6
@@ -147,7 +149,8 @@ module _ (t : ℕ) where
       let if3 = c .before .before .before .before .before .before .before .before .before .before .before .if3 in
       let run-child = c .before .before .before .before .run-child in
       let if6 = c .before .before .before .if6 in
-      (lower-rank _ 2 1 (lit< tt) (start .pre .0), until-starred (if1 .left) (if2 .left) (if3 .left) (run-child .ensures .0) (if6 .left) (start .pre .1))
+      let falls = lower-rank _ form-rank stage-rank (lit< tt) (start .pre .0) in
+      (falls, until-starred (if1 .left) (if2 .left) (if3 .left) (run-child .ensures .0) (if6 .left) (start .pre .1))
 
   -- fn run_until
   returns-7 : Of lts.Need-returns-7

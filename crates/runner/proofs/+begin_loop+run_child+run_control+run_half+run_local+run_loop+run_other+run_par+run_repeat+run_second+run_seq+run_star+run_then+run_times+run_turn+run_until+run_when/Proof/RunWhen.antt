@@ -1,7 +1,9 @@
+-- A When that tests meets its contract: rules 17 to 21.
 use Rattle.runner.proofs as proofs
-use proofs.+begin_loop+run_child+run_control+run_half+run_local+run_loop+run_other+run_par+run_repeat+run_second+run_seq+run_star+run_then+run_times+run_turn+run_until+run_when.Lts-run_when as lts
+use proofs.+begin_loop+run_child+run_control+run_half+run_local+run_loop+run_other+run_par+run_repeat+run_second+run_seq+run_star+run_then+run_times+run_turn+run_until+run_when as cycle
+use cycle.Lts-run_when as lts
 use proofs.run_when.Reads.{Pre, Post}
-use proofs.+begin_loop+run_child+run_control+run_half+run_local+run_loop+run_other+run_par+run_repeat+run_second+run_seq+run_star+run_then+run_times+run_turn+run_until+run_when.Proof.Measures.{exactly, smaller, μ-run-second, μ-run-then, μ-run-when}
+use cycle.Proof.Measures.{exactly, smaller, μ-run-second, μ-run-then, μ-run-when}
 use Rattle.table.proofs.records.kind_at.Reads as kind-at-reads
 use borrow.Fn.Kinds.{In, Out}
 use Prim.Native.Nat.{ℕ}
@@ -10,10 +12,11 @@ use mathlib.Core.Path.{refl}
 use lib.Dec.{lit<}
 use Rattle.steps.proofs.Ended.{done-run}
 use Rattle.steps.proofs.Dispatch.{kind-reads, phase-reads, to-kind, by-kind}
-use Rattle.runner.proofs.Falling.{lower-rank, lighter}
+use Rattle.runner.proofs.Falling.{lower-rank, lighter, form-rank, last-rank}
 use Rattle.steps.proofs.Awaits.{ranked-0, ranked-1, ranked-2}
 use proofs.SeqRuns.{to-second, by-second}
-use proofs.WhenRuns.{then-first, then-below, then-writes-in, then-done, to-then, by-then, when-tests, now-then, now-else, when-suspends, then-begins, then-next, else-begins, else-next}
+use proofs.WhenRuns.{then-first, then-below, then-writes-in, then-done, to-then, by-then, when-tests}
+use proofs.WhenRuns.{now-then, now-else, when-suspends, then-begins, then-next, else-begins, else-next}
 
 module _ (t : ℕ) where
   abbrev given : lts.Claims
@@ -50,7 +53,7 @@ module _ (t : ℕ) where
       let kind-at = c .before .before .before .before .kind-at in
       let if3 = c .before .before .before .if3 in
       let (l, s) = then-first (to-then (if2 .taken) (start .pre .1)) in
-      (lighter 2 2 (lit< tt) l (start .pre .0), to-kind (kind-at .ensures .0) (if3 .taken) s)
+      (lighter form-rank form-rank (lit< tt) l (start .pre .0), to-kind (kind-at .ensures .0) (if3 .taken) s)
 
   -- state[4 * i] = phase_after(f, THEN);
   phase-after-requires : Of lts.Need-phase-after-requires
@@ -86,7 +89,7 @@ module _ (t : ℕ) where
   run-then-requires c κs =
       let start = c .before .before .before .before .before .before .before .before .before in
       let if2 = c .before .before .before .before .before .before .if2 in
-      (lower-rank _ 2 0 (lit< tt) (start .pre .0), to-then (if2 .taken) (start .pre .1))
+      (lower-rank _ form-rank last-rank (lit< tt) (start .pre .0), to-then (if2 .taken) (start .pre .1))
 
   returns-3 : Of lts.Need-returns-3
   returns-3 c =
@@ -99,7 +102,7 @@ module _ (t : ℕ) where
   run-second-requires c κs =
       let start = c .before .before .before .before .before .before .before in
       let if4 = c .before .before .before .if4 in
-      (lower-rank _ 2 0 (lit< tt) (start .pre .0), to-second (if4 .taken) (start .pre .1))
+      (lower-rank _ form-rank last-rank (lit< tt) (start .pre .0), to-second (if4 .taken) (start .pre .1))
 
   returns-4 : Of lts.Need-returns-4
   returns-4 c =
@@ -133,7 +136,7 @@ module _ (t : ℕ) where
       let if1 = c .before .before .before .before .before .before .before .before .before .before .before .before .if1 in
       let if2 = c .before .before .before .before .before .before .before .before .before .before .before .if2 in
       let if4 = c .before .before .before .before .before .before .before .before .before .before .if4 in
-      (lower-rank _ 2 0 (lit< tt) (start .pre .0), now-else (if1 .left) (if2 .left) (if4 .left) (start .pre .1))
+      (lower-rank _ form-rank last-rank (lit< tt) (start .pre .0), now-else (if1 .left) (if2 .left) (if4 .left) (start .pre .1))
 
   returns-6 : Of lts.Need-returns-6
   returns-6 c =
@@ -170,7 +173,7 @@ module _ (t : ℕ) where
       let if1 = c .before .before .before .before .before .before .before .before .before .before .before .before .if1 in
       let if2 = c .before .before .before .before .before .before .before .before .before .before .before .if2 in
       let if4 = c .before .before .before .before .before .before .before .before .before .before .if4 in
-      (lower-rank _ 2 0 (lit< tt) (start .pre .0), now-then (if1 .left) (if2 .left) (if4 .left) (start .pre .1))
+      (lower-rank _ form-rank last-rank (lit< tt) (start .pre .0), now-then (if1 .left) (if2 .left) (if4 .left) (start .pre .1))
 
   returns-8 : Of lts.Need-returns-8
   returns-8 c =

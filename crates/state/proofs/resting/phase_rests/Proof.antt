@@ -43,7 +43,8 @@ returns-2 c =
     let body-rests = c .body-rests in
     let j = start .pre .0 in
     let b = body (j .behind .loaded) _ (j .inside) (rw (← start .pre .1, match .keys2)) in
-    rw (match .keys2) (body-rests .ensures ∙ ap (λ (z : Bool). (eqb (start .args .phase) 0 && z) || eqb (start .args .phase) 1) (sym (first-near j (b .first-in))))
+    let ph = start .args .phase in
+    rw (match .keys2) (body-rests .ensures ∙ ap (λ (z : Bool). (eqb ph 0 && z) || eqb ph 1) (sym (first-near j (b .first-in))))
 
 returns-3 : tie.Need-returns-3
 unfolding phaseRests children
@@ -53,7 +54,8 @@ returns-3 c =
     let body-rests2 = c .body-rests2 in
     let j = start .pre .0 in
     let b = body (j .behind .loaded) _ (j .inside) (rw (← start .pre .1, match .keys3)) in
-    rw (match .keys3) (body-rests2 .ensures ∙ ap (λ (z : Bool). (eqb (start .args .phase) 0 && z) || eqb (start .args .phase) 1) (sym (first-near j (b .first-in))))
+    let ph = start .args .phase in
+    rw (match .keys3) (body-rests2 .ensures ∙ ap (λ (z : Bool). (eqb ph 0 && z) || eqb ph 1) (sym (first-near j (b .first-in))))
 
 returns-4 : tie.Need-returns-4
 returns-4 c =
@@ -72,7 +74,8 @@ returns-6 : tie.Need-returns-6
 unfolding phaseRests
 returns-6 c =
     let match = c .match in
-    simp (ne-eqb _ _ (match .rest .0 .0 .0 .0 .1), ne-eqb _ _ (match .rest .0 .0 .0 .1), ne-eqb _ _ (match .rest .0 .0 .1), ne-eqb _ _ (match .rest .0 .1), ne-eqb _ _ (match .rest .1))
+    let r = match .rest in
+    simp (ne-eqb _ _ (r .0 .0 .0 .0 .1), ne-eqb _ _ (r .0 .0 .0 .1), ne-eqb _ _ (r .0 .0 .1), ne-eqb _ _ (r .0 .1), ne-eqb _ _ (r .1))
 
 pub phase-rests-spec : {M : Type 1} → statement M
 phase-rests-spec =

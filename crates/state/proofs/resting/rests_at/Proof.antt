@@ -19,7 +19,10 @@ returns c =
     let if2 = c .before .before .if2 in
     let if3 = c .before .if3 in
     let size-at = c .size-at in
-    rw (sym (wide .ensures .0) ∙ if1 .taken, sym (wide2 .ensures .0) ∙ if2 .taken, sym (word-at .ensures .0) ∙ if3 .taken, size-at .ensures .0) (sym (below-near (start .pre)))
+    let no-count = sym (word-at .ensures .0) ∙ if3 .taken in
+    rw
+    (sym (wide .ensures .0) ∙ if1 .taken, sym (wide2 .ensures .0) ∙ if2 .taken, no-count, size-at .ensures .0)
+    (sym (below-near (start .pre)))
 
 returns-2 : tie.Need-returns-2
 unfolding rests
@@ -55,7 +58,11 @@ returns-4 c =
     let flags-rest = c .before .before .flags-rest in
     let if5 = c .before .if5 in
     let count-rests = c .count-rests in
-    rw (← wide .ensures .0, ← wide2 .ensures .0, ← word-at .ensures .0, ← kind-at .ensures .0, ne-eqb _ _ (if1 .left), sym (phase-rests .ensures) ∙ if4 .taken, sym (flags-rest .ensures) ∙ if5 .taken) (count-rests .ensures)
+    let phase-ok = sym (phase-rests .ensures) ∙ if4 .taken in
+    let flags-ok = sym (flags-rest .ensures) ∙ if5 .taken in
+    rw
+    (← wide .ensures .0, ← wide2 .ensures .0, ← word-at .ensures .0, ← kind-at .ensures .0, ne-eqb _ _ (if1 .left), phase-ok, flags-ok)
+    (count-rests .ensures)
 
 returns-5 : tie.Need-returns-5
 unfolding rests
@@ -69,7 +76,11 @@ returns-5 c =
     let if4 = c .before .before .if4 in
     let flags-rest = c .before .flags-rest in
     let if5 = c .if5 in
-    rw (← wide .ensures .0, ← wide2 .ensures .0, ← word-at .ensures .0, ← kind-at .ensures .0, ne-eqb _ _ (if1 .left), sym (phase-rests .ensures) ∙ if4 .taken, sym (flags-rest .ensures) ∙ if5 .left) (if5 .left)
+    let phase-ok = sym (phase-rests .ensures) ∙ if4 .taken in
+    let flags-bad = sym (flags-rest .ensures) ∙ if5 .left in
+    rw
+    (← wide .ensures .0, ← wide2 .ensures .0, ← word-at .ensures .0, ← kind-at .ensures .0, ne-eqb _ _ (if1 .left), phase-ok, flags-bad)
+    (if5 .left)
 
 returns-6 : tie.Need-returns-6
 unfolding rests
@@ -81,7 +92,10 @@ returns-6 c =
     let kind-at = c .before .before .kind-at in
     let phase-rests = c .before .phase-rests in
     let if4 = c .if4 in
-    rw (← wide .ensures .0, ← wide2 .ensures .0, ← word-at .ensures .0, ← kind-at .ensures .0, ne-eqb _ _ (if1 .left), sym (phase-rests .ensures) ∙ if4 .left) (if4 .left)
+    let phase-bad = sym (phase-rests .ensures) ∙ if4 .left in
+    rw
+    (← wide .ensures .0, ← wide2 .ensures .0, ← word-at .ensures .0, ← kind-at .ensures .0, ne-eqb _ _ (if1 .left), phase-bad)
+    (if4 .left)
 
 pub rests-at-spec : {M : Type 1} → statement M
 rests-at-spec =

@@ -22,7 +22,8 @@ returns c =
     let loop = c .before .before .before .loop in
     let own-at = c .before .own-at in
     let if1 = c .if1 in
-    sym (loop .inv .1 ∙ rw (zero-rest (start .args .state .now) (loop .at) (loop .left) (search needs), own-not-zero _ _ (λ e. if1 .taken (own-at .ensures ∙ e))))
+    let one-more = zero-rest (start .args .state .now) (loop .at) (loop .left) (search needs) in
+    sym (loop .inv .1 ∙ rw (one-more, own-not-zero _ _ (λ e. if1 .taken (own-at .ensures ∙ e))))
 
 -- while 0 < left {
 loop-again : tie.Need-loop-again Inv-loop μ-loop
@@ -31,7 +32,8 @@ loop-again c =
     let loop = c .before .before .before .loop in
     let own-at = c .before .own-at in
     let if1 = c .if1 in
-    (omega arith, loop .inv .1 ∙ rw (zero-rest (start .args .state .now) (loop .at) (loop .left) (search needs), own-zero _ _ (sym (own-at .ensures) ∙ if1 .left)))
+    let one-more = zero-rest (start .args .state .now) (loop .at) (loop .left) (search needs) in
+    (omega arith, loop .inv .1 ∙ rw (one-more, own-zero _ _ (sym (own-at .ensures) ∙ if1 .left)))
 
 -- fn zero_nodes
 returns-2 : tie.Need-returns-2 Inv-loop μ-loop
