@@ -1,3 +1,4 @@
+-- A Par both of whose branches have been run: its bytes and its flag; untouched where both stay suspended.
 use Rattle.steps.proofs.flags.both_ran.Statement.{statement}
 use Rattle.steps.proofs.flags.both_ran.Tie as tie
 use borrow.Author.Needs.{needs}

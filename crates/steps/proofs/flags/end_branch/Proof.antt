@@ -1,3 +1,4 @@
+-- An ended branch gets its phase, another keeps its bytes.
 use Rattle.steps.proofs.flags.end_branch.Statement.{statement}
 use Rattle.steps.proofs.flags.end_branch.Tie as tie
 use borrow.Author.Needs.{needs}

@@ -1,3 +1,4 @@
+-- A Par whose first branch alone has been run: its bytes and its flag; untouched where that stays suspended.
 use Rattle.steps.proofs.flags.first_ran.Statement.{statement}
 use Rattle.steps.proofs.flags.first_ran.Tie as tie
 use borrow.Author.Needs.{needs}

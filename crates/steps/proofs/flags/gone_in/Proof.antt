@@ -1,3 +1,4 @@
+-- The phase of an ended branch, by the flag of its Par.
 use Rattle.steps.proofs.flags.gone_in.Statement.{statement}
 use Rattle.steps.proofs.flags.gone_in.Tie as tie
 use borrow.Author.Needs.{needs}

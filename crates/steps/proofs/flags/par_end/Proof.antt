@@ -1,3 +1,4 @@
+-- A Par whose branches have answered: its flags by δ₁ and δ₂, phase 3 for a branch that has ended, the joined flag by γ.
 use Rattle.steps.proofs.flags.par_end.Statement.{statement}
 use Rattle.steps.proofs.flags.par_end.Tie as tie
 use borrow.Author.Needs.{needs}

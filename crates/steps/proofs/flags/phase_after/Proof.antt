@@ -1,3 +1,4 @@
+-- The phase of a node in its part, by the flag of that part.
 use Rattle.steps.proofs.flags.phase_after.Statement.{statement}
 use Rattle.steps.proofs.flags.phase_after.Tie as tie
 use borrow.Author.Needs.{needs}

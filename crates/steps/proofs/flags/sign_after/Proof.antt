@@ -1,3 +1,4 @@
+-- The sign of a Local, by its body's flag and its event then.
 use Rattle.steps.proofs.flags.sign_after.Statement.{statement}
 use Rattle.steps.proofs.flags.sign_after.Tie as tie
 use borrow.Author.Needs.{needs}

@@ -1,3 +1,4 @@
+-- Whether a node tests a lone event, and is not in phase 3.
 use Rattle.steps.proofs.leaves.lone_event.Statement.{statement}
 use Rattle.steps.proofs.leaves.lone_event.Tie as tie
 use borrow.Author.Needs.{needs}

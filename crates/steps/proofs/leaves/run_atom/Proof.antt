@@ -1,3 +1,4 @@
+-- An Atom meets its contract: rule 3.
 use Rattle.steps.proofs.leaves.run_atom.Statement.{statement}
 use Rattle.steps.proofs.leaves.run_atom.Tie as tie
 use borrow.Author.Needs.{needs}

@@ -1,3 +1,4 @@
+-- An Await meets its contract: rules 22 to 25.
 use Rattle.steps.proofs.leaves.run_await.Statement.{statement}
 use Rattle.steps.proofs.leaves.run_await.Tie as tie
 use borrow.Author.Needs.{needs}

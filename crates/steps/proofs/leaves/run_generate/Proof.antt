@@ -1,3 +1,4 @@
+-- A Generate meets its contract: rule 16.
 use Rattle.steps.proofs.leaves.run_generate.Statement.{statement}
 use Rattle.steps.proofs.leaves.run_generate.Tie as tie
 use borrow.Author.Needs.{needs}

@@ -1,3 +1,4 @@
+-- An Await of a lone event meets its contract: rules 22 to 25.
 use Rattle.steps.proofs.leaves.run_lone.Statement.{statement}
 use Rattle.steps.proofs.leaves.run_lone.Tie as tie
 use borrow.Author.Needs.{needs}

@@ -1,3 +1,4 @@
+-- A Nothing, or a leaf in phase 3, meets its contract: rule 1.
 use Rattle.steps.proofs.leaves.run_nothing.Statement.{statement}
 use Rattle.steps.proofs.leaves.run_nothing.Tie as tie
 use borrow.Author.Needs.{needs}

@@ -1,3 +1,4 @@
+-- A Stop meets its contract: rule 2.
 use Rattle.steps.proofs.leaves.run_stop.Statement.{statement}
 use Rattle.steps.proofs.leaves.run_stop.Tie as tie
 use borrow.Author.Needs.{needs}

@@ -1,3 +1,4 @@
+-- The rank of a test tells what the configuration is read as.
 use Rattle.steps.proofs.leaves.test_rank.Statement.{statement}
 use Rattle.steps.proofs.leaves.test_rank.Tie as tie
 use borrow.Author.Needs.{needs}

@@ -1,3 +1,4 @@
+-- The events taken out of the row are its event words.
 use Rattle.steps.proofs.numbers.events_of.Statement.{statement}
 use Rattle.steps.proofs.numbers.events_of.Tie as tie
 use borrow.Author.Needs.{needs}

@@ -1,3 +1,4 @@
+-- Whether an event is present, by its digit in its word.
 use Rattle.steps.proofs.numbers.has_event.Statement.{statement}
 use Rattle.steps.proofs.numbers.has_event.Tie as tie
 use borrow.Author.Needs.{needs}

@@ -1,3 +1,4 @@
+-- The events put back into the row, all else in it kept.
 use Rattle.steps.proofs.numbers.keep_events.Statement.{statement}
 use Rattle.steps.proofs.numbers.keep_events.Tie as tie
 use borrow.Author.Needs.{needs}

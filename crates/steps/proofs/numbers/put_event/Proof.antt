@@ -1,3 +1,4 @@
+-- An event's digit put into its word: E+S or E-S, all else in the row kept.
 use Rattle.steps.proofs.numbers.put_event.Statement.{statement}
 use Rattle.steps.proofs.numbers.put_event.Tie as tie
 use borrow.Author.Needs.{needs}

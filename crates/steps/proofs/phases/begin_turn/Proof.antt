@@ -1,3 +1,4 @@
+-- A Repeat that has begun: its phase and its count in the bytes.
 use Rattle.steps.proofs.phases.begin_turn.Statement.{statement}
 use Rattle.steps.proofs.phases.begin_turn.Tie as tie
 use borrow.Author.Needs.{needs}

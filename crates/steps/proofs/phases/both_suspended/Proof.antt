@@ -1,3 +1,4 @@
+-- Whether both branches of a Par are suspended, by its phase and its flags.
 use Rattle.steps.proofs.phases.both_suspended.Statement.{statement}
 use Rattle.steps.proofs.phases.both_suspended.Tie as tie
 use borrow.Author.Tests.{eq-eqb, ne-eqb}

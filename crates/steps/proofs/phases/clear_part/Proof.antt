@@ -1,3 +1,4 @@
+-- A subtree's bytes made zero, all others kept.
 use Rattle.steps.proofs.phases.clear_part.Statement.{statement}
 use Rattle.steps.proofs.phases.clear_part.Tie as tie
 use borrow.Author.Needs.{needs}

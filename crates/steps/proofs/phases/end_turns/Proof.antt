@@ -1,3 +1,4 @@
+-- A Repeat that has ended: its own bytes are zero.
 use Rattle.steps.proofs.phases.end_turns.Statement.{statement}
 use Rattle.steps.proofs.phases.end_turns.Tie as tie
 use borrow.Author.Needs.{needs}

@@ -1,3 +1,4 @@
+-- Whether a node is a Par with both branches suspended.
 use Rattle.steps.proofs.phases.fresh_par.Statement.{statement}
 use Rattle.steps.proofs.phases.fresh_par.Tie as tie
 use borrow.Author.Needs.{needs}

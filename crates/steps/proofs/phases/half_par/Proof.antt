@@ -1,3 +1,4 @@
+-- Whether a node is a Par with a branch that is not suspended.
 use Rattle.steps.proofs.phases.half_par.Statement.{statement}
 use Rattle.steps.proofs.phases.half_par.Tie as tie
 use borrow.Author.Needs.{needs}

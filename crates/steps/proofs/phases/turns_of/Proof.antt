@@ -1,3 +1,4 @@
+-- How often a Repeat's body is still to be run, by its phase and its count.
 use Rattle.steps.proofs.phases.turns_of.Statement.{statement}
 use Rattle.steps.proofs.phases.turns_of.Tie as tie
 use borrow.Author.Needs.{needs}
