@@ -40,7 +40,6 @@ module _ (holds : ℕ → Bool) where
 
   pub first-later : (i m n r : ℕ) → i ≤ m → Hold i m → First holds m n r → First holds i n r
   first-later i m n r l h f =
-      let a = f .from in
       first-at i r n (omega arith) (f .within) (hold-join i m r h (f .before)) (f .there)
 
   -- from further on

@@ -47,7 +47,6 @@ judged {t} s {near} {i} l r h z = record {
 -- each node before the nearest such one can be judged
 pub judging : {t s : List ℕ} {i near : ℕ} → Judged t s i near → (k : ℕ) → i ≤ k → k < near → Judging t s k near
 judging {t} {s} {i} {near} j k a b =
-    let w = j .nearest .within in
     record {
       inside = omega arith;
       behind = record {
@@ -92,6 +91,4 @@ module _ {t s : List ℕ} {i near : ℕ} (j : Judging t s i near) where
       ap (zeroNodes s (secondAt t i)) e
 
   pub second-near : Pair t i → i + sizeAt t i ≤ near → secondZero t s i ≡ true
-  second-near b h =
-      let z = b .sized in
-      sym (second-is b) ∙ second-tells b .all-zero (omega arith)
+  second-near b h = sym (second-is b) ∙ second-tells b .all-zero (omega arith)
