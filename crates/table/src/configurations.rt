@@ -77,7 +77,8 @@ fn lone(table: &[u8], v: usize, c: usize) -> bool
 // How many parts the configuration at byte c has; 0 if it isn't good but for its height.
 fn parts_good(table: &[u8], c: usize) -> u32
     requires { ⌜ SomeBegins (now table) c ⌝ }
-    ensures { λ r. ⌜ ((j : ℕ) → Begins (now (table .entry)) c j → r ≡ cond (goodButHeight (now (table .entry)) j) (parts (partKind (now (table .entry)) c)) 0) ⌝ }
+    ensures { λ r. ⌜ ((j : ℕ) → Begins (now (table .entry)) c j
+        → r ≡ cond (goodButHeight (now (table .entry)) j) (parts (partKind (now (table .entry)) c)) 0) ⌝ }
 {
     let end = table.len() - 10;
     if c + 4 < end {

@@ -93,7 +93,8 @@ returns-6 c j b =
     let first = part-size2 .ensures .0 in
     let second = rw first at (part-size3 .ensures .0) in
     let size : partSize t at ≡ 1 + partSize t (at + 4) + partSize t (at + 4 + 4 * partSize t (at + 4)) → ⊥ = λ e. if5 .left (omega arith) in
-    rw (own t at j b) (sym (no-parts t at (λ e. absurd (omega arith)) (λ k l m e. rw (lt-ltb _ _ (if1 .taken), lt-ltb _ _ (rw first at (if4 .taken)), ne-eqb _ _ size))))
+    let behind = rw first at (if4 .taken) in
+    rw (own t at j b) (sym (no-parts t at (λ e. absurd (omega arith)) (λ k l m e. rw (lt-ltb _ _ (if1 .taken), lt-ltb _ _ behind, ne-eqb _ _ size))))
 
 returns-7 : tie.Need-returns-7
 returns-7 c j b =

@@ -23,7 +23,8 @@ returns-2 c =
     let word-at2 = c .before .word-at2 in
     let if2 = c .if2 in
     let p = start .pre .1 in
-    simp (distances (start .args .table .now) _ _ (p .0) (p .1), sym (word-at .ensures .0), eq-eqb _ _ (if1 .left), sym (word-at2 .ensures .0), ne-eqb _ _ (if2 .taken))
+    let both = distances (start .args .table .now) _ _ (p .0) (p .1) in
+    simp (both, sym (word-at .ensures .0), eq-eqb _ _ (if1 .left), sym (word-at2 .ensures .0), ne-eqb _ _ (if2 .taken))
 
 -- fn distances_good
 returns-3 : tie.Need-returns-3
@@ -34,7 +35,8 @@ returns-3 c =
     let word-at2 = c .before .word-at2 in
     let if2 = c .if2 in
     let p = start .pre .1 in
-    simp (distances (start .args .table .now) _ _ (p .0) (p .1), sym (word-at .ensures .0), eq-eqb _ _ (if1 .left), sym (word-at2 .ensures .0), eq-eqb _ _ (if2 .left))
+    let both = distances (start .args .table .now) _ _ (p .0) (p .1) in
+    simp (both, sym (word-at .ensures .0), eq-eqb _ _ (if1 .left), sym (word-at2 .ensures .0), eq-eqb _ _ (if2 .left))
 
 pub distances-good-spec : {M : Type 1} → statement M
 distances-good-spec =
