@@ -1,9 +1,12 @@
 -- Building the table of a whole text.
 use Prim.Native.Nat.{ℕ, suc, _+_, _-_, _*_, _%_, _≤_, _<_}
+use mathlib.Core.Bool.{Bool, true, false, _||_, false≢true}
 use mathlib.Core.Path.{_≡_, refl, sym, ap, subst, _∙_}
 use mathlib.Core.List.{List, [], _∷_, _++_, append-nil}
 use native.Mathlib.Nat.{add-zero}
 use native.Mathlib.Omega.{arith}
+use lib.Dec.{eqb, ltb}
+use borrow.Author.Tests.{ltb-false, eqb-false}
 use lib.ListN.{length, take, drop, length-append, length-drop, take-append-drop}
 use lib.Seq.{sets, length-take-le, take-all, take-at, drop-cons, drop-length, getD-drop}
 use Rattle.junior.specs.Program.{Program, size}
@@ -12,14 +15,16 @@ use Rattle.builder.specs.declared.build.Front.{Front}
 use Rattle.form.specs.Form.{Says, whole}
 use Rattle.form.specs.Made.{big, tests, nodesFrom, testsOf, trailer, tableOf}
 use Rattle.form.proofs.MadeLength.{nodes-length, tests-length}
-use Rattle.builder.specs.Building.{Placed, place, relevel, levels, placed, Region, Holds, Room, Ready}
+use Rattle.builder.specs.Building.{SoFar, acting, place, relevel, levels, placed, Region, Holds, Room, CanPlace}
 use Rattle.builder.specs.Building.{Places, Stacked}
 use Rattle.builder.specs.Building.{LevelReady, Levels, Measured}
 use Rattle.builder.proofs.PlacedByConfigurations.{made, small-mod}
 use Rattle.builder.proofs.PlacedByPrograms.{piece-placed}
 use Rattle.builder.proofs.PlacedGrows.{room-at}
-use Rattle.builder.proofs.Depth.{depth-at}
-use Rattle.builder.proofs.Regions.{sets-right, sets-all}
+use Rattle.builder.proofs.BracketDepth.{depth-at}
+use Rattle.builder.proofs.PlacedByFunctions.{place-none}
+use Rattle.builder.proofs.LevelBytes.{level-other}
+use Rattle.builder.proofs.TableRegions.{sets-right, sets-all}
 use Rattle.form.proofs.MadeNamed.{named-most}
 use Rattle.form.proofs.SaysInForm.{says-in-form}
 
@@ -51,6 +56,16 @@ pub record Under (text : List ℕ) (n m : ℕ) (t lv : List ℕ) (f : Front) (d 
 empty-region : (t : List ℕ) (a : ℕ) → a ≤ length t → Region t a a []
 empty-region t a h =
     record { before = take a t; behind = drop a t; parts = sym (take-append-drop a t); begins = length-take-le a t h; ends = add-zero a }
+
+-- a byte that does not act stands behind the comma, and is no `J`
+acts-not : (b : ℕ) → acting b ≡ false → (45 ≤ b) × (b ≡ 74 → ⊥)
+unfolding acting
+acts-not b e = go (ltb b 45) refl (eqb b 74) refl e
+  where
+    go : (x : Bool) → ltb b 45 ≡ x → (y : Bool) → eqb b 74 ≡ y → x || y ≡ false → (45 ≤ b) × (b ≡ 74 → ⊥)
+    go true p y q h = absurd (false≢true (sym h))
+    go false p true q h = absurd (false≢true (sym h))
+    go false p false q h = (ltb-false b 45 p, eqb-false b 74 q)
 
 module _ {text : List ℕ} {n m v room : ℕ} {p : Program} (g : Measured text n m v room p) where
   -- before the first step
@@ -113,16 +128,16 @@ module _ {text : List ℕ} {n m v room : ℕ} {p : Program} (g : Measured text n
     level-is = sym (ap (λ x. byte x 0) (sym (u .stacked .there)) ∙ (getD-drop d lv 0 0 ∙ ap (byte lv) (add-zero d)))
 
     -- what this byte places
-    abbrev placing : Placed → Placed
+    abbrev placing : SoFar → SoFar
     placing = place (byte text (k - 1)) (byte lv d) (take (length text - k) (drop k text))
 
     placing-is : placing (placed m (drop k text)) ≡ placed m (drop (k - 1) text)
     unfolding placed
     placing-is = rw (rest, level-is, next)
 
-    pub place-ready : Ready placing t f
+    pub place-ready : CanPlace placing t f
     place-ready =
-        (n, m, placed m (drop k text), u .holds, subst (λ (x : Placed). Room n m x) (sym placing-is) (room-at n m (k - 1) text all-room))
+        (n, m, placed m (drop k text), u .holds, subst (λ (x : SoFar). Room n m x) (sym placing-is) (room-at n m (k - 1) text all-room))
 
     -- and what it does to the levels
     abbrev leveling : List ℕ → List ℕ
@@ -156,17 +171,26 @@ module _ {text : List ℕ} {n m v room : ℕ} {p : Program} (g : Measured text n
         record {
           within = omega arith;
           holds =
-              subst (λ (x : Placed). Holds n m t′ f′ x) placing-is
-              (a n m (placed m (drop k text)) (u .holds) (subst (λ (x : Placed). Room n m x) (sym placing-is) (room-at n m (k - 1) text all-room)));
+              subst (λ (x : SoFar). Holds n m t′ f′ x) placing-is
+              (a n m (placed m (drop k text)) (u .holds) (subst (λ (x : SoFar). Room n m x) (sym placing-is) (room-at n m (k - 1) text all-room)));
           stacked = subst (λ (x : List ℕ). Stacked lv′ d′ x) leveling-is (b (levels (drop k text)) (u .stacked) level-room);
           long = l ∙ u .long;
           room-is = o ∙ u .room-is;
         }
 
+    -- a byte that does not act leaves all as it was
+    pub under-same : acting (byte text (k - 1)) ≡ false → Under text n m t lv f d (k - 1)
+    under-same e =
+        let (a, b) = acts-not (byte text (k - 1)) e in
+        let same : (s : SoFar) → placing s ≡ s =
+        λ s. place-none (byte text (k - 1)) _ _ s (λ z. omega arith) (λ z. omega arith) (λ z. omega arith) b in
+        under-on (λ n m s h r. subst (λ (x : SoFar). Holds n m t f x) (sym (same s)) h)
+        (level-other (byte text (k - 1)) _ lv d (λ z. omega arith) (λ z. omega arith) (λ z. omega arith) (λ z. omega arith)) refl refl
+
   -- behind the last step
   module _ {t lv : List ℕ} {f : Front} {d : ℕ} (u : Under text n m t lv f d 0) where
     held : Holds n m t f (made (nodesFrom 0 p) (testsOf p) 0)
-    held = subst (λ (x : Placed). Holds n m t f x) all-placed (u .holds)
+    held = subst (λ (x : SoFar). Holds n m t f x) all-placed (u .holds)
 
     nodes-first : t ≡ nodesFrom 0 p ++ held .nodes-there .behind
     nodes-first =

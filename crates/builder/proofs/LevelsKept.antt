@@ -19,7 +19,7 @@ use Rattle.form.specs.Form.{says-until}
 use Rattle.form.specs.Form.{says-control, says-local}
 use Rattle.builder.specs.Building.{relevel, levels}
 use Rattle.builder.proofs.ReadDigits.{past-decimal}
-use Rattle.builder.proofs.Begins.{begins-test, begins}
+use Rattle.builder.proofs.FirstBytes.{begins-test, begins}
 
 levels-digit : (d : ℕ) (x : List ℕ) → d < 10 → levels ((48 + d) ∷ x) ≡ levels x
 unfolding levels relevel
@@ -74,12 +74,12 @@ unfolding levels relevel
 levels-comma {u = u} d x = let b = begins d x in rw (no-pair (u ++ x) (omega arith))
 
 -- a whole program leaves the levels; with a comma before it, what stands behind the first comma of a Seq or Par leaves its bracket's
-abbrev pub Kept : Piece → List ℕ → List ℕ → Type 0
-Kept (whole p) u x = levels (u ++ x) ≡ levels x
-Kept (later-seq p) u x = levels (44 ∷ 32 ∷ (u ++ x)) ≡ 1 ∷ levels x
-Kept (later-par p) u x = levels (44 ∷ 32 ∷ (u ++ x)) ≡ 1 ∷ levels x
+abbrev pub LevelsStay : Piece → List ℕ → List ℕ → Type 0
+LevelsStay (whole p) u x = levels (u ++ x) ≡ levels x
+LevelsStay (later-seq p) u x = levels (44 ∷ 32 ∷ (u ++ x)) ≡ 1 ∷ levels x
+LevelsStay (later-par p) u x = levels (44 ∷ 32 ∷ (u ++ x)) ≡ 1 ∷ levels x
 
-pub levels-kept : {s : Piece} {u : List ℕ} → Says s u → (x : List ℕ) → Kept s u x
+pub levels-kept : {s : Piece} {u : List ℕ} → Says s u → (x : List ℕ) → LevelsStay s u x
 unfolding levels relevel
 levels-kept says-nothing x = refl
 levels-kept says-stop x = refl

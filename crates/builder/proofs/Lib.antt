@@ -1,16 +1,16 @@
 -- Laws of the written form, each file named after its subject.
 pub mod ReadDigits
-pub mod Begins
+pub mod FirstBytes
 pub mod LevelsKept
 pub mod WrittenSizes
-pub mod Spread
+pub mod LabelsSpread
 pub mod PlacedByConfigurations
 pub mod PlacedByNames
 pub mod PlacedByPrograms
-pub mod Regions
+pub mod TableRegions
 pub mod PlacedGrows
-pub mod Depth
-pub mod Stacks
+pub mod BracketDepth
+pub mod LevelBytes
 pub mod TableHolds
 pub mod PlacedByFunctions
 pub mod BuiltWhole

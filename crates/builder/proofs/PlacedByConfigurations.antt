@@ -15,21 +15,21 @@ use Rattle.letters.specs.Text.{bytes}
 use Rattle.form.specs.Form.{SaysTest, says-event, says-not, says-and, says-or}
 use Rattle.form.specs.Inside.Machine.{isDigit}
 use Rattle.form.specs.Made.{testRecords}
-use Rattle.builder.specs.Building.{Placed, number, pair, negation, event, opening, place, relevel}
+use Rattle.builder.specs.Building.{SoFar, number, pair, negation, event, opening, place, relevel}
 use Rattle.builder.specs.Building.{levels, placed}
 use Rattle.builder.proofs.ReadDigits.{past-decimal, begins-decimal, number-decimal, number-ends}
-use Rattle.builder.proofs.Begins.{begins-test}
+use Rattle.builder.proofs.FirstBytes.{begins-test}
 use Rattle.builder.proofs.LevelsKept.{levels-close, levels-blank, levels-and, levels-or, levels-test}
 use Rattle.builder.proofs.WrittenSizes.{weight-there, joined-tests}
 
-abbrev pub made : List ℕ → List ℕ → ℕ → Placed
+abbrev pub made : List ℕ → List ℕ → ℕ → SoFar
 made a b l = record { nodes = a; tests = b; left = l }
 
 pub small-mod : (n k : ℕ) → n < k → n % k ≡ n
 small-mod n k h = mod-eq-of-lt h
 
 -- the records of c in front of others, its first being number j
-abbrev pub overTest : Config → ℕ → Placed → Placed
+abbrev pub overTest : Config → ℕ → SoFar → SoFar
 overTest c j s = made (s .nodes) (testRecords c ++ s .tests) j
 
 placed-digit : (m d : ℕ) (x : List ℕ) → d < 10 → placed m ((48 + d) ∷ x) ≡ placed m x
@@ -47,7 +47,7 @@ placed-number m = past-decimal (placed m) (placed-digit m)
 
 -- an event's number is placed by what stands before it
 event-placed :
-    (s : ℕ) (x : List ℕ) (j : ℕ) (r : Placed)
+    (s : ℕ) (x : List ℕ) (j : ℕ) (r : SoFar)
     → s < 256
     → isDigit (byte x 0) ≡ false
     → r .left ≡ j + 1
@@ -59,12 +59,12 @@ event-placed s x j r h e l =
     rw (begins-decimal s x, n, small-mod s 256 h, k)
 
 -- nothing else is an event
-pub no-event : (w : List ℕ) (s : Placed) → isDigit (byte w 0) ≡ false → event w s ≡ s
+pub no-event : (w : List ℕ) (s : SoFar) → isDigit (byte w 0) ≡ false → event w s ≡ s
 unfolding event
 no-event w s e = rw e
 
 not-placed :
-    (c : Config) (j : ℕ) (s : Placed)
+    (c : Config) (j : ℕ) (s : SoFar)
     → weight (Not c) ≤ 65535
     → negation (overTest c (j + 1) s) ≡ overTest (Not c) j s
 unfolding negation testRecords weight
@@ -73,7 +73,7 @@ not-placed c j s h =
     rw (weight-there c (s .tests), small-mod (1 + weight c) 65536 (omega arith), k)
 
 and-placed :
-    (c d : Config) (j i : ℕ) (s : Placed)
+    (c d : Config) (j i : ℕ) (s : SoFar)
     → weight (And c d) ≤ 65535
     → pair 2 (overTest c (j + 1) (overTest d i s)) ≡ overTest (And c d) j s
 unfolding pair testRecords weight
@@ -82,7 +82,7 @@ and-placed c d j i s h =
     rw (joined-tests c d (s .tests), small-mod (1 + weight c + weight d) 65536 (omega arith), k, append-assoc (testRecords c) (testRecords d) (s .tests))
 
 or-placed :
-    (c d : Config) (j i : ℕ) (s : Placed)
+    (c d : Config) (j i : ℕ) (s : SoFar)
     → weight (Or c d) ≤ 65535
     → pair 3 (overTest c (j + 1) (overTest d i s)) ≡ overTest (Or c d) j s
 unfolding pair testRecords weight
@@ -116,7 +116,7 @@ reads-close m x = refl
 
 -- a bracket round two, y being all behind it, z what stands behind the first
 around :
-    (m k : ℕ) (c d : Config) (j i : ℕ) (y z l : List ℕ) (s : Placed)
+    (m k : ℕ) (c d : Config) (j i : ℕ) (y z l : List ℕ) (s : SoFar)
     → 1 < k
     → levels y ≡ k ∷ l
     → event y (placed m y) ≡ overTest c (j + 1) (placed m z)

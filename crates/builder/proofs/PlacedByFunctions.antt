@@ -13,11 +13,11 @@ use Rattle.builder.specs.declared.build.Front.{Front}
 use Rattle.form.specs.Made.{big}
 use Rattle.form.specs.Inside.Machine.{isDigit}
 use Rattle.form.specs.Inside.Rows.{wordRow, formRow, codeAt, nameEnd, inside, named, kindOf}
-use Rattle.builder.specs.Building.{Placed, withNode, withTest, number, joinedSize, joint, pair}
+use Rattle.builder.specs.Building.{SoFar, withNode, withTest, number, joinedSize, joint, pair}
 use Rattle.builder.specs.Building.{negation, event}
 use Rattle.builder.specs.Building.{opening, labelled, row, choice, await, hasPart, ownSize, single, behindJ}
 use Rattle.builder.specs.Building.{form, name}
-use Rattle.builder.specs.Building.{comma, place, Holds, Room, Ready, Places}
+use Rattle.builder.specs.Building.{comma, place, Holds, Room, CanPlace, Places}
 use Rattle.builder.proofs.PlacedGrows.{room-before, length-spread, grows-row-joint, choice-length, grows-choice}
 use Rattle.builder.proofs.PlacedGrows.{grows-await}
 use Rattle.builder.proofs.TableHolds.{nodes-part, tests-part, nodes-anew}
@@ -26,7 +26,7 @@ byte-of-drop : (text : List ℕ) (i : ℕ) → byte (drop i text) 0 ≡ byte tex
 byte-of-drop text i = getD-drop i text 0 0 ∙ ap (byte text) (add-zero i)
 
 -- an event, or none
-module _ (text : List ℕ) (i b : ℕ) (is : b ≡ byte text i) (s : Placed) where
+module _ (text : List ℕ) (i b : ℕ) (is : b ≡ byte text i) (s : SoFar) where
   pub event-here : (e : ℕ) → isDigit b ≡ true → e ≡ number 0 (drop i text) → withTest 0 e 1 s ≡ event (drop i text) s
   unfolding event
   event-here e h n = rw (n, byte-of-drop text i, ← is, h)
@@ -36,7 +36,7 @@ module _ (text : List ℕ) (i b : ℕ) (is : b ≡ byte text i) (s : Placed) whe
   event-none h = rw (byte-of-drop text i, ← is, h)
 
 -- records whose size is read off those in front
-module _ {n m : ℕ} {t : List ℕ} {f : Front} {s : Placed} (h : Holds n m t f s) (z : ℕ) where
+module _ {n m : ℕ} {t : List ℕ} {f : Front} {s : SoFar} (h : Holds n m t f s) (z : ℕ) where
   abbrev nodes-of : List ℕ
   nodes-of = take (f .middle - f .node) (drop (f .node) t)
 
@@ -62,14 +62,14 @@ module _ {n m : ℕ} {t : List ℕ} {f : Front} {s : Placed} (h : Holds n m t f 
 
 -- an Await: its event, then its node
 module _ (k : ℕ) (w : List ℕ) {t : List ℕ} {f : Front} where
-  pub await-first : Ready (await k w) t f → Ready (event w) t f
+  pub await-first : CanPlace (await k w) t f → CanPlace (event w) t f
   await-first (n, m, s, h, r) = (n, m, s, h, room-before (grows-await k w s) r)
 
   pub await-second :
       {t′ : List ℕ} {f′ : Front}
-      → Ready (await k w) t f
+      → CanPlace (await k w) t f
       → Places (event w) t f t′ f′
-      → Ready (withNode k (f′ .left) 1) t′ f′
+      → CanPlace (withNode k (f′ .left) 1) t′ f′
   unfolding await
   await-second (n, m, s, h, r) p =
       let g = p n m s h (room-before (grows-await k w s) r) in
@@ -89,11 +89,11 @@ module _ (k : ℕ) (w : List ℕ) {t : List ℕ} {f : Front} where
 
 -- a row: its node, then the labels
 module _ (k : ℕ) {t : List ℕ} {f : Front} where
-  pub row-first : Ready (row k) t f → Ready joint t f
+  pub row-first : CanPlace (row k) t f → CanPlace joint t f
   row-first (n, m, s, h, r) = (n, m, s, h, room-before (grows-row-joint k s) r)
 
   pub row-held :
-      {t′ : List ℕ} {f′ : Front} (r : Ready (row k) t f) → Places joint t f t′ f′ → Holds (r .0) (r .1) t′ f′ (joint (r .2))
+      {t′ : List ℕ} {f′ : Front} (r : CanPlace (row k) t f) → Places joint t f t′ f′ → Holds (r .0) (r .1) t′ f′ (joint (r .2))
   row-held (n, m, s, h, r) p = p n m s h (room-before (grows-row-joint k s) r)
 
   pub row-done :
@@ -109,11 +109,11 @@ module _ (k : ℕ) {t : List ℕ} {f : Front} where
 
 -- a choice: its event, then the labels and the argument
 module _ (k : ℕ) (y : List ℕ) {t : List ℕ} {f : Front} where
-  pub choice-first : Ready (choice k y) t f → Ready (event y) t f
+  pub choice-first : CanPlace (choice k y) t f → CanPlace (event y) t f
   choice-first (n, m, s, h, r) = (n, m, s, h, room-before (grows-choice k y s) r)
 
   pub choice-held :
-      {t′ : List ℕ} {f′ : Front} (r : Ready (choice k y) t f) → Places (event y) t f t′ f′ → Holds (r .0) (r .1) t′ f′ (event y (r .2))
+      {t′ : List ℕ} {f′ : Front} (r : CanPlace (choice k y) t f) → Places (event y) t f t′ f′ → Holds (r .0) (r .1) t′ f′ (event y (r .2))
   choice-held (n, m, s, h, r) p = p n m s h (room-before (grows-choice k y s) r)
 
   pub choice-done :
@@ -128,7 +128,7 @@ module _ (k : ℕ) (y : List ℕ) {t : List ℕ} {f : Front} where
       rw (← i) (nodes-anew g w (ap length i ∙ choice-length k y s))
 
 -- `(`
-module _ (level : ℕ) (w : List ℕ) (s : Placed) where
+module _ (level : ℕ) (w : List ℕ) (s : SoFar) where
   pub opening-pair : 1 < level → pair level (event w s) ≡ opening level w s
   unfolding opening
   opening-pair h = rw (lt-ltb 1 level h)
@@ -142,7 +142,7 @@ module _ (level : ℕ) (w : List ℕ) (s : Placed) where
   opening-none h e = rw (le-ltb 1 level h, e)
 
 -- `,`
-module _ (level : ℕ) (s : Placed) where
+module _ (level : ℕ) (s : SoFar) where
   pub comma-joint : level ≡ 1 → joint s ≡ comma level s
   unfolding comma
   comma-joint e = rw e
@@ -152,7 +152,7 @@ module _ (level : ℕ) (s : Placed) where
   comma-none e = rw (ne-eqb level 1 e)
 
 -- the form of a kind, by the codes in its brackets, which begin at place n of the table of names
-module _ (k n : ℕ) (is : n ≡ nameEnd (formRow k)) (w : List ℕ) (s : Placed) where
+module _ (k n : ℕ) (is : n ≡ nameEnd (formRow k)) (w : List ℕ) (s : SoFar) where
   code-at : (j : ℕ) → codeAt (n + j) ≡ inside k j
   unfolding inside
   code-at j = rw is
@@ -190,7 +190,7 @@ behind-is k n x e f = rw (e, f)
 
 -- `J`
 pub name-here :
-    (w : List ℕ) (k i : ℕ) (s : Placed)
+    (w : List ℕ) (k i : ℕ) (s : SoFar)
     → k ≡ kindOf (drop 2 w)
     → i ≡ behindJ k
     → form k (drop i w) s ≡ name w s
@@ -198,7 +198,7 @@ unfolding name
 name-here w k i s e f = rw (f, e)
 
 -- a byte
-module _ (b level : ℕ) (w : List ℕ) (s : Placed) where
+module _ (b level : ℕ) (w : List ℕ) (s : SoFar) where
   pub place-blank : b ≡ 32 → event w s ≡ place b level w s
   unfolding place
   place-blank e = rw e

@@ -15,18 +15,18 @@ use Rattle.form.specs.Names.{formOf, opening as opened}
 use Rattle.form.specs.Made.{big, tests, nodesFrom, testRecords, testsOf}
 use Rattle.form.specs.Inside.Machine.{isDigit}
 use Rattle.form.specs.Inside.Rows.{rowAt, formRow, kinds, nameEnd}
-use Rattle.form.proofs.Tested.{both, all, all-at}
+use Rattle.form.proofs.ComputedTests.{both, all, all-at}
 use Rattle.form.proofs.Rows.{name-long, kind-told, no-not}
-use Rattle.builder.specs.Building.{Placed, number, joint, event, opening, labelled, row, choice}
+use Rattle.builder.specs.Building.{SoFar, number, joint, event, opening, labelled, row, choice}
 use Rattle.builder.specs.Building.{await, ownSize, single}
 use Rattle.builder.specs.Building.{behindJ, form, name, comma, place, levels, placed}
 use Rattle.builder.proofs.LevelsKept.{levels-blank}
 use Rattle.builder.proofs.WrittenSizes.{size-there, kind-small, joined-nodes}
-use Rattle.builder.proofs.Spread.{Spine, ends, goes, labels}
+use Rattle.builder.proofs.LabelsSpread.{Spine, ends, goes, labels}
 use Rattle.builder.proofs.PlacedByConfigurations.{made, small-mod, overTest, no-event}
 
 -- the records of p in front of others, its first configuration being number j
-abbrev pub over : Program → ℕ → Placed → Placed
+abbrev pub over : Program → ℕ → SoFar → SoFar
 over p j s = made (nodesFrom j p ++ s .nodes) (testsOf p ++ s .tests) j
 
 -- the text y inside a name's bracket: the bracket is no configuration's
@@ -93,7 +93,7 @@ module _ (m : ℕ) (y l : List ℕ) (b : byte y 0 ≡ 74) where
 
 -- a form without parts or with one
 pub singled :
-    (k a n : ℕ) (y : List ℕ) (s : Placed)
+    (k a n : ℕ) (y : List ℕ) (s : SoFar)
     → number 0 y ≡ a
     → a ≤ 65535
     → ownSize k (s .nodes) ≡ n
@@ -103,14 +103,14 @@ unfolding single
 singled k a n y s e h f g = rw (e, f, small-mod a 65536 (omega arith), small-mod n 65536 (omega arith))
 
 -- the parts of a row behind its first comma
-pub record Joined (k : ℕ) (q : Program) (j : ℕ) (s r : Placed) : Type 0 where
+pub record Joined (k : ℕ) (q : Program) (j : ℕ) (s r : SoFar) : Type 0 where
   pub front : List ℕ
   pub spine : Spine k front (nodesFrom j q ++ s .nodes)
   pub size-is : word front 4 ≡ size q
   pub placed-is : r ≡ made front (testsOf q ++ s .tests) j
 
 -- one part
-pub joined-last : (k : ℕ) (q : Program) (j : ℕ) (s : Placed) → Joined k q j s (over q j s)
+pub joined-last : (k : ℕ) (q : Program) (j : ℕ) (s : SoFar) → Joined k q j s (over q j s)
 joined-last k q j s =
     record { front = nodesFrom j q ++ s .nodes; spine = ends (kind-small j q (s .nodes)); size-is = size-there j q (s .nodes); placed-is = refl }
 
@@ -154,7 +154,7 @@ par-row p q =
 
 -- one part more
 pub joined-more :
-    {k : ℕ} {p q r : Program} (o : Row k p q r) (j : ℕ) {s z : Placed}
+    {k : ℕ} {p q r : Program} (o : Row k p q r) (j : ℕ) {s z : SoFar}
     → Joined k q (j + tests p) s z
     → size r ≤ 65535
     → Joined k r j s (joint (over p j z))
@@ -170,7 +170,7 @@ joined-more {k} {p} {q} {r} o j {s} {z} g h =
 
 -- a whole row
 pub row-placed :
-    {k : ℕ} {p q r : Program} (o : Row k p q r) (j : ℕ) {s z : Placed}
+    {k : ℕ} {p q r : Program} (o : Row k p q r) (j : ℕ) {s z : SoFar}
     → Joined k q (j + tests p) s z
     → size r ≤ 65535
     → row k (over p j z) ≡ over r j s
@@ -183,7 +183,7 @@ row-placed {k} {p} {q} {r} o j {s} {z} g h =
 
 -- an Await
 pub await-placed :
-    (k : ℕ) (c : Config) (j : ℕ) (y : List ℕ) (s r : Placed)
+    (k : ℕ) (c : Config) (j : ℕ) (y : List ℕ) (s r : SoFar)
     → event y s ≡ overTest c j r
     → j ≤ 65535
     → await k y s ≡ made (k ∷ 0 ∷ (big j ++ (big 1 ++ r .nodes))) (testRecords c ++ r .tests) j
@@ -192,7 +192,7 @@ await-placed k c j y s r e h = rw (e, small-mod j 65536 (omega arith))
 
 -- a When or an Until whose node is not labelled yet
 pub choice-placed :
-    (k : ℕ) (c : Config) (j n i h : ℕ) (p q : Program) (x t y : List ℕ) (l : ℕ) (s : Placed)
+    (k : ℕ) (c : Config) (j n i h : ℕ) (p q : Program) (x t y : List ℕ) (l : ℕ) (s : SoFar)
     → event y s ≡ overTest c j (made (255 ∷ 0 ∷ 0 ∷ 0 ∷ (big n ++ (nodesFrom i p ++ (nodesFrom h q ++ x)))) t l)
     → j ≤ 65535
     → choice k y s ≡ made (k ∷ 0 ∷ (big j ++ (big n ++ (nodesFrom i p ++ (nodesFrom h q ++ x))))) (testRecords c ++ t) j

@@ -22,10 +22,10 @@ use Rattle.form.specs.Form.{says-control, says-local}
 use Rattle.form.specs.Inside.Machine.{isDigit}
 use Rattle.form.specs.Made.{big, tests, nodesFrom, testRecords, testsOf}
 use Rattle.form.proofs.Digits.{digit-is}
-use Rattle.builder.specs.Building.{Placed, number, joint, row, choice, ownSize, single, form, levels}
+use Rattle.builder.specs.Building.{SoFar, number, joint, row, choice, ownSize, single, form, levels}
 use Rattle.builder.specs.Building.{placed}
 use Rattle.builder.proofs.ReadDigits.{begins-decimal, number-decimal, number-ends}
-use Rattle.builder.proofs.Begins.{begins-test, begins}
+use Rattle.builder.proofs.FirstBytes.{begins-test, begins}
 use Rattle.builder.proofs.LevelsKept.{levels-number, levels-close, levels-test, levels-kept}
 use Rattle.builder.proofs.WrittenSizes.{size-there}
 use Rattle.builder.proofs.PlacedByConfigurations.{made, overTest, placed-number, reads-close, test-placed}
@@ -64,8 +64,8 @@ end-levels : {p : Program} {u : List ℕ} → Says (whole p) u → (x : List ℕ
 end-levels d x = levels-kept d (41 ∷ x) ∙ levels-close x
 
 -- the records of a When and an Until, part by part
-module _ (c : Config) (p q : Program) (j : ℕ) (s : Placed) where
-  abbrev by-parts : ℕ → Placed
+module _ (c : Config) (p q : Program) (j : ℕ) (s : SoFar) where
+  abbrev by-parts : ℕ → SoFar
   by-parts k =
       made
       (k ∷ 0 ∷ (big j ++ (big (1 + size p + size q) ++ (nodesFrom (j + weight c) p ++ (nodesFrom (j + weight c + tests p) q ++ s .nodes)))))
@@ -101,7 +101,7 @@ module _ (m : ℕ) where
       ≡ made (k ∷ 0 ∷ (big a ++ (big (1 + size p) ++ (nodesFrom j p ++ placed m x .nodes)))) (testsOf p ++ placed m x .tests) j
   numbered k a j {p} {u} d x h n o e =
       let z : List ℕ = 44 ∷ 32 ∷ (u ++ (41 ∷ x)) in
-      let s : Placed = over p j (placed m x) in
+      let s : SoFar = over p j (placed m x) in
       ap (single k (decimal a ++ z)) (placed-number m a z ∙ (comma-last m (u ++ (41 ∷ x)) (levels x) (begins d _) (end-levels d x) ∙ e))
       ∙ singled k a (1 + size p) (decimal a ++ z) s (given a z h refl) h (o (s .nodes) ∙ ap (λ w. 1 + w) (size-there j p (placed m x .nodes))) n
 
@@ -203,7 +203,7 @@ module _ (m : ℕ) where
       let zp : List ℕ = 44 ∷ 32 ∷ (v ++ zq) in
       let jp : ℕ = j + weight c in
       let jq : ℕ = j + weight c + tests p in
-      let s : Placed = placed m x in
+      let s : SoFar = placed m x in
       let second : placed m zq ≡ over q jq s =
       comma-last m (w ++ (41 ∷ x)) (levels x) (begins e _) (end-levels e x) ∙ at-close q w x jq g (omega arith) (omega arith) (h ∙ omega arith) in
       let first : placed m (v ++ zq) ≡ over p jp (over q jq s) =
@@ -273,7 +273,7 @@ module _ (m : ℕ) where
   unfolding opening form ownSize size tests nodesFrom testsOf kind
   loop-placed {p} {u} d f x j a b h =
       let c = begins d (41 ∷ x) in
-      let s : Placed = over p j (placed m x) in
+      let s : SoFar = over p j (placed m x) in
       rw (append-assoc u (41 ∷ []) x)
       (reads m (u ++ (41 ∷ x)) (closed _ x (end-levels d x) (omega arith)) 5 (omega arith)
       ∙ (ap (single 5 (u ++ (41 ∷ x))) (at-close p u x j f (omega arith) b h)

@@ -11,19 +11,19 @@ use Rattle.table.specs.Records.{byte, word}
 use Rattle.form.specs.Made.{big}
 use Rattle.form.specs.Inside.Machine.{isDigit}
 use Rattle.form.specs.Inside.Rows.{wordRow, inside, named, kindOf}
-use Rattle.builder.specs.Building.{Placed, withNode, withTest, number, joint, pair, negation, event}
+use Rattle.builder.specs.Building.{SoFar, withNode, withTest, number, joint, pair, negation, event}
 use Rattle.builder.specs.Building.{opening, spread, labelled, row}
 use Rattle.builder.specs.Building.{choice, await, single, behindJ, form, name, comma, place, levels}
 use Rattle.builder.specs.Building.{placed, Room}
 
-pub record Grows (s t : Placed) : Type 0 where
+pub record Grows (s t : SoFar) : Type 0 where
   pub nodes-grow : length (s .nodes) ≤ length (t .nodes)
   pub tests-grow : length (s .tests) ≤ length (t .tests)
 
-pub grows-self : (s : Placed) → Grows s s
+pub grows-self : (s : SoFar) → Grows s s
 grows-self s = record { nodes-grow = omega arith; tests-grow = omega arith }
 
-grows-then : {s t u : Placed} → Grows s t → Grows t u → Grows s u
+grows-then : {s t u : SoFar} → Grows s t → Grows t u → Grows s u
 grows-then g h =
     let a = g .nodes-grow in
     let b = h .nodes-grow in
@@ -31,14 +31,14 @@ grows-then g h =
     let d = h .tests-grow in
     record { nodes-grow = omega arith; tests-grow = omega arith }
 
-grows-either : {s t u : Placed} (b : Bool) → Grows s t → Grows s u → Grows s (cond b t u)
+grows-either : {s t u : SoFar} (b : Bool) → Grows s t → Grows s u → Grows s (cond b t u)
 grows-either true g h = g
 grows-either false g h = h
 
-pub grows-node : (k a n : ℕ) (s : Placed) → Grows s (withNode k a n s)
+pub grows-node : (k a n : ℕ) (s : SoFar) → Grows s (withNode k a n s)
 grows-node k a n s = record { nodes-grow = omega arith; tests-grow = omega arith }
 
-pub grows-test : (k a n : ℕ) (s : Placed) → Grows s (withTest k a n s)
+pub grows-test : (k a n : ℕ) (s : SoFar) → Grows s (withTest k a n s)
 grows-test k a n s = record { nodes-grow = omega arith; tests-grow = omega arith }
 
 pub length-spread : (f k at : ℕ) (l : List ℕ) → length (spread f k at l) ≡ length l
@@ -53,23 +53,23 @@ length-spread (suc f) k at l = go (length-spread f k (at + 6 + 6 * word l (at + 
     go e true = e ∙ length-set l at k
     go e false = refl
 
-pub grows-event : (w : List ℕ) (s : Placed) → Grows s (event w s)
+pub grows-event : (w : List ℕ) (s : SoFar) → Grows s (event w s)
 unfolding event
 grows-event w s = grows-either (isDigit (byte w 0)) (grows-test 0 (number 0 w) 1 s) (grows-self s)
 
-grows-joint : (s : Placed) → Grows s (joint s)
+grows-joint : (s : SoFar) → Grows s (joint s)
 unfolding joint
 grows-joint s = grows-node 255 0 _ s
 
-pub grows-pair : (k : ℕ) (s : Placed) → Grows s (pair k s)
+pub grows-pair : (k : ℕ) (s : SoFar) → Grows s (pair k s)
 unfolding pair
 grows-pair k s = grows-test k 0 _ s
 
-grows-negation : (s : Placed) → Grows s (negation s)
+grows-negation : (s : SoFar) → Grows s (negation s)
 unfolding negation
 grows-negation s = grows-test 1 0 _ s
 
-grows-opening : (level : ℕ) (w : List ℕ) (s : Placed) → Grows s (opening level w s)
+grows-opening : (level : ℕ) (w : List ℕ) (s : SoFar) → Grows s (opening level w s)
 unfolding opening
 grows-opening level w s =
     grows-either
@@ -77,41 +77,41 @@ grows-opening level w s =
     (grows-then (grows-event w s) (grows-pair level (event w s)))
     (grows-either (named (wordRow 1) w) (grows-negation s) (grows-self s))
 
-pub row-length : (k : ℕ) (s : Placed) → length (row k s .nodes) ≡ length (joint s .nodes)
+pub row-length : (k : ℕ) (s : SoFar) → length (row k s .nodes) ≡ length (joint s .nodes)
 unfolding row
 row-length k s = length-spread (length (joint s .nodes)) k 0 (joint s .nodes)
 
-pub grows-row-joint : (k : ℕ) (s : Placed) → Grows (joint s) (row k s)
+pub grows-row-joint : (k : ℕ) (s : SoFar) → Grows (joint s) (row k s)
 unfolding row joint
 grows-row-joint k s = let e = row-length k s in record { nodes-grow = omega arith; tests-grow = omega arith }
 
-grows-row : (k : ℕ) (s : Placed) → Grows s (row k s)
+grows-row : (k : ℕ) (s : SoFar) → Grows s (row k s)
 unfolding row
 grows-row k s =
     let g = grows-joint s .nodes-grow in
     record { nodes-grow = rw (row-length k s) g; tests-grow = omega arith }
 
 -- a choice has the records of its event
-pub choice-length : (k : ℕ) (w : List ℕ) (s : Placed) → length (choice k w s .nodes) ≡ length (event w s .nodes)
+pub choice-length : (k : ℕ) (w : List ℕ) (s : SoFar) → length (choice k w s .nodes) ≡ length (event w s .nodes)
 unfolding choice
 choice-length k w s = length-sets (labelled k (event w s .nodes)) 2 (big (event w s .left % 65536)) ∙ length-spread (length (event w s .nodes)) k 0
     (event w s .nodes)
 
-pub grows-choice : (k : ℕ) (w : List ℕ) (s : Placed) → Grows (event w s) (choice k w s)
+pub grows-choice : (k : ℕ) (w : List ℕ) (s : SoFar) → Grows (event w s) (choice k w s)
 unfolding choice
 grows-choice k w s =
     let e = choice-length k w s in
     record { nodes-grow = omega arith; tests-grow = omega arith }
 
-pub grows-await : (k : ℕ) (w : List ℕ) (s : Placed) → Grows (event w s) (await k w s)
+pub grows-await : (k : ℕ) (w : List ℕ) (s : SoFar) → Grows (event w s) (await k w s)
 unfolding await
 grows-await k w s = grows-node k _ 1 (event w s)
 
-grows-single : (k : ℕ) (w : List ℕ) (s : Placed) → Grows s (single k w s)
+grows-single : (k : ℕ) (w : List ℕ) (s : SoFar) → Grows s (single k w s)
 unfolding single
 grows-single k w s = grows-node k _ _ s
 
-grows-form : (k : ℕ) (w : List ℕ) (s : Placed) → Grows s (form k w s)
+grows-form : (k : ℕ) (w : List ℕ) (s : SoFar) → Grows s (form k w s)
 unfolding form
 grows-form k w s =
     grows-either
@@ -122,11 +122,11 @@ grows-form k w s =
     (grows-then (grows-event w s) (grows-either (eqb (inside k 1) 44) (grows-choice k w s) (grows-await k w s)))
     (grows-single k w s))
 
-grows-comma : (level : ℕ) (s : Placed) → Grows s (comma level s)
+grows-comma : (level : ℕ) (s : SoFar) → Grows s (comma level s)
 unfolding comma
 grows-comma level s = grows-either (eqb level 1) (grows-joint s) (grows-self s)
 
-grows-place : (b level : ℕ) (w : List ℕ) (s : Placed) → Grows s (place b level w s)
+grows-place : (b level : ℕ) (w : List ℕ) (s : SoFar) → Grows s (place b level w s)
 unfolding place name
 grows-place b level w s =
     let k : ℕ = kindOf (drop 2 w) in
@@ -147,7 +147,7 @@ grows-text m [] x = grows-self (placed m x)
 grows-text m (b ∷ w) x = grows-then (grows-text m w x) (grows-place b (byte (levels (w ++ x)) 0) (w ++ x) (placed m (w ++ x)))
 
 -- what has room when it has grown has room
-pub room-before : {n m : ℕ} {s t : Placed} → Grows s t → Room n m t → Room n m s
+pub room-before : {n m : ℕ} {s t : SoFar} → Grows s t → Room n m t → Room n m s
 room-before g r =
     let a = g .nodes-grow in
     let b = g .tests-grow in

@@ -6,16 +6,16 @@ use native.Mathlib.Omega.{arith}
 use lib.ListN.{length, take, drop}
 use lib.Seq.{sets, length-sets}
 use Rattle.builder.specs.declared.build.Front.{Front}
-use Rattle.builder.specs.Building.{Placed, nodeBytes, testBytes, withNode, withTest, Region, Holds, Room}
-use Rattle.builder.specs.Building.{Ready, Places}
+use Rattle.builder.specs.Building.{SoFar, nodeBytes, testBytes, withNode, withTest, Region, Holds, Room}
+use Rattle.builder.specs.Building.{CanPlace, Places}
 use Rattle.builder.proofs.PlacedByConfigurations.{made}
-use Rattle.builder.proofs.Regions.{put-front, put-before, put-behind, put-inside, region-start, region-end}
-use Rattle.builder.proofs.Regions.{region-is, part-back}
-use Rattle.builder.proofs.Regions.{sets-all}
+use Rattle.builder.proofs.TableRegions.{put-front, put-before, put-behind, put-inside, region-start, region-end}
+use Rattle.builder.proofs.TableRegions.{region-is, part-back}
+use Rattle.builder.proofs.TableRegions.{sets-all}
 use Rattle.builder.proofs.PlacedGrows.{Grows, room-before}
 
 -- what is placed, seen as a part of the slice
-module _ {n m : ℕ} {t : List ℕ} {f : Front} {s : Placed} (h : Holds n m t f s) where
+module _ {n m : ℕ} {t : List ℕ} {f : Front} {s : SoFar} (h : Holds n m t f s) where
   pub nodes-start : f .node ≤ f .middle
   nodes-start = rw (h .middle-is) (region-start (h .nodes-there))
 
@@ -32,7 +32,7 @@ module _ {n m : ℕ} {t : List ℕ} {f : Front} {s : Placed} (h : Holds n m t f 
   tests-part = rw (h .end-is) (region-is (h .tests-there))
 
 -- a node in front
-module _ {n m : ℕ} {t : List ℕ} {f : Front} {s : Placed} (h : Holds n m t f s) (k a z : ℕ) (r : Room n m (withNode k a z s)) where
+module _ {n m : ℕ} {t : List ℕ} {f : Front} {s : SoFar} (h : Holds n m t f s) (k a z : ℕ) (r : Room n m (withNode k a z s)) where
   pub node-room : 6 ≤ f .node
   node-room = let e = h .nodes-there .ends in let b = r .for-nodes in omega arith
 
@@ -65,7 +65,7 @@ module _ {n m : ℕ} {t : List ℕ} {f : Front} {s : Placed} (h : Holds n m t f 
       })
 
 -- a configuration in front
-module _ {n m : ℕ} {t : List ℕ} {f : Front} {s : Placed} (h : Holds n m t f s) (k a z : ℕ) (r : Room n m (withTest k a z s)) where
+module _ {n m : ℕ} {t : List ℕ} {f : Front} {s : SoFar} (h : Holds n m t f s) (k a z : ℕ) (r : Room n m (withTest k a z s)) where
   pub test-room : 4 ≤ f .part - 6 * n
   test-room = let e = h .tests-there .ends in let b = r .for-tests in omega arith
 
@@ -102,7 +102,7 @@ module _ {n m : ℕ} {t : List ℕ} {f : Front} {s : Placed} (h : Holds n m t f 
 
 -- the nodes' bytes anew
 pub nodes-anew :
-    {n m : ℕ} {t : List ℕ} {f : Front} {s : Placed}
+    {n m : ℕ} {t : List ℕ} {f : Front} {s : SoFar}
     → Holds n m t f s
     → (w : List ℕ)
     → length w ≡ length (s .nodes)
@@ -128,7 +128,7 @@ nodes-anew {n} {m} {t} {f} {s} h w l =
 
 -- they are no more than the table's
 pub nodes-small :
-    {n m : ℕ} {t : List ℕ} {f : Front} {s : Placed}
+    {n m : ℕ} {t : List ℕ} {f : Front} {s : SoFar}
     → Holds n m t f s
     → length (take (f .middle - f .node) (drop (f .node) t)) ≤ 32778
 nodes-small {f = f} h =
@@ -138,31 +138,31 @@ nodes-small {f = f} h =
     rw (nodes-part h) (omega arith)
 
 -- nothing is placed
-pub places-none : {F : Placed → Placed} {t : List ℕ} {f : Front} → ((s : Placed) → F s ≡ s) → Places F t f t f
-places-none {t = t} {f = f} e n m s h r = subst (λ (x : Placed). Holds n m t f x) (sym (e s)) h
+pub places-none : {F : SoFar → SoFar} {t : List ℕ} {f : Front} → ((s : SoFar) → F s ≡ s) → Places F t f t f
+places-none {t = t} {f = f} e n m s h r = subst (λ (x : SoFar). Holds n m t f x) (sym (e s)) h
 
 -- another way to say what is placed
 pub ready-in :
-    {F G : Placed → Placed} {t : List ℕ} {f : Front}
-    → ((n m : ℕ) (s : Placed) → Holds n m t f s → F s ≡ G s)
-    → Ready G t f
-    → Ready F t f
-ready-in e (n, m, s, h, r) = (n, m, s, h, subst (λ (x : Placed). Room n m x) (sym (e n m s h)) r)
+    {F G : SoFar → SoFar} {t : List ℕ} {f : Front}
+    → ((n m : ℕ) (s : SoFar) → Holds n m t f s → F s ≡ G s)
+    → CanPlace G t f
+    → CanPlace F t f
+ready-in e (n, m, s, h, r) = (n, m, s, h, subst (λ (x : SoFar). Room n m x) (sym (e n m s h)) r)
 
 pub places-in :
-    {F G : Placed → Placed} {t : List ℕ} {f : Front} {t′ : List ℕ} {f′ : Front}
-    → ((n m : ℕ) (s : Placed) → Holds n m t f s → F s ≡ G s)
+    {F G : SoFar → SoFar} {t : List ℕ} {f : Front} {t′ : List ℕ} {f′ : Front}
+    → ((n m : ℕ) (s : SoFar) → Holds n m t f s → F s ≡ G s)
     → Places F t f t′ f′
     → Places G t f t′ f′
 places-in {t′ = t′} {f′ = f′} e p n m s h r =
-    subst (λ (x : Placed). Holds n m t′ f′ x) (e n m s h) (p n m s h (subst (λ (x : Placed). Room n m x) (sym (e n m s h)) r))
+    subst (λ (x : SoFar). Holds n m t′ f′ x) (e n m s h) (p n m s h (subst (λ (x : SoFar). Room n m x) (sym (e n m s h)) r))
 
 -- one after the other
-module _ {F G : Placed → Placed} (grows : (s : Placed) → Grows s (G s)) {t : List ℕ} {f : Front} where
-  pub ready-first : Ready (λ s. G (F s)) t f → Ready F t f
+module _ {F G : SoFar → SoFar} (grows : (s : SoFar) → Grows s (G s)) {t : List ℕ} {f : Front} where
+  pub ready-first : CanPlace (λ s. G (F s)) t f → CanPlace F t f
   ready-first (n, m, s, h, r) = (n, m, s, h, room-before (grows (F s)) r)
 
-  pub ready-second : {t′ : List ℕ} {f′ : Front} → Ready (λ s. G (F s)) t f → Places F t f t′ f′ → Ready G t′ f′
+  pub ready-second : {t′ : List ℕ} {f′ : Front} → CanPlace (λ s. G (F s)) t f → Places F t f t′ f′ → CanPlace G t′ f′
   ready-second (n, m, s, h, r) p = (n, m, F s, p n m s h (room-before (grows (F s)) r), r)
 
   pub places-then :

@@ -17,7 +17,7 @@ use Rattle.form.specs.Inside.Rows.{rowAt, wordRow, formRow, nameEnd, inside, na
 use Rattle.form.specs.Made.{big, named as eventsOf, tests, tableOf, needed}
 
 -- the records that are placed, and how many configurations are still to come
-pub record Placed : Type 0 where
+pub record SoFar : Type 0 where
   pub nodes : List ℕ
   pub tests : List ℕ
   pub left : ℕ
@@ -35,10 +35,10 @@ trailerBytes n m v =
     big (n % 65536) ++ (big (m % 65536) ++ (big (v % 65536) ++ (big ((6 * n + 4 * m) % 65536) ++ big (4 * m % 65536))))
 
 -- a record in front of those that are placed
-abbrev pub withNode : ℕ → ℕ → ℕ → Placed → Placed
+abbrev pub withNode : ℕ → ℕ → ℕ → SoFar → SoFar
 withNode k argument n s = record { nodes = nodeBytes k argument n ++ s .nodes; tests = s .tests; left = s .left }
 
-abbrev pub withTest : ℕ → ℕ → ℕ → Placed → Placed
+abbrev pub withTest : ℕ → ℕ → ℕ → SoFar → SoFar
 withTest k e n s = record { nodes = s .nodes; tests = testBytes k e n ++ s .tests; left = s .left - 1 }
 
 -- v, with the digits behind it that the text begins with
@@ -53,22 +53,22 @@ unfoldable pub joinedSize : ℕ → ℕ → List ℕ → ℕ
 joinedSize long at l = 1 + word l at + word l (long * word l at + at)
 
 -- a node that is not known to be a Seq or a Par yet, over the two in front
-unfoldable pub joint : Placed → Placed
+unfoldable pub joint : SoFar → SoFar
 joint s = withNode 255 0 (joinedSize 6 4 (s .nodes)) s
 
 -- and: 2, or: 3, over the two in front
-unfoldable pub pair : ℕ → Placed → Placed
+unfoldable pub pair : ℕ → SoFar → SoFar
 pair k s = withTest k 0 (joinedSize 4 2 (s .tests)) s
 
-unfoldable pub negation : Placed → Placed
+unfoldable pub negation : SoFar → SoFar
 negation s = withTest 1 0 (1 + word (s .tests) 2) s
 
 -- an event, if the text begins with its number
-unfoldable pub event : List ℕ → Placed → Placed
+unfoldable pub event : List ℕ → SoFar → SoFar
 event w s = cond (isDigit (byte w 0)) (withTest 0 (number 0 w) 1 s) s
 
 -- `(` at this level, before this text
-unfoldable pub opening : ℕ → List ℕ → Placed → Placed
+unfoldable pub opening : ℕ → List ℕ → SoFar → SoFar
 unfolding named
 opening level w s =
     let plain = cond (named (wordRow 1) w) (negation s) s in
@@ -86,19 +86,19 @@ abbrev pub labelled : ℕ → List ℕ → List ℕ
 labelled k l = spread (length l) k 0 l
 
 -- a Seq or a Par
-unfoldable pub row : ℕ → Placed → Placed
+unfoldable pub row : ℕ → SoFar → SoFar
 row k s =
     let j = joint s in
     record { nodes = labelled k (j .nodes); tests = s .tests; left = s .left }
 
 -- a When or an Until whose node is placed and not labelled; w is the text of its test
-unfoldable pub choice : ℕ → List ℕ → Placed → Placed
+unfoldable pub choice : ℕ → List ℕ → SoFar → SoFar
 choice k w s =
     let e = event w s in
     record { nodes = sets (labelled k (e .nodes)) 2 (big (e .left % 65536)); tests = e .tests; left = e .left }
 
 -- an Await
-unfoldable pub await : ℕ → List ℕ → Placed → Placed
+unfoldable pub await : ℕ → List ℕ → SoFar → SoFar
 await k w s =
     let e = event w s in
     withNode k (e .left) 1 e
@@ -114,11 +114,11 @@ unfolding hasPart
 ownSize k l = cond (hasPart k) (1 + word l 4) 1
 
 -- any other form; w begins with its number
-unfoldable pub single : ℕ → List ℕ → Placed → Placed
+unfoldable pub single : ℕ → List ℕ → SoFar → SoFar
 single k w s = withNode k (number 0 w) (ownSize k (s .nodes)) s
 
 -- the form of kind k by what stands in its brackets: parts; a configuration, and programs behind it or none; the text inside them being w
-unfoldable pub form : ℕ → List ℕ → Placed → Placed
+unfoldable pub form : ℕ → List ℕ → SoFar → SoFar
 unfolding inside
 form k w s =
     let r = row k s in
@@ -133,20 +133,24 @@ unfolding nameEnd
 behindJ k = 2 + (nameEnd (formRow k) - rowAt (formRow k))
 
 -- `J` before this text
-unfoldable pub name : List ℕ → Placed → Placed
+unfoldable pub name : List ℕ → SoFar → SoFar
 unfolding kindOf behindJ
 name w s =
     let k = kindOf (drop 2 w) in
     form k (drop (behindJ k) w) s
 
 -- `,` at this level
-unfoldable pub comma : ℕ → Placed → Placed
+unfoldable pub comma : ℕ → SoFar → SoFar
 comma level s =
     let j = joint s in
     cond (eqb level 1) j s
 
+-- a byte that can place something or change a level: any before the digits, and `J`
+unfoldable pub acting : ℕ → Bool
+acting b = ltb b 45 || eqb b 74
+
 -- byte b at this level, before this text
-unfoldable pub place : ℕ → ℕ → List ℕ → Placed → Placed
+unfoldable pub place : ℕ → ℕ → List ℕ → SoFar → SoFar
 place b level w s =
     let e = event w s in
     let o = opening level w s in
@@ -173,7 +177,7 @@ levels [] = []
 levels (b ∷ w) = relevel b w (levels w)
 
 -- what is placed once a text is read that m configurations stand in
-unfoldable pub placed : ℕ → List ℕ → Placed
+unfoldable pub placed : ℕ → List ℕ → SoFar
 placed m [] = record { nodes = []; tests = []; left = m }
 placed m (b ∷ w) = place b (byte (levels w) 0) w (placed m w)
 
@@ -186,7 +190,7 @@ pub record Region (t : List ℕ) (a b : ℕ) (l : List ℕ) : Type 0 where
   pub ends : a + length l ≡ b
 
 -- the table's bytes hold what is placed, n nodes and m configurations being to be placed in all
-pub record Holds (n m : ℕ) (t : List ℕ) (f : Front) (s : Placed) : Type 0 where
+pub record Holds (n m : ℕ) (t : List ℕ) (f : Front) (s : SoFar) : Type 0 where
   pub middle-is : f .middle ≡ 6 * n
   pub end-is : f .end ≡ 6 * n + 4 * m
   pub nodes-there : Region t (f .node) (6 * n) (s .nodes)
@@ -196,16 +200,16 @@ pub record Holds (n m : ℕ) (t : List ℕ) (f : Front) (s : Placed) : Type 0 wh
   pub small : length t ≤ 32778
 
 -- it has its place among them
-pub record Room (n m : ℕ) (s : Placed) : Type 0 where
+pub record Room (n m : ℕ) (s : SoFar) : Type 0 where
   pub for-nodes : length (s .nodes) ≤ 6 * n
   pub for-tests : length (s .tests) ≤ 4 * m
 
 -- whatever the table holds, F of it can be placed; and then it holds that
-abbrev pub Ready : (Placed → Placed) → List ℕ → Front → Type 0
-Ready F t f = (n : ℕ) × (m : ℕ) × (s : Placed) × Holds n m t f s × Room n m (F s)
+abbrev pub CanPlace : (SoFar → SoFar) → List ℕ → Front → Type 0
+CanPlace F t f = (n : ℕ) × (m : ℕ) × (s : SoFar) × Holds n m t f s × Room n m (F s)
 
-abbrev pub Places : (Placed → Placed) → List ℕ → Front → List ℕ → Front → Type 0
-Places F t f t′ f′ = (n m : ℕ) (s : Placed) → Holds n m t f s → Room n m (F s) → Holds n m t′ f′ (F s)
+abbrev pub Places : (SoFar → SoFar) → List ℕ → Front → List ℕ → Front → Type 0
+Places F t f t′ f′ = (n m : ℕ) (s : SoFar) → Holds n m t f s → Room n m (F s) → Holds n m t′ f′ (F s)
 
 -- the levels stand at the end of the bytes t, from byte d on
 pub record Stacked (t : List ℕ) (d : ℕ) (l : List ℕ) : Type 0 where

@@ -12,8 +12,8 @@ ghost use Rattle.form.specs.Made.{big};
 ghost use Rattle.builder.specs.Building.{nodeBytes, testBytes, trailerBytes, withPair, withNode, withTest, number, joinedSize};
 ghost use Rattle.form.specs.Inside.Rows.{TheNames, formRow, kinds, long, codeAt, nameEnd, kindOf, pairOf};
 ghost use Rattle.builder.specs.Building.{joint, pair, negation, event, opening, labelled, row, choice, await, single};
-ghost use Rattle.builder.specs.Building.{form, name, comma, place as placing, relevel as leveling};
-ghost use Rattle.builder.specs.Building.{Ready, Places, LevelReady, Levels, Buildable, Builds};
+ghost use Rattle.builder.specs.Building.{form, name, comma, acting, place as placing, relevel as leveling};
+ghost use Rattle.builder.specs.Building.{CanPlace, Places, LevelReady, Levels, Buildable, Builds};
 use form::is_digit;
 use form::names::FIRST_FORM;
 use form::names::FIRST_WORD;
@@ -60,11 +60,20 @@ pub fn build(text: &[u8], n: usize, m: usize, v: usize, table: &mut [u8])
         let rest = i;
         i -= 1;
         let b = text[i];
-        let level = byte_at(&levels, depth);
-        front = place(&names, b, level, &text[rest..], table, front);
-        depth = relevel(&names, b, &text[rest..], &mut levels, depth);
+        if acts(b) {
+            let level = byte_at(&levels, depth);
+            front = place(&names, b, level, &text[rest..], table, front);
+            depth = relevel(&names, b, &text[rest..], &mut levels, depth);
+        }
     }
     put_trailer(table, 6 * n + 4 * m, n, m, v);
+}
+
+// Whether a byte can place something or change a level: brackets, comma and blank stand before all others of a text, but for `J`.
+fn acts(b: u8) -> bool
+    ensures { λ r. ⌜ r ≡ acting b ⌝ }
+{
+    (b < b'-') | (b == b'J')
 }
 
 // Byte i, or 0 behind the end.
@@ -223,7 +232,7 @@ fn label(nodes: &mut [u8], kind: u8, argument: usize)
 
 // A node in front of those that are placed.
 fn place_node(table: &mut [u8], kind: u8, argument: usize, size: usize, front: Front) -> Front
-    requires { ⌜ Ready (withNode kind argument size) (now table) front ⌝ }
+    requires { ⌜ CanPlace (withNode kind argument size) (now table) front ⌝ }
     ensures { λ r. ⌜ Places (withNode kind argument size) (now (table .entry)) front (now (table .exit)) r ⌝ }
 {
     let at = front.node - 6;
@@ -235,7 +244,7 @@ fn place_node(table: &mut [u8], kind: u8, argument: usize, size: usize, front: F
 
 // A configuration in front of those that are placed.
 fn place_test(table: &mut [u8], kind: u8, e: usize, size: usize, front: Front) -> Front
-    requires { ⌜ Ready (withTest kind e size) (now table) front ⌝ }
+    requires { ⌜ CanPlace (withTest kind e size) (now table) front ⌝ }
     ensures { λ r. ⌜ Places (withTest kind e size) (now (table .entry)) front (now (table .exit)) r ⌝ }
 {
     let at = front.part - 4;
@@ -248,7 +257,7 @@ fn place_test(table: &mut [u8], kind: u8, e: usize, size: usize, front: Front) -
 
 // An event, if its number begins at byte i.
 fn place_event(text: &[u8], i: usize, table: &mut [u8], front: Front) -> Front
-    requires { ⌜ Ready (event (drop i (now text))) (now table) front ⌝ }
+    requires { ⌜ CanPlace (event (drop i (now text))) (now table) front ⌝ }
     ensures { λ r. ⌜ Places (event (drop i (now (text .entry)))) (now (table .entry)) front (now (table .exit)) r ⌝ }
 {
     if is_digit(byte_at(text, i)) {
@@ -260,7 +269,7 @@ fn place_event(text: &[u8], i: usize, table: &mut [u8], front: Front) -> Front
 
 // A node over the two in front.
 fn place_joint(table: &mut [u8], front: Front) -> Front
-    requires { ⌜ Ready joint (now table) front ⌝ }
+    requires { ⌜ CanPlace joint (now table) front ⌝ }
     ensures { λ r. ⌜ Places joint (now (table .entry)) front (now (table .exit)) r ⌝ }
 {
     let node = front.node;
@@ -271,7 +280,7 @@ fn place_joint(table: &mut [u8], front: Front) -> Front
 
 // An `and` or an `or` over the two in front.
 fn place_pair(kind: u8, table: &mut [u8], front: Front) -> Front
-    requires { ⌜ Ready (pair kind) (now table) front ⌝ }
+    requires { ⌜ CanPlace (pair kind) (now table) front ⌝ }
     ensures { λ r. ⌜ Places (pair kind) (now (table .entry)) front (now (table .exit)) r ⌝ }
 {
     let part = front.part;
@@ -282,7 +291,7 @@ fn place_pair(kind: u8, table: &mut [u8], front: Front) -> Front
 
 // A `not` over the one in front.
 fn place_not(table: &mut [u8], front: Front) -> Front
-    requires { ⌜ Ready negation (now table) front ⌝ }
+    requires { ⌜ CanPlace negation (now table) front ⌝ }
     ensures { λ r. ⌜ Places negation (now (table .entry)) front (now (table .exit)) r ⌝ }
 {
     let part = front.part;
@@ -300,7 +309,7 @@ fn place_opening(
     front: Front,
 ) -> Front
     requires { ⌜ TheNames (now names) ⌝ }
-    requires { ⌜ Ready (opening level (now text)) (now table) front ⌝ }
+    requires { ⌜ CanPlace (opening level (now text)) (now table) front ⌝ }
     ensures { λ r. ⌜ Places (opening level (now (text .entry))) (now (table .entry)) front (now (table .exit)) r ⌝ }
 {
     if 1 < level {
@@ -315,7 +324,7 @@ fn place_opening(
 
 // A Seq or a Par.
 fn place_row(kind: u8, table: &mut [u8], front: Front) -> Front
-    requires { ⌜ Ready (row kind) (now table) front ⌝ }
+    requires { ⌜ CanPlace (row kind) (now table) front ⌝ }
     ensures { λ r. ⌜ Places (row kind) (now (table .entry)) front (now (table .exit)) r ⌝ }
 {
     let next = place_joint(table, front);
@@ -327,7 +336,7 @@ fn place_row(kind: u8, table: &mut [u8], front: Front) -> Front
 
 // A When or an Until whose node is in front, its test beginning at byte i.
 fn place_choice(kind: u8, text: &[u8], i: usize, table: &mut [u8], front: Front) -> Front
-    requires { ⌜ Ready (choice kind (drop i (now text))) (now table) front ⌝ }
+    requires { ⌜ CanPlace (choice kind (drop i (now text))) (now table) front ⌝ }
     ensures { λ r. ⌜ Places (choice kind (drop i (now (text .entry)))) (now (table .entry)) front (now (table .exit)) r ⌝ }
 {
     let next = place_event(text, i, table, front);
@@ -339,7 +348,7 @@ fn place_choice(kind: u8, text: &[u8], i: usize, table: &mut [u8], front: Front)
 
 // An Await, its test beginning at byte i.
 fn place_await(kind: u8, text: &[u8], i: usize, table: &mut [u8], front: Front) -> Front
-    requires { ⌜ Ready (await kind (drop i (now text))) (now table) front ⌝ }
+    requires { ⌜ CanPlace (await kind (drop i (now text))) (now table) front ⌝ }
     ensures { λ r. ⌜ Places (await kind (drop i (now (text .entry)))) (now (table .entry)) front (now (table .exit)) r ⌝ }
 {
     let next = place_event(text, i, table, front);
@@ -358,7 +367,7 @@ fn place_single(
 ) -> Front
     requires { ⌜ TheNames (now names) ⌝ }
     requires { ⌜ (end ≡ nameEnd (formRow kind)) × (end ≤ long) ⌝ }
-    requires { ⌜ Ready (single kind (drop i (now text))) (now table) front ⌝ }
+    requires { ⌜ CanPlace (single kind (drop i (now text))) (now table) front ⌝ }
     ensures { λ r. ⌜ Places (single kind (drop i (now (text .entry)))) (now (table .entry)) front (now (table .exit)) r ⌝ }
 {
     let part = has_part(names, end);
@@ -381,7 +390,7 @@ fn place_form(
 ) -> Front
     requires { ⌜ TheNames (now names) ⌝ }
     requires { ⌜ (end ≡ nameEnd (formRow kind)) × (end ≤ long) ⌝ }
-    requires { ⌜ Ready (form kind (drop i (now text))) (now table) front ⌝ }
+    requires { ⌜ CanPlace (form kind (drop i (now text))) (now table) front ⌝ }
     ensures { λ r. ⌜ Places (form kind (drop i (now (text .entry)))) (now (table .entry)) front (now (table .exit)) r ⌝ }
 {
     if code(names, end + 4) == PARTS {
@@ -399,7 +408,7 @@ fn place_form(
 // `J` before this text.
 fn place_name(names: &[u8; LONG], text: &[u8], table: &mut [u8], front: Front) -> Front
     requires { ⌜ TheNames (now names) ⌝ }
-    requires { ⌜ Ready (name (now text)) (now table) front ⌝ }
+    requires { ⌜ CanPlace (name (now text)) (now table) front ⌝ }
     ensures { λ r. ⌜ Places (name (now (text .entry))) (now (table .entry)) front (now (table .exit)) r ⌝ }
 {
     let kind = kind_of(names, text);
@@ -410,7 +419,7 @@ fn place_name(names: &[u8; LONG], text: &[u8], table: &mut [u8], front: Front) -
 
 // `,` at this level.
 fn place_comma(level: u8, table: &mut [u8], front: Front) -> Front
-    requires { ⌜ Ready (comma level) (now table) front ⌝ }
+    requires { ⌜ CanPlace (comma level) (now table) front ⌝ }
     ensures { λ r. ⌜ Places (comma level) (now (table .entry)) front (now (table .exit)) r ⌝ }
 {
     if level == 1 {
@@ -422,7 +431,7 @@ fn place_comma(level: u8, table: &mut [u8], front: Front) -> Front
 // What byte b places at this level, before this text.
 fn place(names: &[u8; LONG], b: u8, level: u8, text: &[u8], table: &mut [u8], front: Front) -> Front
     requires { ⌜ TheNames (now names) ⌝ }
-    requires { ⌜ Ready (placing b level (now text)) (now table) front ⌝ }
+    requires { ⌜ CanPlace (placing b level (now text)) (now table) front ⌝ }
     ensures { λ r. ⌜ Places (placing b level (now (text .entry))) (now (table .entry)) front (now (table .exit)) r ⌝ }
 {
     match b {

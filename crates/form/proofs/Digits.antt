@@ -4,7 +4,7 @@ use mathlib.Core.Bool.{true}
 use mathlib.Core.Path.{_≡_}
 use native.Mathlib.Omega.{arith}
 use borrow.Author.Tests.{le-leb, leb-true}
-use Rattle.form.proofs.Tested.{both}
+use Rattle.form.proofs.ComputedTests.{both}
 use Rattle.form.specs.Inside.Machine.{isDigit}
 
 pub is-digit : (d : ℕ) → d < 10 → isDigit (48 + d) ≡ true

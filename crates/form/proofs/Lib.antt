@@ -1,5 +1,5 @@
 -- The laws, in the order in which they lean on one another.
-pub mod Tested
+pub mod ComputedTests
 pub mod Rows
 pub mod NamesRead
 pub mod Digits
@@ -9,15 +9,15 @@ pub mod Completes
 pub mod Meaning
 pub mod Sound
 pub mod FailsHere
-pub mod Making
+pub mod MadeByReading
 pub mod OneReading
 pub mod Spelled
 pub mod SaysInForm
 pub mod MadeNamed
 pub mod Counted
-pub mod Standing
+pub mod ReadSoFar
 pub mod MadeLength
-pub mod Places
+pub mod BytesAt
 pub mod MadeBytes
 pub mod Spans
 pub mod MadeRecords

@@ -17,7 +17,7 @@ use Rattle.form.specs.Made.{big, tests, named, nodesFrom, testsOf, trail
 use Rattle.form.specs.InForm.{InForm}
 use Rattle.form.proofs.MadeLength.{nodes-length, tests-length, table-length}
 use Rattle.form.proofs.MadeNamed.{named-least, named-most}
-use Rattle.form.proofs.Places.{Has, has-all, front, behind, word-there}
+use Rattle.form.proofs.BytesAt.{Has, has-all, front, behind, word-there}
 
 module _ (p : Program) where
   -- where the three parts of the table stand

@@ -21,7 +21,7 @@ use Rattle.form.proofs.Spans.{All, own-and, own-and-both}
 use Rattle.form.proofs.Spans
 use Rattle.form.proofs.MadeNamed.{larger-first, larger-second, named-rest}
 use Rattle.form.proofs.MadeBytes.{made-nodes, made-configurations, made-events}
-use Rattle.form.proofs.MadeRecords.{Node, Stands, no-parts, one-of, two-of}
+use Rattle.form.proofs.MadeRecords.{Node, RecordsAt, no-parts, one-of, two-of}
 use Rattle.form.proofs.MadeSpells.{spells, made-stands, made-spells}
 
 pub laid-out : {written : ℕ → ℕ} {n i c : ℕ} → Laid written n i c → laidOut written n i c ≡ true
@@ -73,7 +73,7 @@ module _ (t : List ℕ) (whole : sizeAt t 0 ≡ nodes t) where
   abbrev GoodWhere : {p : Program} → Parts p → Type 0
   GoodWhere v =
       (i j : ℕ)
-      → Stands t i j v
+      → RecordsAt t i j v
       → PartsInForm v
       → i + sizeOf v ≤ nodes t
       → j + testsParts v ≤ configurations t

@@ -17,7 +17,7 @@ use Rattle.table.proofs.Heights.{height-good}
 use Rattle.table.proofs.Laid.{both as both-true}
 use Rattle.form.specs.Made.{testsWith, testsParts, tests, behind as after, testRecords, recordsWith, testsOfParts}
 use Rattle.form.specs.Made.{tableOf}
-use Rattle.form.proofs.Places.{Has}
+use Rattle.form.proofs.BytesAt.{Has}
 use Rattle.form.proofs.Spans.{All, both, own-and, own-and-both, first-of, second-of, behind-own, first-behind}
 use Rattle.form.proofs.Spans.{second-behind}
 use Rattle.form.proofs.Spans

@@ -12,7 +12,7 @@ use Rattle.table.specs.Spells.{weight}
 use Rattle.form.specs.Made.{big, testsParts, asNumber, behind as after, node, nodesFromParts, testRecords}
 use Rattle.form.specs.Made.{recordsWith, testsOfParts}
 use Rattle.form.proofs.MadeLength.{nodes-long, test-length, tests-long}
-use Rattle.form.proofs.Places.{Has, front, behind, word-there}
+use Rattle.form.proofs.BytesAt.{Has, front, behind, word-there}
 
 -- a node's record and others behind it
 abbrev pub nodeRecord : ℕ → ℕ → ℕ → List ℕ → List ℕ
@@ -55,7 +55,7 @@ pub test-behind : {t : List ℕ} {c b : ℕ} (k e s : ℕ) {w : List ℕ} → c 
 test-behind k e s {w} z h = behind (k ∷ e ∷ big s) w z h
 
 -- the records of p stand at node i, its configurations from number j on
-pub record Stands (t : List ℕ) (i j : ℕ) {p : Program} (v : Parts p) : Type 0 where
+pub record RecordsAt (t : List ℕ) (i j : ℕ) {p : Program} (v : Parts p) : Type 0 where
   pub nodes-there : Has t (6 * i) (nodesFromParts j v)
   pub tests-there : Has t (configurationAt t j) (testsOfParts v)
 
@@ -98,12 +98,12 @@ Own t i j p = Node t i (kind p) (asNumber j (argument p)) (size p)
 
 pub record OnePart (t : List ℕ) (i j : ℕ) (p : Program) {q : Program} (v : Parts q) : Type 0 where
   pub own : Own t i j p
-  pub part : Stands t (i + 1) (after j (argument p)) v
+  pub part : RecordsAt t (i + 1) (after j (argument p)) v
 
 pub record TwoParts (t : List ℕ) (i j : ℕ) (p : Program) {q r : Program} (v : Parts q) (w : Parts r) : Type 0 where
   pub own : Own t i j p
-  pub first : Stands t (i + 1) (after j (argument p)) v
-  pub second : Stands t (i + 1 + sizeOf v) (after j (argument p) + testsParts v) w
+  pub first : RecordsAt t (i + 1) (after j (argument p)) v
+  pub second : RecordsAt t (i + 1 + sizeOf v) (after j (argument p) + testsParts v) w
 
 module _ {t : List ℕ} (i j : ℕ) (p : Program) (w : List ℕ) (n : Has t (6 * i) (node p (asNumber j (argument p)) ++ w)) where
   own-there : Own t i j p
@@ -113,10 +113,10 @@ module _ {t : List ℕ} (i j : ℕ) (p : Program) (w : List ℕ) (n : Has t (6 *
   behind-own = behind (node p (asNumber j (argument p))) w (omega arith) n
 
 module _ {t : List ℕ} (i j : ℕ) {p : Program} where
-  pub no-parts : {f : Leaf p} → Stands t i j (no-part f) → Own t i j p
+  pub no-parts : {f : Leaf p} → RecordsAt t i j (no-part f) → Own t i j p
   no-parts s = own-there i j p [] (s .nodes-there)
 
-  pub one-of : {q : Program} {f : One p q} (v : Parts q) → Stands t i j (one-part f v) → OnePart t i j p v
+  pub one-of : {q : Program} {f : One p q} (v : Parts q) → RecordsAt t i j (one-part f v) → OnePart t i j p v
   one-of v s =
       let x : List ℕ = nodesFromParts (after j (argument p)) v in
       record {
@@ -128,7 +128,7 @@ module _ {t : List ℕ} (i j : ℕ) {p : Program} where
             };
       }
 
-  pub two-of : {q r : Program} {f : Two p q r} (v : Parts q) (w : Parts r) → Stands t i j (two-parts f v w) → TwoParts t i j p v w
+  pub two-of : {q r : Program} {f : Two p q r} (v : Parts q) (w : Parts r) → RecordsAt t i j (two-parts f v w) → TwoParts t i j p v w
   two-of v w s =
       let next = after j (argument p) in
       let x : List ℕ = nodesFromParts next v in

@@ -12,10 +12,10 @@ use Rattle.table.specs.Spells.{weight, Configured, Argues, SpellsParts, Spells}
 use Rattle.table.proofs.ByParts.{written}
 use Rattle.table.proofs.Tree.{written-parts}
 use Rattle.form.specs.Made.{asNumber, nodesFrom, testRecords, recordsWith, testsOfParts, testsOf, tableOf}
-use Rattle.form.proofs.Places.{Has, front, behind}
+use Rattle.form.proofs.BytesAt.{Has, front, behind}
 use Rattle.form.proofs.MadeLength.{test-length}
 use Rattle.form.proofs.MadeBytes.{made-nodes, nodes-there, tests-there}
-use Rattle.form.proofs.MadeRecords.{testRecord, test-there, test-behind, tested-there, Stands, no-parts, one-of, two-of}
+use Rattle.form.proofs.MadeRecords.{testRecord, test-there, test-behind, tested-there, RecordsAt, no-parts, one-of, two-of}
 
 module _ (t : List ℕ) where
   -- d stands wherever its records do
@@ -51,7 +51,7 @@ module _ (t : List ℕ) where
   argues i j (configuration c) w e h = rw e (configured c _ (tested-there j c w h))
 
   -- p is spelled wherever its records stand
-  pub spells : {p : Program} (v : Parts p) (i j : ℕ) → Stands t i j v → SpellsParts t i v
+  pub spells : {p : Program} (v : Parts p) (i j : ℕ) → RecordsAt t i j v → SpellsParts t i v
   spells {p} (no-part f) i j s =
       let o = no-parts i j s in
       ((o .kind-is, o .size-is), argues i j (argument p) [] (o .argument-is) (s .tests-there))
@@ -71,7 +71,7 @@ module _ (t : List ℕ) where
       )
 
 -- all of the program stands from node 0 and configuration 0 on
-pub made-stands : (p : Program) → Stands (tableOf p) 0 0 (parts p)
+pub made-stands : (p : Program) → RecordsAt (tableOf p) 0 0 (parts p)
 unfolding nodesFrom testsOf
 made-stands p =
     let place : 6 * size p ≡ configurationAt (tableOf p) 0 = omega (arith, made-nodes p) in

@@ -17,7 +17,7 @@ use Rattle.table.proofs.ByParts.{written}
 use Rattle.table.proofs.Laid.{Laid, one, two, sizeOf}
 use Rattle.form.specs.Made.{larger, namedIn, namedWith, namedParts, named, testsWith, testsParts, tests}
 use Rattle.form.specs.Made.{behind as after, testRecords, recordsWith, testsOfParts, tableOf}
-use Rattle.form.proofs.Places.{Has, front, behind}
+use Rattle.form.proofs.BytesAt.{Has, front, behind}
 use Rattle.form.proofs.Spans.{All, both, own-and, own-and-both}
 use Rattle.form.proofs.Spans
 use Rattle.form.proofs.MadeLength.{tests-long}

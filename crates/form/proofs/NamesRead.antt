@@ -10,7 +10,7 @@ use borrow.Author.Tests.{eqb-true, eqb-false, eq-eqb, ne-eqb, leb-true, ltb-true
 use Rattle.form.specs.Names.{formOf}
 use Rattle.form.specs.Inside.Rows.{names, codeAt, rowAt, formRow, kinds, long, nameEnd, same, codesOf, cut, codes, opens}
 use Rattle.form.specs.Inside.Rows.{inName, firstName, home, codesFrom, letters, agree, placeFrom, placeOf}
-use Rattle.form.proofs.Tested.{both, all, all-at, same-list}
+use Rattle.form.proofs.ComputedTests.{both, all, all-at, same-list}
 use Rattle.form.proofs.Rows.{behind}
 
 cut-at : (l : List ℕ) (p : ℕ) → cut (drop p l) ≡ cond (eqb (getD l p 0) 0) [] (getD l p 0 ∷ cut (drop (suc p) l))

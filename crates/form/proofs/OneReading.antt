@@ -19,8 +19,8 @@ use Rattle.form.specs.Inside.Machine.{byte, prog, conf, inner, joint, nu
 use Rattle.letters.proofs.ReadsDecimal.{Reader, reads-decimal}
 use Rattle.form.proofs.Steps.{digit, step-num, step-conf, step-inner, step-tail, step-end, no-end}
 use Rattle.form.proofs.Accepts.{wants}
-use Rattle.form.proofs.Making.{Item, program, test, value, programOf, testOf, item, Maker, nested, Bracket}
-use Rattle.form.proofs.Making.{bracket, severalOf, add, ending, marked, make}
+use Rattle.form.proofs.MadeByReading.{Item, program, test, value, programOf, testOf, item, Maker, nested, Bracket}
+use Rattle.form.proofs.MadeByReading.{bracket, severalOf, add, ending, marked, make}
 
 -- a number's end
 make-end : (n : Number) (v : ℕ) (e : End) (σ : Stack) (x : List ℕ) (k : List Bracket)

@@ -12,7 +12,7 @@ use Rattle.letters.specs.Text.{bytes}
 use Rattle.form.specs.Names.{formOf}
 use Rattle.form.specs.Inside.Rows.{names, rowAt, formRow, kinds, long, codeAt, endsName, behindName, nameEnd, starts, named}
 use Rattle.form.specs.Inside.Rows.{wordRow, kindFrom, kindOf, pairOf, same}
-use Rattle.form.proofs.Tested.{both, all, all-at, same-list}
+use Rattle.form.proofs.ComputedTests.{both, all, all-at, same-list}
 
 pub length-names : length names ≡ long
 unfolding names
@@ -107,13 +107,13 @@ name-there k h = same-list _ _ (all-at kinds spelt refl k h)
 
 -- so far behind its row's beginning, and two codes more are in the table
 unfoldable apart : ℕ → Bool
-apart k = eqb (nameEnd (formRow k)) (rowAt (formRow k) + (length (formOf k .name) + 1)) && leb (nameEnd (formRow k)) 378
+apart k = eqb (nameEnd (formRow k)) (rowAt (formRow k) + (length (formOf k .name) + 1)) && leb (nameEnd (formRow k)) (long - 2)
 
 pub name-long : (k : ℕ) → k < kinds → nameEnd (formRow k) ≡ rowAt (formRow k) + (length (formOf k .name) + 1)
 unfolding all apart nameEnd formOf
-name-long k h = eqb-true _ _ (both {b = leb (nameEnd (formRow k)) 378} (all-at kinds apart refl k h) .0)
+name-long k h = eqb-true _ _ (both {b = leb (nameEnd (formRow k)) (long - 2)} (all-at kinds apart refl k h) .0)
 
-pub name-low : (k : ℕ) → k < kinds → nameEnd (formRow k) ≤ 378
+pub name-low : (k : ℕ) → k < kinds → nameEnd (formRow k) ≤ (long - 2)
 unfolding all apart nameEnd formOf
 name-low k h = leb-true _ _ (both {a = eqb (nameEnd (formRow k)) (rowAt (formRow k) + (length (formOf k .name) + 1))} (all-at kinds apart refl k h) .1)
 

@@ -22,7 +22,7 @@ use Rattle.form.specs.Inside.Machine.{End, close, comma, space, endByte,
 use Rattle.form.specs.Inside.Machine.{grown, Sym, Stack, byte, prog, name, parts, conf}
 use Rattle.form.specs.Inside.Machine.{inner, joint, num, tail, syms, ways, Next, dead, on}
 use Rattle.form.specs.Inside.Machine.{choose, then, run}
-use Rattle.form.proofs.Tested.{both, Each, each-at}
+use Rattle.form.proofs.ComputedTests.{both, Each, each-at}
 use Rattle.form.proofs.NamesRead.{home-in, name-on, name-code, column, letters-on, Read, read, opened}
 use Rattle.form.proofs.Digits.{digit-is}
 use Rattle.form.proofs.Meaning.{After, Means, Reads, reads-split, taken}

@@ -2,4 +2,4 @@
 pub mod Rows
 pub mod Machine
 pub mod Counted
-pub mod Standing
+pub mod ReadTo

@@ -23,10 +23,10 @@ use Rattle.table.proofs.Loaded.{fine-at}
 use Rattle.form.specs.Spelling.{spellArgument, spellTest}
 use Rattle.form.specs.Names.{opening}
 use Rattle.form.specs.Inside.Rows.{names, formRow, kinds, nameEnd, inside}
-use Rattle.form.proofs.Tested.{all, all-at}
+use Rattle.form.proofs.ComputedTests.{all, all-at}
 use Rattle.letters.specs.Rooms.{Puts}
 use Rattle.printer.specs.Printing.{Fits, linked, link, takesTest, takesNumber, argument, head}
-use Rattle.printer.specs.Printing.{Standing, Shows, Testable, ShowsTest}
+use Rattle.printer.specs.Printing.{Printable, Shows, Testable, ShowsTest}
 use Rattle.letters.proofs.Puts.{puts-none, puts-then}
 use Rattle.printer.proofs.SpelledBy.{Takes, takes-none, takes-number, takes-event, takes-test, codes-tell}
 use Rattle.printer.proofs.FitsInParts.{fits-first, fits-on}
@@ -110,7 +110,7 @@ test-at h e d c = record { among = omega (arith, fine-at h .argument-below); the
 
 module _ {t : List ℕ} {i : ℕ} where
   module _ (e : takesTest (kindAt t i) ≡ true) where
-    pub test-part : {at : ℕ} → Standing argument t i at → Testable t (tested t i) at
+    pub test-part : {at : ℕ} → Printable argument t i at → Testable t (tested t i) at
     test-part h =
         let x = test-of (argued-at (h .placed .spelled) e refl) in
         let y = ends-inside (h .placed .loaded .configurations-good) (x .test) (test-at (h .placed) (x .limit) (x .test) (x .there)) in
@@ -130,7 +130,7 @@ module _ {t : List ℕ} {i : ℕ} where
         }
 
   module _ (e : takesTest (kindAt t i) ≡ false) where
-    pub number-fits : takesNumber (kindAt t i) ≡ true → {at n : ℕ} → n ≡ argumentAt t i → Standing argument t i at → Fits at (decimal n)
+    pub number-fits : takesNumber (kindAt t i) ≡ true → {at n : ℕ} → n ≡ argumentAt t i → Printable argument t i at → Fits at (decimal n)
     number-fits f s h = rw s (rw (number-of (argued-at (h .placed .spelled) e f)) at (h .fits))
 
     pub puts-number : takesNumber (kindAt t i) ≡ true → {a b : List ℕ} {at r n : ℕ} → n ≡ argumentAt t i
@@ -150,7 +150,7 @@ name-short p = leb-true _ 12 (all-at kinds brief refl (kind p) (omega (arith, by
 
 -- the name, the argument, and what links it to a part
 module _ {t : List ℕ} {i k : ℕ} (e : k ≡ kindAt t i) where
-  module _ {at : ℕ} (h : Standing head t i at) where
+  module _ {at : ℕ} (h : Printable head t i at) where
     abbrev p : Program
     p = h .program
 
@@ -170,7 +170,7 @@ module _ {t : List ℕ} {i k : ℕ} (e : k ≡ kindAt t i) where
       behind-name : Fits x (argument p ++ link k)
       behind-name = fits-on (opening k) (argument p ++ link k) whole u
 
-      pub argument-part : Standing argument t i x
+      pub argument-part : Printable argument t i x
       argument-part = record { program = p; placed = h .placed; fits = fits-first (argument p) (link k) behind-name }
 
       pub link-fits : {c : List ℕ} {y : ℕ} → Shows argument t i b c x y → Fits y (link k)

@@ -2,7 +2,7 @@
 pub mod FitsInParts
 pub mod SpelledBy
 pub mod TestsIn
-pub mod Bounds
+pub mod ShortTests
 pub mod NodesIn
 pub mod ArgumentsIn
-pub mod Short
+pub mod ShortTexts

@@ -14,7 +14,7 @@ use Rattle.table.proofs.Parts.{of-one, of-two}
 use Rattle.table.proofs.Tree.{Tree, leaf, one, two, tree, spelled, written, size-pos}
 use Rattle.form.specs.Spelling.{spell}
 use Rattle.letters.specs.Rooms.{Puts}
-use Rattle.printer.specs.Printing.{Fits, head, rest, Standing, Shows}
+use Rattle.printer.specs.Printing.{Fits, head, rest, Printable, Shows}
 use Rattle.printer.proofs.SpelledBy.{spelled-by, rest-none, rest-one, rest-two}
 use Rattle.letters.proofs.Puts.{puts-then}
 use Rattle.printer.proofs.FitsInParts.{fits-first, fits-on}
@@ -70,7 +70,7 @@ two-parts a b (two {q = q} {r = r} h f x y) =
     record { first = q; second = r; there = spelled x; behind = spelled y; sizes = of-two f .size-is; rest-is = rest-two f }
 
 -- the texts of the node and of its parts fit
-module _ {t : List ℕ} {i at : ℕ} (h : Standing spell t i at) where
+module _ {t : List ℕ} {i at : ℕ} (h : Printable spell t i at) where
   abbrev p : Program
   p = h .program
 
@@ -80,7 +80,7 @@ module _ {t : List ℕ} {i at : ℕ} (h : Standing spell t i at) where
   here : Tree t i (children (kindAt t i)) p
   here = tree t i p (h .placed .spelled)
 
-  pub head-fits : Standing head t i at
+  pub head-fits : Printable head t i at
   head-fits = record { program = p; placed = h .placed; fits = fits-first (head p) (rest p) whole }
 
   pub first-less : (children (kindAt t i) ≡ 0 → ⊥) → sizeAt t (i + 1) < sizeAt t i
@@ -93,7 +93,7 @@ module _ {t : List ℕ} {i at : ℕ} (h : Standing spell t i at) where
     pub none-closes : children (kindAt t i) ≡ 0 → Fits x (bytes ")")
     none-closes e = rw (leaf-rest (tree-at (h .placed .spelled) e)) at rest-fits
 
-    pub first-part : (children (kindAt t i) ≡ 0 → ⊥) → Standing spell t (i + 1) x
+    pub first-part : (children (kindAt t i) ≡ 0 → ⊥) → Printable spell t (i + 1) x
     first-part n =
         let s = some-parts n here in
         let f : Fits x (spell (s .first) ++ s .more) = rw (s .rest-is) at rest-fits in
@@ -133,7 +133,7 @@ module _ {t : List ℕ} {i at : ℕ} (h : Standing spell t i at) where
         second-fits : Fits z second-text
         second-fits = fits-on (bytes ", ") second-text between w
 
-        pub second-part : Standing spell t (secondAt t i) z
+        pub second-part : Printable spell t (secondAt t i) z
         second-part =
             let l : secondAt t i + size (o .second) ≤ nodes t = omega (arith, h .placed .inside, o .sizes, written t (i + 1) (o .first) (o .there)) in
             record {

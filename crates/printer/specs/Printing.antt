@@ -57,7 +57,7 @@ unfoldable pub joint : ℕ → List ℕ
 joint k = cond (eqb k 2) (bytes " and ") (bytes " or ")
 
 -- some program stands at node i, and what is written of it fits
-pub record Standing (text : Program → List ℕ) (t : List ℕ) (i at : ℕ) : Type 0 where
+pub record Printable (text : Program → List ℕ) (t : List ℕ) (i at : ℕ) : Type 0 where
   pub program : Program
   pub placed : Placed t i program
   pub fits : Fits at (text program)

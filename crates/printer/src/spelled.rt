@@ -6,7 +6,7 @@ ghost use Rattle.form.specs.Names.{opening};
 ghost use Rattle.form.specs.Spelling.{spell};
 ghost use Rattle.form.specs.Inside.Rows.{TheNames, kinds, formRow, nameEnd, inside};
 ghost use Rattle.letters.specs.Rooms.{Puts};
-ghost use Rattle.printer.specs.Printing.{Fits, argument, linked, head, joint, Standing, Shows, Testable, ShowsTest};
+ghost use Rattle.printer.specs.Printing.{Fits, argument, linked, head, joint, Printable, Shows, Testable, ShowsTest};
 use crate::room::put;
 use crate::room::put_name;
 use crate::room::put_number;
@@ -28,7 +28,7 @@ use table::records::word_at;
 
 // Prints the program at node i.
 pub fn put_program(table: &[u8], i: usize, room: &mut [u8], at: usize) -> usize
-    requires { ⌜ Standing spell (now table) i at ⌝ }
+    requires { ⌜ Printable spell (now table) i at ⌝ }
     ensures { λ r. ⌜ Shows spell (now (table .entry)) i (now (room .entry)) (now (room .exit)) at r ⌝ }
 {
     let names = table_of_names();
@@ -38,7 +38,7 @@ pub fn put_program(table: &[u8], i: usize, room: &mut [u8], at: usize) -> usize
 // The same, with the table of names lent.
 fn put_node(names: &[u8; LONG], table: &[u8], i: usize, room: &mut [u8], at: usize) -> usize
     requires { ⌜ TheNames (now names) ⌝ }
-    requires { ⌜ Standing spell (now table) i at ⌝ }
+    requires { ⌜ Printable spell (now table) i at ⌝ }
     ensures { λ r. ⌜ Shows spell (now (table .entry)) i (now (room .entry)) (now (room .exit)) at r ⌝ }
 {
     let begun = put_head(names, table, i, room, at);
@@ -58,7 +58,7 @@ fn put_node(names: &[u8; LONG], table: &[u8], i: usize, room: &mut [u8], at: usi
 // What its own record tells: the name, the argument, and what stands between the argument and a part.
 fn put_head(names: &[u8; LONG], table: &[u8], i: usize, room: &mut [u8], at: usize) -> usize
     requires { ⌜ TheNames (now names) ⌝ }
-    requires { ⌜ Standing head (now table) i at ⌝ }
+    requires { ⌜ Printable head (now table) i at ⌝ }
     ensures { λ r. ⌜ Shows head (now (table .entry)) i (now (room .entry)) (now (room .exit)) at r ⌝ }
 {
     let k = kind_at(table, i);
@@ -83,7 +83,7 @@ fn put_opening(names: &[u8; LONG], k: usize, end: usize, room: &mut [u8], at: us
 // The argument of node i: a test, a number, or none, as the first code in its form's brackets tells.
 fn put_argument(table: &[u8], i: usize, code: u8, room: &mut [u8], at: usize) -> usize
     requires { ⌜ code ≡ inside (kindAt (now table) i) 0 ⌝ }
-    requires { ⌜ Standing argument (now table) i at ⌝ }
+    requires { ⌜ Printable argument (now table) i at ⌝ }
     ensures { λ r. ⌜ Shows argument (now (table .entry)) i (now (room .entry)) (now (room .exit)) at r ⌝ }
 {
     if code == TEST {

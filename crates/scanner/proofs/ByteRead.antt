@@ -12,15 +12,15 @@ use Rattle.form.specs.Inside.Machine.{Stack, on, step}
 use Rattle.form.specs.Inside.Rows.{long}
 use Rattle.scanner.specs.Rules.{behind-j, behind-bracket, held}
 use Rattle.scanner.specs.Turns.{turnOf, after}
-use Rattle.scanner.specs.Places.{Numbered, Kept, moved, entered, leaving, Lies}
+use Rattle.scanner.specs.Places.{Numbered, RingHolds, moved, entered, leaving, Lies}
 use Rattle.form.proofs.NamesRead.{in-names}
 use Rattle.scanner.specs.Scanning.{openedAt, Taken}
 use Rattle.scanner.proofs.TurnSteps.{turn-steps}
 use Rattle.scanner.proofs.PlaceKept.{Sits, sits-on, sits-opens, sits-program, sits-test, sits-out}
 use Rattle.scanner.proofs.PlaceKeptByTurns.{sits}
 use Rattle.scanner.proofs.LevelKept.{lies-on, lies-opens}
-use Rattle.scanner.proofs.Framing.{lies-program, lies-test}
-use Rattle.scanner.proofs.Leaving.{lies-out, at-end}
+use Rattle.scanner.proofs.LevelEntered.{lies-program, lies-test}
+use Rattle.scanner.proofs.LevelLeft.{lies-out, at-end}
 
 leaving-number : (t : List ℕ) (at : Place) (l : ℕ) (opens rests : List ℕ) → leaving t at l opens rests .number ≡ 0
 unfolding leaving
@@ -134,7 +134,7 @@ pub number-low : (p n : ℕ) → Numbered p n → n ≤ 65536
 number-low p zero m = omega arith
 number-low p (suc v) m = let l = m .2 in omega arith
 
-pub ringed : (t : List ℕ) (o d l : ℕ) (opens rests : List ℕ) → Kept t o d l opens rests → 0 < l → 0 < d
+pub ringed : (t : List ℕ) (o d l : ℕ) (opens rests : List ℕ) → RingHolds t o d l opens rests → 0 < l → 0 < d
 ringed t o d zero opens rests k h = absurd (omega arith)
 ringed t o zero (suc l) opens rests k h = absurd k
 ringed t o (suc d) (suc l) opens rests k h = omega arith

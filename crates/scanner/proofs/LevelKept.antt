@@ -7,20 +7,20 @@ use native.Mathlib.Omega.{arith}
 use lib.Dec.{eqb}
 use lib.ListN.{getD}
 use borrow.Author.Tests.{ne-eqb}
-use Rattle.form.proofs.Tested.{both}
+use Rattle.form.proofs.ComputedTests.{both}
 use Rattle.scanner.specs.declared.scan.Place.{Place}
 use Rattle.form.specs.Inside.Machine.{Stack}
 use Rattle.form.specs.Inside.Rows.{codeAt, codes}
 use Rattle.scanner.specs.Levels.{levelOf, levelAt}
-use Rattle.scanner.specs.Places.{isPlain, heads, fits, Follows, Placed, in-name, in-bracket}
+use Rattle.scanner.specs.Places.{isPlain, heads, fits, Follows, IsIn, in-name, in-bracket}
 use Rattle.scanner.specs.Places.{moved, Lies}
-use Rattle.scanner.proofs.Everywhere.{before-bracket, level-told}
-use Rattle.scanner.proofs.Across.{around-same, around-on, around-open}
-use Rattle.scanner.proofs.Ringing.{kept-same, under-same}
+use Rattle.scanner.proofs.NamesChecked.{before-bracket, level-told}
+use Rattle.scanner.proofs.AcrossBrackets.{around-same, around-on, around-open}
+use Rattle.scanner.proofs.RingOfFrames.{kept-same, under-same}
 use Rattle.scanner.proofs.PlaceKept.{Goes, follows-byte, heads-fits}
 
 module _ (t : List ℕ) (i : ℕ) (at : Place) (opens rests : List ℕ) (σ : Stack) (s : Lies t i at opens rests σ) where
-  placed-on : (q n : ℕ) → Goes (at .pc) (getD t i 0) q n → Placed t i (at .pc) (at .bracket) → Placed t (suc i) q (at .bracket)
+  placed-on : (q n : ℕ) → Goes (at .pc) (getD t i 0) q n → IsIn t i (at .pc) (at .bracket) → IsIn t (suc i) q (at .bracket)
   placed-on q n g (in-name h o a) =
       let k = g .in-head h in
       in-name (k .1) o (around-same t i (g .not-open) (g .not-close) (k .0) ∙ a)
@@ -59,7 +59,7 @@ module _ (t : List ℕ) (i : ℕ) (at : Place) (opens rests : List ℕ) (σ : St
       → Lies t (suc i) (moved at (suc q) 0 i) opens rests σ
   lies-opens {q} b e k f = go (s .placed)
     where
-      go : Placed t i (at .pc) (at .bracket) → Lies t (suc i) (moved at (suc q) 0 i) opens rests σ
+      go : IsIn t i (at .pc) (at .bracket) → Lies t (suc i) (moved at (suc q) 0 i) opens rests σ
       go (in-bracket c a g) = absurd (heads-fits (codes (at .pc)) (levelAt t (at .bracket)) c k g)
       go (in-name h o a) =
           let l = s .before in

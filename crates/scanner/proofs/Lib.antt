@@ -1,17 +1,17 @@
 -- The laws, in the order in which they lean on one another.
 pub mod RowSearch
 pub mod BackToBracket
-pub mod Everywhere
+pub mod NamesChecked
 pub mod SymbolSteps
 pub mod TurnSteps
 pub mod PlaceKept
 pub mod PlaceKeptByTests
 pub mod PlaceKeptByTurns
-pub mod Across
-pub mod Ringing
+pub mod AcrossBrackets
+pub mod RingOfFrames
 pub mod LevelKept
-pub mod Framing
-pub mod Leaving
+pub mod LevelEntered
+pub mod LevelLeft
 pub mod ByteRead
-pub mod Tallying
-pub mod Finishing
+pub mod CountsKept
+pub mod WholeTextRead

@@ -9,7 +9,7 @@ use lib.Dec.{eqb, ltb, leb}
 use lib.ListN.{getD}
 use borrow.Author.Tests.{eqb-true, eqb-false, eq-eqb, ne-eqb, lt-ltb, le-ltb, lt-leb, leb-false}
 use Rattle.form.specs.Inside.Rows.{codeAt, rowAt, formRow, kinds, codes, same, inName, firstName, placeFrom}
-use Rattle.form.proofs.Tested.{both}
+use Rattle.form.proofs.ComputedTests.{both}
 use Rattle.form.proofs.NamesRead.{codes-more, name-code, name-letter, name-from, edge, agree-at, Found, found, read-other}
 use Rattle.scanner.specs.declared.rules.Turn.{Turn}
 use Rattle.scanner.specs.declared.rules.Turn.the-variants.{Dead, On, Opens, Into, Out}
@@ -18,7 +18,7 @@ use Rattle.scanner.specs.Rules.{behind-j, behind-bracket}
 use Rattle.scanner.specs.Levels.{restOf}
 use Rattle.scanner.specs.Turns.{otherTurn, literalTurn}
 use Rattle.scanner.specs.Places.{isBracket, heads, fits, isPlain, Follows, Numbered}
-use Rattle.scanner.proofs.Everywhere.{close-out, name-heads}
+use Rattle.scanner.proofs.NamesChecked.{close-out, name-heads}
 use Rattle.scanner.proofs.SymbolSteps.{other-dead}
 
 -- from place p to place q, on the same level

@@ -7,7 +7,7 @@ use native.Mathlib.Omega.{arith}
 use lib.Dec.{eqb, ltb}
 use lib.ListN.{getD}
 use borrow.Author.Tests.{eqb-true, ne-eqb, ltb-true}
-use Rattle.form.proofs.Tested.{both}
+use Rattle.form.proofs.ComputedTests.{both}
 use Rattle.form.proofs.Digits.{digit-is}
 use Rattle.scanner.specs.declared.rules.Turn.the-variants.{Dead, On, Into}
 use Rattle.scanner.specs.declared.levels.Level.{Level}
@@ -19,9 +19,9 @@ use Rattle.scanner.specs.Turns.{digitTurn, testTurn, innerTurn}
 use Rattle.form.specs.Inside.Rows.{same}
 use Rattle.scanner.specs.Places.{isBracket, isTest, heads, fits, isPlain, Follows, isEnd}
 use Rattle.form.proofs.NamesRead.{codes-more}
-use Rattle.scanner.proofs.Everywhere.{after-test, after-inner}
-use Rattle.scanner.proofs.Everywhere.{before-test, before-inner}
-use Rattle.form.proofs.Tested.{same-list}
+use Rattle.scanner.proofs.NamesChecked.{after-test, after-inner}
+use Rattle.scanner.proofs.NamesChecked.{before-test, before-inner}
+use Rattle.form.proofs.ComputedTests.{same-list}
 use Rattle.scanner.specs.Rules.{behind-bracket, behind-n}
 use Rattle.scanner.proofs.SymbolSteps.{first-code}
 use Rattle.scanner.proofs.PlaceKept.{Goes, Tests, Sits, sits-dead, sits-on, sits-test}

@@ -7,7 +7,7 @@ use lib.Dec.{eqb, ltb, leb}
 use borrow.Author.Tests.{eqb-true, eqb-false, ne-eqb, eq-eqb, le-ltb, lt-ltb, le-leb, leb-true, ltb-true, ltb-false}
 use Rattle.form.specs.Inside.Rows.{codeAt, codes, inName, firstName}
 use Rattle.form.specs.Inside.Machine.{Number, event, plain, isDigit, grown, limit, sortOf}
-use Rattle.form.proofs.Tested.{both}
+use Rattle.form.proofs.ComputedTests.{both}
 use Rattle.form.proofs.Digits.{digit-is}
 use Rattle.form.proofs.NamesRead.{codes-more}
 use Rattle.scanner.specs.declared.rules.Turn.the-variants.{Dead, On, Into, Out}
@@ -17,7 +17,7 @@ use Rattle.scanner.specs.Rules.{behind-j, behind-a, behind-o, behind-com
 use Rattle.scanner.specs.Turns.{literalTurn, digitTurn, testTurn, innerTurn, partsTurn, jointTurn}
 use Rattle.scanner.specs.Turns.{symbolTurn, numberTurn, turnOf}
 use Rattle.scanner.specs.Places.{isBracket, isTest, isSeveral, heads, fits, Numbered}
-use Rattle.scanner.proofs.Everywhere.{after-number, name-heads, before-name}
+use Rattle.scanner.proofs.NamesChecked.{after-number, name-heads, before-name}
 use Rattle.scanner.proofs.SymbolSteps.{end-known}
 use Rattle.scanner.proofs.TurnSteps.{more}
 use Rattle.scanner.proofs.PlaceKept.{Goes, Sits, sits-dead, sits-on, sits-program, sits-out, As, sits-as}

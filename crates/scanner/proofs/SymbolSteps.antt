@@ -10,13 +10,13 @@ use borrow.Author.Tests.{eqb-true, eqb-false, ne-eqb, lt-ltb, le-ltb, le-leb, lt
 use Rattle.form.specs.Inside.Rows.{codeAt, formRow, kinds, codes, inName, firstName, placeFrom}
 use Rattle.form.specs.Inside.Machine.{close, endByte, Number, event, byte, prog, name, parts, conf, inner, space, joint}
 use Rattle.form.specs.Inside.Machine.{num, tail, isDigit, ending, sortOf, syms, Stack, choose, step}
-use Rattle.form.proofs.Tested.{same-list}
+use Rattle.form.proofs.ComputedTests.{same-list}
 use Rattle.form.proofs.NamesRead.{codes-at, codes-end, codes-more, out-on, end-out, symbol-out, sole}
 use Rattle.scanner.specs.declared.rules.Turn.the-variants.{Dead, On, Opens, Into, Out}
 use Rattle.scanner.specs.Rules.{behind-j, behind-bracket, behind-n, behind-comma, held}
 use Rattle.scanner.specs.Turns.{otherTurn, literalTurn, digitTurn, testTurn, innerTurn, partsTurn, after}
 use Rattle.scanner.specs.Places.{isEnd}
-use Rattle.scanner.proofs.Everywhere.{after-close, after-test, after-inner}
+use Rattle.scanner.proofs.NamesChecked.{after-close, after-test, after-inner}
 
 -- a code below 128 that is in no name is its byte
 pub held-byte : (p : ℕ) → inName p ≡ false → (codeAt p ≡ 0 → ⊥) → codeAt p < 128 → held p 0 ≡ byte (codeAt p) ∷ held (suc p) 0

@@ -17,7 +17,7 @@ use Rattle.scanner.specs.Rules.{behind-j, behind-a, behind-o, held}
 use Rattle.scanner.specs.Turns.{otherTurn, digitTurn, testTurn, innerTurn, partsTurn, literalTurn, jointTurn}
 use Rattle.scanner.specs.Turns.{symbolTurn, numberTurn, turnOf, after}
 use Rattle.scanner.specs.Places.{Numbered, isEnd}
-use Rattle.scanner.proofs.Everywhere.{close-out}
+use Rattle.scanner.proofs.NamesChecked.{close-out}
 use Rattle.scanner.proofs.SymbolSteps.{held-byte, held-end, held-digits, end-known, turn-literal}
 use Rattle.scanner.proofs.SymbolSteps.{skip, turn-program, turn-parts, turn-test, turn-inner, turn-digit}
 

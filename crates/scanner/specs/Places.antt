@@ -70,9 +70,9 @@ pub record Follows (t : List ℕ) (i p : ℕ) : Type 0 where
   pub first : codeAt (p - 1) ≡ 0 → getD t (i - 1) 0 < 97
 
 -- a name or a bracket of the text that the reader is in
-pub data Placed (t : List ℕ) (i p o : ℕ) : Type 0 where
-  in-name : heads (codes p) ≡ true → 0 < o → around t i ≡ around t o → Placed t i p o
-  in-bracket : (c : ℕ) → around t i ≡ found o c → fits (levelAt t o) c (codes p) ≡ true → Placed t i p o
+pub data IsIn (t : List ℕ) (i p o : ℕ) : Type 0 where
+  in-name : heads (codes p) ≡ true → 0 < o → around t i ≡ around t o → IsIn t i p o
+  in-bracket : (c : ℕ) → around t i ≡ found o c → fits (levelAt t o) c (codes p) ≡ true → IsIn t i p o
 
 abbrev pub isEnd : ℕ → Bool
 isEnd x = eqb x 41 || (eqb x 44 || eqb x 32)
@@ -87,13 +87,13 @@ abbrev pub Resumes : ℕ → ℕ → Type 0
 Resumes p q = (codes p ≡ codes q) × (128 ≤ codeAt (p - 1))
 
 -- the ring's last l frames are those of the levels round o, d being the next one's number
-abbrev pub Kept : List ℕ → ℕ → ℕ → ℕ → List ℕ → List ℕ → Type 0
-Kept t o d zero opens rests = Unit {0}
-Kept t o zero (suc l) opens rests = ⊥
-Kept t o (suc d) (suc l) opens rests =
+abbrev pub RingHolds : List ℕ → ℕ → ℕ → ℕ → List ℕ → List ℕ → Type 0
+RingHolds t o d zero opens rests = Unit {0}
+RingHolds t o zero (suc l) opens rests = ⊥
+RingHolds t o (suc d) (suc l) opens rests =
     (getD opens (d % 4096) 0 ≡ outerAt t o)
     × Resumes (getD rests (d % 4096) 0) (restAt t o)
-    × Kept t (outerAt t o) d l opens rests
+    × RingHolds t (outerAt t o) d l opens rests
 
 -- how many frames the ring holds with one more
 abbrev pub roomOf : ℕ → ℕ
@@ -132,6 +132,6 @@ pub record Lies (t : List ℕ) (i : ℕ) (at : Place) (opens rests : List ℕ) (
   pub few : at .live ≤ 4096
   pub numbered : Numbered (at .pc) (at .number)
   pub under : Under t (at .bracket) σ
-  pub placed : Placed t i (at .pc) (at .bracket)
+  pub placed : IsIn t i (at .pc) (at .bracket)
   pub follows : Follows t i (at .pc)
-  pub kept : Kept t (at .bracket) (at .depth) (at .live) opens rests
+  pub kept : RingHolds t (at .bracket) (at .depth) (at .live) opens rests

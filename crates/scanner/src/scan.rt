@@ -238,7 +238,11 @@ fn counted(names: &[u8; LONG], k: Tally, pc: usize, number: usize, b: u8) -> Tal
     ensures { λ r. ⌜ r ≡ tallyAt pc number b k ⌝ }
 {
     if number == 0 {
-        return counted_at(k, code(names, pc), b);
+        let x = code(names, pc);
+        if x < PROGRAM {
+            return k;
+        }
+        return counted_at(k, x, b);
     }
     named(names, k, pc, number, b)
 }

@@ -32,7 +32,7 @@ use Rattle.letters.specs.Text.{beginning}
 use Rattle.text.specs.Answers.{Reads, Prints, Fits}
 use Rattle.text.specs.Examples.{All, none, more, blank, controls, shared, examples-list}
 use Rattle.form.specs.Inside.Machine.{Next, dead, on, run, reach}
-use Rattle.form.specs.Inside.Standing.{start}
+use Rattle.form.specs.Inside.ReadTo.{start}
 use Rattle.form.proofs.Spelled.{says-spell}
 use Rattle.form.proofs.FailsHere.{stops as stops-there, fails as fails-there}
 use Rattle.form.proofs.RoundTrip.{made-too-large}

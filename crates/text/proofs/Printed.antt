@@ -13,17 +13,17 @@ use Rattle.text.specs.declared.TextPrinted.the-variants as told
 use Rattle.form.specs.Spelling.{spell}
 use Rattle.text.specs.Answers.{Prints, no-room, printed}
 use Rattle.letters.specs.Rooms.{Puts}
-use Rattle.printer.specs.Printing.{Standing, Shows}
+use Rattle.printer.specs.Printing.{Printable, Shows}
 use Rattle.letters.proofs.Rooms.{sets-front}
 use Rattle.printer.proofs.FitsInParts.{sets-none}
-use Rattle.printer.proofs.Short.{whole-fits}
+use Rattle.printer.proofs.ShortTexts.{whole-fits}
 
 module _ (t : List ℕ) (e : numberOf (verdictOf t) ≡ 0) where
   placed : Placed t 0 (treeOf t)
   placed = whole-placed (accepted t e .loaded)
 
   -- it can be printed
-  pub printable : Standing spell t 0 0
+  pub printable : Printable spell t 0 0
   printable = record { program = treeOf t; placed = placed; fits = whole-fits placed }
 
   put-whole : {old new : List ℕ} {r : ℕ} → Shows spell t 0 old new 0 r → Puts old new 0 (spell (treeOf t)) r

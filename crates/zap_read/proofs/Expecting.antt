@@ -18,7 +18,7 @@ use Rattle.form.specs.Made.{tableOf}
 use Rattle.text.specs.Answers.{Reads, fails, no-room, refused, read}
 use Rattle.text.proofs.TextRead.{the-type}
 use Rattle.form.proofs.MadeLength.{table-length}
-use Rattle.zap_read.specs.Told.{Told, Whole}
+use Rattle.zap_read.specs.Told.{Told, HasReading}
 
 failed : {text room after : List ℕ} {k : ℕ} → Reads text room after (answered.Fails k) → Fails text k
 failed (fails k f) = f
@@ -31,7 +31,7 @@ module _ {text room after : List ℕ} {r : TextRead} (o : Reads text room after 
   fails-within = there .within
 
   -- a text that fails has no reading
-  pub fails-not-whole : Whole text → ⊥
+  pub fails-not-whole : HasReading text → ⊥
   fails-not-whole (p, d) = there .unread p d
 
   -- and some text begins so exactly if it fails at its length
@@ -60,11 +60,11 @@ pub read-within : {text room after : List ℕ} {r : TextRead} → Reads text roo
 read-within {text} {room} {after} o e = read-fits (subst (Reads text room after) e o)
 
 -- any other answer is of a text with a reading
-pub others-whole : {text room after : List ℕ} {r : TextRead} → Reads text room after r → OneOf (1 ∷ 2 ∷ 3 ∷ []) (tagOf the-type r) → Whole text
+pub others-whole : {text room after : List ℕ} {r : TextRead} → Reads text room after r → OneOf (1 ∷ 2 ∷ 3 ∷ []) (tagOf the-type r) → HasReading text
 others-whole (fails k f) o = absurd (miss (1 ∷ 2 ∷ 3 ∷ []) 0 tt o)
 others-whole (no-room p d n) o = (p, d)
 others-whole (refused p d f n) o = (p, d)
 others-whole (read p d f n) o = (p, d)
 
-pub whole-begins : {text : List ℕ} → Whole text → Begins text
+pub whole-begins : {text : List ℕ} → HasReading text → Begins text
 whole-begins {text} (p, d) = (p, [], subst (Says (whole p)) (sym (append-nil text)) d)

@@ -13,8 +13,8 @@ Told true X = X
 Told false X = X → ⊥
 
 -- the text has a reading
-abbrev pub Whole : List ℕ → Type 0
-Whole text = (p : Program) × Says (whole p) text
+abbrev pub HasReading : List ℕ → Type 0
+HasReading text = (p : Program) × Says (whole p) text
 
 -- all bytes but the one at k are as they were
 abbrev pub OthersKept : ℕ → List ℕ → List ℕ → Type 0

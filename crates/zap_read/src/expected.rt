@@ -1,6 +1,6 @@
 // What reading tells of how a text may go on.
 ghost use Rattle.form.specs.Fails.{Begins};
-ghost use Rattle.zap_read.specs.Told.{Told, Whole};
+ghost use Rattle.zap_read.specs.Told.{Told, HasReading};
 use text::TextRead;
 use text::read::read;
 
@@ -18,7 +18,7 @@ pub fn begins(text: &[u8]) -> bool
 
 // The text has a reading.
 pub fn is_whole(text: &[u8]) -> bool
-    ensures { λ r. ⌜ Told r (Whole (now (text .entry))) ⌝ }
+    ensures { λ r. ⌜ Told r (HasReading (now (text .entry))) ⌝ }
 {
     let mut none = [0u8; 1];
     let answer = read(text, &mut none[..0]);

@@ -1,4 +1,5 @@
--- `list_lines` is safe and ends: the rooms keep their lengths, a block holds at most a byte more than the longest good line back, and a read has at most 65,536 lines.
+-- `list_lines` is safe and ends: the rooms keep their lengths, a block holds at most a byte more than the longest
+-- good line back, and a read has at most 65,536 lines.
 use Rattle.zap_run.proofs.list_lines.Statement.{statement}
 use Rattle.zap_run.proofs.list_lines.Tie as tie
 use borrow.Author.Needs.{needs}

@@ -1,11 +1,12 @@
+-- `build` meets its contract: before byte i the table holds what the bytes from there on place.
 use Rattle.builder.proofs.build.build.Statement.{statement}
 use Rattle.builder.proofs.build.build.Tie as tie
 use borrow.Author.Needs.{needs}
 use Prim.Native.Nat.{ℕ}
-use mathlib.Core.Path.{_≡_, refl, sym}
+use mathlib.Core.Path.{_≡_, refl, sym, _∙_}
 use native.Mathlib.Omega.{arith}
 use lib.ListN.{length-replicate}
-use Rattle.builder.proofs.BuiltWhole.{Under, under-starts, place-ready, level-ready, under-on, table-built}
+use Rattle.builder.proofs.BuiltWhole.{Under, under-starts, place-ready, level-ready, under-on, under-same, table-built}
 
 abbrev Inv-loop : tie.InvT-loop
 Inv-loop text n m v table₀ names₀ levels₀ depth₀ front₀ i₀ table levels depth front i =
@@ -23,25 +24,27 @@ loop-holds c =
 -- front = place(&names, b, level, &text[rest..], table, front);
 place-requires : tie.Need-place-requires Inv-loop μ-loop
 place-requires c κs =
-    let start = c .before .before .before .before .before .before .before .before .before .before .before in
-    let table-of-names = c .before .before .before .before .before .before .before .before .table-of-names in
-    let loop = c .before .before .before .before .before .before .before .loop in
-    let loop-test = c .before .before .before .before .before .before .loop-test in
+    let start = c .before .before .before .before .before .before .before .before .before .before .before .before .before in
+    let table-of-names = c .before .before .before .before .before .before .before .before .before .before .table-of-names in
+    let loop = c .before .before .before .before .before .before .before .before .before .loop in
+    let loop-test = c .before .before .before .before .before .before .before .before .loop-test in
     let byte-at = c .before .before .before .byte-at in
     (table-of-names .ensures, rw (byte-at .ensures) (place-ready (start .pre .1) (loop .inv) (loop-test .taken)))
 
 -- depth = relevel(&names, b, &text[rest..], &mut levels, depth);
 slice-aggregate-relevel : tie.Need-slice-aggregate-relevel Inv-loop μ-loop
 slice-aggregate-relevel c =
-    let loop = c .before .before .before .before .before .before .before .before .before .before .before .before .before .loop in
+    let loop = c .before .before .before .before .before .before .before .before .before .before .before .before .before .before .before .loop in
     sym (loop .inv .long)
 
 relevel-requires : tie.Need-relevel-requires Inv-loop μ-loop
 relevel-requires c κs =
-    let start = c .before .before .before .before .before .before .before .before .before .before .before .before .before .before .before .before .before in
-    let table-of-names = c .before .before .before .before .before .before .before .before .before .before .before .before .before .before .table-of-names in
-    let loop = c .before .before .before .before .before .before .before .before .before .before .before .before .before .loop in
-    let loop-test = c .before .before .before .before .before .before .before .before .before .before .before .before .loop-test in
+    let c8 = c .before .before .before .before .before .before .before .before in
+    let c16 = c8 .before .before .before .before .before .before .before .before in
+    let start = c16 .before .before .before in
+    let table-of-names = c16 .table-of-names in
+    let loop = c8 .before .before .before .before .before .before .before .loop in
+    let loop-test = c8 .before .before .before .before .before .before .loop-test in
     (table-of-names .ensures, level-ready (start .pre .1) (loop .inv) (loop-test .taken))
 
 -- while i > 0 {
@@ -49,9 +52,9 @@ loop-again : tie.Need-loop-again Inv-loop μ-loop
 loop-again c =
     let c8 = c .before .before .before .before .before .before .before .before in
     let c16 = c8 .before .before .before .before .before .before .before .before in
-    let start = c16 .before .before .before in
-    let loop = c8 .before .before .before .before .before .before .before .loop in
-    let loop-test = c8 .before .before .before .before .before .before .loop-test in
+    let start = c16 .before .before .before .before .before in
+    let loop = c16 .before .loop in
+    let loop-test = c16 .loop-test in
     let byte-at = c8 .before .before .before .byte-at in
     let place = c .before .before .before .before .before .before .before .place in
     let relevel = c .before .relevel in
@@ -60,6 +63,15 @@ loop-again c =
     (relevel .ensures)
     (relevel .kept .1 .1 .1 .0)
     (place .kept .1 .1 .1 .1 .0)
+
+loop-again-2 : tie.Need-loop-again-2 Inv-loop μ-loop
+loop-again-2 c =
+    let start = c .before .before .before .before .before .before .before .before in
+    let loop = c .before .before .before .before .loop in
+    let loop-test = c .before .before .before .loop-test in
+    let acts = c .before .acts in
+    let if1 = c .if1 in
+    under-same (start .pre .1) (loop .inv) (loop-test .taken) (sym (acts .ensures) ∙ if1 .left)
 
 -- put_trailer(table, 6 * n + 4 * m, n, m, v);
 put-trailer-requires : tie.Need-put-trailer-requires Inv-loop μ-loop
@@ -70,11 +82,10 @@ put-trailer-requires c κs =
 
 -- pub fn build
 returns : tie.Need-returns Inv-loop μ-loop
-returns c =
+returns c p g =
     let loop = c .before .before .before .before .before .loop in
     let loop-test = c .before .before .before .before .loop-test in
     let put-trailer = c .before .before .put-trailer in
-    λ p g.
     let e : loop .i ≡ 0 = let l = loop-test .left in omega arith in
     table-built g (rw e at (loop .inv)) _ (put-trailer .ensures)
 
@@ -95,7 +106,8 @@ build-spec =
     loop-holds
     (λ c. search needs)  -- sub-i: i -= 1;
     (λ c. search needs)  -- shared-slice-read-b: let b = text[i];
-    (λ c. sym (c .before .before .before .loop .inv .long))  -- slice-aggregate-byte-at: let level..
+    (λ c κs. search needs)  -- acts-requires: if acts(b) {
+    (λ c. search needs)  -- slice-aggregate-byte-at: let level = byte_at(&levels, depth);
     (λ c κs. search needs)  -- byte-at-requires
     (λ c. search needs)  -- sub-place: front = place(&names, b, level, &text[rest..], table, front);
     (λ c. search needs)  -- part-place-start
@@ -108,6 +120,8 @@ build-spec =
     relevel-requires
     (λ c. search needs)  -- loop-less: while i > 0 {
     loop-again
+    (λ c. search needs)  -- loop-less-2
+    loop-again-2
     (λ c. search needs)  -- mul-put-trailer-3: put_trailer(table, 6 * n + 4 * m, n, m, v);
     (λ c. search needs)  -- mul-put-trailer-4
     (λ c. search needs)  -- add-put-trailer

@@ -1,3 +1,4 @@
+-- `byte_at` meets its contract: 0 behind the end.
 use Rattle.builder.proofs.build.byte_at.Statement.{statement}
 use Rattle.builder.proofs.build.byte_at.Tie as tie
 use borrow.Author.Needs.{needs}

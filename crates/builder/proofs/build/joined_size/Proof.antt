@@ -1,3 +1,4 @@
+-- `joined_size` meets its contract: the sizes of the two in front, and one more.
 use Rattle.builder.proofs.build.joined_size.Statement.{statement}
 use Rattle.builder.proofs.build.joined_size.Tie as tie
 use borrow.Author.Needs.{needs}

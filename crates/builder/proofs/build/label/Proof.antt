@@ -1,3 +1,4 @@
+-- `label` meets its contract: the kind and the argument of the node in front.
 use Rattle.builder.proofs.build.label.Statement.{statement}
 use Rattle.builder.proofs.build.label.Tie as tie
 use borrow.Author.Needs.{needs}

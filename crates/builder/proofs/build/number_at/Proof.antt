@@ -1,3 +1,4 @@
+-- `number_at` meets its contract: before each digit the number so far goes on to the same number.
 use Rattle.builder.proofs.build.number_at.Statement.{statement}
 use Rattle.builder.proofs.build.number_at.Tie as tie
 use borrow.Author.Needs.{needs}

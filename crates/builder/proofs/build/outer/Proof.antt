@@ -1,3 +1,4 @@
+-- `outer` meets its contract: a level fewer, if there is one.
 use Rattle.builder.proofs.build.outer.Statement.{statement}
 use Rattle.builder.proofs.build.outer.Tie as tie
 use borrow.Author.Needs.{needs}

@@ -1,3 +1,4 @@
+-- `place` meets its contract: each byte that acts, and the others.
 use Rattle.builder.proofs.build.place.Statement.{statement}
 use Rattle.builder.proofs.build.place.Tie as tie
 use borrow.Author.Needs.{needs}

@@ -1,3 +1,4 @@
+-- `place_await` meets its contract: its test, and a node with the test's number.
 use Rattle.builder.proofs.build.place_await.Statement.{statement}
 use Rattle.builder.proofs.build.place_await.Tie as tie
 use borrow.Author.Needs.{needs}

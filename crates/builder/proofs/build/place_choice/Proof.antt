@@ -1,3 +1,4 @@
+-- `place_choice` meets its contract: its test, and the label of the node in front.
 use Rattle.builder.proofs.build.place_choice.Statement.{statement}
 use Rattle.builder.proofs.build.place_choice.Tie as tie
 use borrow.Author.Needs.{needs}

@@ -1,3 +1,4 @@
+-- `place_comma` meets its contract: a node over two, or nothing.
 use Rattle.builder.proofs.build.place_comma.Statement.{statement}
 use Rattle.builder.proofs.build.place_comma.Tie as tie
 use borrow.Author.Needs.{needs}

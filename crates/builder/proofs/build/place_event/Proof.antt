@@ -1,3 +1,4 @@
+-- `place_event` meets its contract: an event where a digit stands, or nothing.
 use Rattle.builder.proofs.build.place_event.Statement.{statement}
 use Rattle.builder.proofs.build.place_event.Tie as tie
 use borrow.Author.Needs.{needs}

@@ -1,3 +1,4 @@
+-- `place_joint` meets its contract: a node over the two in front, of a kind that is not known yet.
 use Rattle.builder.proofs.build.place_joint.Statement.{statement}
 use Rattle.builder.proofs.build.place_joint.Tie as tie
 use borrow.Author.Needs.{needs}

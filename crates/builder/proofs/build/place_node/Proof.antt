@@ -1,3 +1,4 @@
+-- `place_node` meets its contract: a node in front of those that are placed.
 use Rattle.builder.proofs.build.place_node.Statement.{statement}
 use Rattle.builder.proofs.build.place_node.Tie as tie
 use borrow.Author.Needs.{needs}

@@ -1,3 +1,4 @@
+-- `place_not` meets its contract: a `not` over the configuration in front.
 use Rattle.builder.proofs.build.place_not.Statement.{statement}
 use Rattle.builder.proofs.build.place_not.Tie as tie
 use borrow.Author.Needs.{needs}

@@ -1,3 +1,4 @@
+-- `place_opening` meets its contract: a pair, a `not`, or nothing.
 use Rattle.builder.proofs.build.place_opening.Statement.{statement}
 use Rattle.builder.proofs.build.place_opening.Tie as tie
 use borrow.Author.Needs.{needs}

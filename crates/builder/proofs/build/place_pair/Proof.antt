@@ -1,3 +1,4 @@
+-- `place_pair` meets its contract: an `and` or an `or` over the two in front.
 use Rattle.builder.proofs.build.place_pair.Statement.{statement}
 use Rattle.builder.proofs.build.place_pair.Tie as tie
 use borrow.Author.Needs.{needs}

@@ -1,3 +1,4 @@
+-- `place_row` meets its contract: a node over two, and its kind for all that follow one another.
 use Rattle.builder.proofs.build.place_row.Statement.{statement}
 use Rattle.builder.proofs.build.place_row.Tie as tie
 use borrow.Author.Needs.{needs}

@@ -1,3 +1,4 @@
+-- `place_single` meets its contract: a node over one part or none, with its number.
 use Rattle.builder.proofs.build.place_single.Statement.{statement}
 use Rattle.builder.proofs.build.place_single.Tie as tie
 use borrow.Author.Needs.{needs}

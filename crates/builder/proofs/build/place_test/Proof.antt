@@ -1,3 +1,4 @@
+-- `place_test` meets its contract: a configuration in front of those that are placed.
 use Rattle.builder.proofs.build.place_test.Statement.{statement}
 use Rattle.builder.proofs.build.place_test.Tie as tie
 use borrow.Author.Needs.{needs}

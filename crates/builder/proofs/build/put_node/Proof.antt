@@ -1,3 +1,4 @@
+-- `put_node` meets its contract: six bytes in front of the nodes.
 use Rattle.builder.proofs.build.put_node.Statement.{statement}
 use Rattle.builder.proofs.build.put_node.Tie as tie
 use borrow.Author.Needs.{needs}

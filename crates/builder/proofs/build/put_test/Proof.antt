@@ -1,3 +1,4 @@
+-- `put_test` meets its contract: four bytes in front of the configurations.
 use Rattle.builder.proofs.build.put_test.Statement.{statement}
 use Rattle.builder.proofs.build.put_test.Tie as tie
 use borrow.Author.Needs.{needs}

@@ -1,3 +1,4 @@
+-- `put_trailer` meets its contract: five numbers behind the records.
 use Rattle.builder.proofs.build.put_trailer.Statement.{statement}
 use Rattle.builder.proofs.build.put_trailer.Tie as tie
 use borrow.Author.Needs.{needs}

@@ -1,3 +1,4 @@
+-- `put_word` meets its contract: a number of 16 bits in two bytes.
 use Rattle.builder.proofs.build.put_word.Statement.{statement}
 use Rattle.builder.proofs.build.put_word.Tie as tie
 use borrow.Author.Needs.{needs}

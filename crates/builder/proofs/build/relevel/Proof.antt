@@ -1,8 +1,9 @@
+-- `relevel` meets its contract: each byte that changes a level, and the others.
 use Rattle.builder.proofs.build.relevel.Statement.{statement}
 use Rattle.builder.proofs.build.relevel.Tie as tie
 use borrow.Author.Needs.{needs}
 use native.Mathlib.Omega.{arith}
-use Rattle.builder.proofs.Stacks.{level-blank, level-opens, room-to-close, level-closes, level-comma, level-other}
+use Rattle.builder.proofs.LevelBytes.{level-blank, level-opens, room-to-close, level-closes, level-comma, level-other}
 
 -- let inner = depth - 1;
 sub-inner : tie.Need-sub-inner

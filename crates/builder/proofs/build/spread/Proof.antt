@@ -1,10 +1,11 @@
+-- `spread` meets its contract: the nodes looked at so far have the kind, and the next one stands where the last one's first part ends.
 use Rattle.builder.proofs.build.spread.Statement.{statement}
 use Rattle.builder.proofs.build.spread.Tie as tie
 use borrow.Author.Needs.{needs}
 use Prim.Native.Nat.{_-_}
 use native.Mathlib.Omega.{arith}
 use lib.ListN.{length, length-set}
-use Rattle.builder.proofs.Spread.{Spreading, spreading-starts, spreading-on, spreading-stops, spreading-ends}
+use Rattle.builder.proofs.LabelsSpread.{Spreading, spreading-starts, spreading-on, spreading-stops, spreading-ends}
 
 abbrev Inv-loop : tie.InvT-loop
 Inv-loop nodes₀ kind at₀ nodes at = Spreading kind nodes₀ nodes at

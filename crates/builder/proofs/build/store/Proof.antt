@@ -1,3 +1,4 @@
+-- `store` meets its contract: a store past the end does nothing.
 use Rattle.builder.proofs.build.store.Statement.{statement}
 use Rattle.builder.proofs.build.store.Tie as tie
 use borrow.Author.Needs.{needs}

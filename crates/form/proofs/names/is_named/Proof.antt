@@ -1,3 +1,4 @@
+-- `is_named` meets its contract: before byte i the text and the row are the same.
 use Rattle.form.proofs.names.is_named.Statement.{statement}
 use Rattle.form.proofs.names.is_named.Tie as tie
 use borrow.Author.Needs.{needs}

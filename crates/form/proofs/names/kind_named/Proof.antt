@@ -1,3 +1,4 @@
+-- `kind_named` meets its contract: no kind below k is named, and k is looked at next.
 use Rattle.form.proofs.names.kind_named.Statement.{statement}
 use Rattle.form.proofs.names.kind_named.Tie as tie
 use borrow.Author.Needs.{needs}

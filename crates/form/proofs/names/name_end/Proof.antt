@@ -1,3 +1,4 @@
+-- `name_end` meets its contract: before place p no name ends in its row.
 use Rattle.form.proofs.names.name_end.Statement.{statement}
 use Rattle.form.proofs.names.name_end.Tie as tie
 use borrow.Author.Needs.{needs}

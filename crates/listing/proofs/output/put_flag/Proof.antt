@@ -1,3 +1,4 @@
+-- `put_flag` meets its contract: one text of two.
 use borrow.Author.Needs.{needs}
 use Rattle.listing.proofs.output.put_flag.Statement.{statement}
 use Rattle.listing.proofs.output.put_flag.Tie as tie

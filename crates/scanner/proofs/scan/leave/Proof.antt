@@ -4,7 +4,7 @@ use Rattle.scanner.proofs.scan.leave.Tie as tie
 use Prim.Native.Nat.{_<_}
 use borrow.Author.Needs.{needs}
 use native.Mathlib.Omega.{arith}
-use Rattle.scanner.proofs.Leaving.{leaving-none, leaving-some}
+use Rattle.scanner.proofs.LevelLeft.{leaving-none, leaving-some}
 
 returns : tie.Need-returns
 returns c =

@@ -5,7 +5,7 @@ use borrow.Author.Needs.{needs}
 use Prim.Native.Nat.{ℕ, _-_}
 use mathlib.Core.Path.{_≡_, sym, _∙_}
 use lib.ListN.{length, length-replicate}
-use Rattle.scanner.proofs.Finishing.{Reading, reading-first, reading-stops, reading-goes, reading-short, reading-whole}
+use Rattle.scanner.proofs.WholeTextRead.{Reading, reading-first, reading-stops, reading-goes, reading-short, reading-whole}
 
 abbrev Inv-loop : tie.InvT-loop
 Inv-loop text names₀ opens₀ rests₀ at₀ k₀ i₀ opens rests at k i =

@@ -18,7 +18,7 @@ use Rattle.form.specs.Spelling.{spell}
 use Rattle.form.specs.Inside.Rows.{inside}
 use Rattle.printer.specs.Printing.{argument, linked, link, head, rest, Fits}
 use Rattle.printer.proofs.SpelledBy.{spelled-by, rest-none, rest-one, rest-two}
-use Rattle.printer.proofs.Bounds.{test-short}
+use Rattle.printer.proofs.ShortTests.{test-short}
 use Rattle.printer.proofs.ArgumentsIn.{Argued, no-argument, a-number, a-test, argued, test-at}
 use Rattle.printer.proofs.ArgumentsIn.{name-short}
 

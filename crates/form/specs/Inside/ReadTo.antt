@@ -1,4 +1,4 @@
--- Where a reader stands that goes through a text from left to right.
+-- How far a reader is that goes through a text from left to right.
 use Prim.Native.Nat.{ℕ, _+_, _≤_}
 use mathlib.Core.Path.{_≡_}
 use mathlib.Core.List.{List, [], _∷_}
@@ -11,7 +11,7 @@ abbrev pub start : Stack
 start = prog ∷ []
 
 -- i bytes are read, σ is still to come, and k is counted so far
-pub record Stands (text : List ℕ) (i : ℕ) (σ : Stack) (k : Counts) : Type 0 where
+pub record ReadTo (text : List ℕ) (i : ℕ) (σ : Stack) (k : Counts) : Type 0 where
   pub within : i ≤ length text
   pub runs-on : run start text ≡ run σ (drop i text)
   pub reaches-on : reach start text ≡ i + reach σ (drop i text)

@@ -16,26 +16,26 @@ use Rattle.form.specs.Fails.{Fails}
 use Rattle.form.specs.Made.{tests}
 use Rattle.form.specs.Inside.Machine.{Stack, Sym, byte, prog, name, conf, num}
 use Rattle.form.specs.Inside.Counted.{Counts}
-use Rattle.form.specs.Inside.Standing.{start, Stands}
+use Rattle.form.specs.Inside.ReadTo.{start, ReadTo}
 use Rattle.form.specs.Inside.Rows.{codeAt, codes, inName}
 use Rattle.form.specs.Inside.Machine.{last, ending, sortOf, syms}
 use Rattle.scanner.specs.Rules.{held}
 use Rattle.scanner.specs.Levels.{back, levelAt, top}
-use Rattle.scanner.specs.Places.{fits, Placed, in-bracket, Numbered, Lies}
+use Rattle.scanner.specs.Places.{fits, IsIn, in-bracket, Numbered, Lies}
 use Rattle.scanner.specs.Scanning.{Taken, countsOf, oneNode, oneTest, eventTo, tallyCode, tallyNumber}
 use Rattle.scanner.specs.Scanning.{tallyAt, Tells}
-use Rattle.form.proofs.Standing.{stands-first, stands-on, stands-dead, stands-short, stands-whole}
+use Rattle.form.proofs.ReadSoFar.{stands-first, stands-on, stands-dead, stands-short, stands-whole}
 use Rattle.form.proofs.NamesRead.{codes-more}
 use Rattle.scanner.proofs.SymbolSteps.{held-end, end-known}
 use Rattle.scanner.proofs.PlaceKept.{follows-symbol}
-use Rattle.scanner.proofs.Leaving.{at-end}
-use Rattle.scanner.proofs.Tallying.{counts-at}
+use Rattle.scanner.proofs.LevelLeft.{at-end}
+use Rattle.scanner.proofs.CountsKept.{counts-at}
 
 -- i bytes are read, and k is counted
 pub record Reading (t : List ℕ) (i : ℕ) (at : Place) (k : Tally) (opens rests : List ℕ) : Type 0 where
   pub left-over : Stack
   pub lies : Lies t i at opens rests left-over
-  pub stands : Stands t i (held (at .pc) (at .number) ++ left-over) (countsOf k)
+  pub stands : ReadTo t i (held (at .pc) (at .number) ++ left-over) (countsOf k)
   pub few-nodes : k .nodes ≤ i
   pub few-tests : k .tests ≤ i
 
@@ -45,7 +45,7 @@ first-place = record { pc = 0; number = 0; bracket = 0; depth = 0; live = 0 }
 abbrev first-tally : Tally
 first-tally = record { nodes = 0; tests = 0; events = 1 }
 
-placed-first : (t : List ℕ) → Placed t 0 0 0
+placed-first : (t : List ℕ) → IsIn t 0 0 0
 unfolding back levelAt codes fits
 placed-first t = in-bracket 0 refl refl
 
@@ -71,7 +71,7 @@ reading-first t opens rests =
         follows = follows-symbol 0 first-symbol t 0;
         kept = tt;
       };
-      stands = subst (λ (σ : Stack). Stands t 0 σ (countsOf first-tally)) (sym held-first) (stands-first t);
+      stands = subst (λ (σ : Stack). ReadTo t 0 σ (countsOf first-tally)) (sym held-first) (stands-first t);
       few-nodes = omega arith;
       few-tests = omega arith;
     }
@@ -127,7 +127,7 @@ module _ (t : List ℕ) (i : ℕ) (at : Place) (k : Tally) (opens rests : List �
       record {
         left-over = g .0;
         lies = subst (λ (j : ℕ). Lies t j next opens′ rests′ (g .0)) (sym (add-one i)) (g .1);
-        stands = subst (λ (x : Counts). Stands t (i + 1) (held (next .pc) (next .number) ++ g .0) x) c (stands-on (r .stands) h (g .2));
+        stands = subst (λ (x : Counts). ReadTo t (i + 1) (held (next .pc) (next .number) ++ g .0) x) c (stands-on (r .stands) h (g .2));
         few-nodes = omega (arith, n .0);
         few-tests = omega (arith, n .1);
       }
@@ -164,11 +164,11 @@ ended-number : (p n : ℕ) → Numbered p n → codeAt p ≡ 0 → n ≡ 0
 ended-number p zero m e = refl
 ended-number p (suc v) m e = absurd (end-known (codeAt p) (m .0) .2 e)
 
-at-last : (t : List ℕ) (i : ℕ) (σ : Stack) (c : Counts) → length t ≤ i → Stands t i σ c → Stands t (length t) σ c
+at-last : (t : List ℕ) (i : ℕ) (σ : Stack) (c : Counts) → length t ≤ i → ReadTo t i σ c → ReadTo t (length t) σ c
 at-last t i σ c h s =
     let w = s .within in
     let e : i ≡ length t = omega arith in
-    subst (λ (j : ℕ). Stands t j σ c) e s
+    subst (λ (j : ℕ). ReadTo t j σ c) e s
 
 module _ (t : List ℕ) (i : ℕ) (at : Place) (k : Tally) (opens rests : List ℕ) (r : Reading t i at k opens rests) where
   pub reading-short : length t ≤ i → (codeAt (at .pc) ≡ 0 → ⊥) → Tells t (answered.Fails i)
@@ -178,7 +178,7 @@ module _ (t : List ℕ) (i : ℕ) (at : Place) (k : Tally) (opens rests : List �
       let q : length t ≡ i = omega arith in
       let z = at-last t i (held (at .pc) (at .number) ++ r .left-over) (countsOf k) h (r .stands) in
       subst (λ (j : ℕ). Fails t j) q
-      (stands-short (subst (λ (σ : Stack). Stands t (length t) (σ ++ r .left-over) (countsOf k)) (s .2) z))
+      (stands-short (subst (λ (σ : Stack). ReadTo t (length t) (σ ++ r .left-over) (countsOf k)) (s .2) z))
 
   pub reading-whole : length t ≤ i → codeAt (at .pc) ≡ 0 → Tells t (answered.Counts (k .nodes) (k .tests) (k .events))
   reading-whole h e =
@@ -186,7 +186,7 @@ module _ (t : List ℕ) (i : ℕ) (at : Place) (k : Tally) (opens rests : List �
       let σ = at-end t i at opens rests (r .left-over) (r .lies) e in
       let q : held (at .pc) (at .number) ++ r .left-over ≡ [] = rw (n, σ, held-end (at .pc) e) refl in
       let z = at-last t i (held (at .pc) (at .number) ++ r .left-over) (countsOf k) h (r .stands) in
-      let w = stands-whole (subst (λ (τ : Stack). Stands t (length t) τ (countsOf k)) q z) in
+      let w = stands-whole (subst (λ (τ : Stack). ReadTo t (length t) τ (countsOf k)) q z) in
       (w .0, w .1, ap (λ (c : Counts). c .nodes) (w .2), ap (λ (c : Counts). c .tests) (w .2), ap (λ (c : Counts). c .events) (w .2))
 
 module _ (t : List ℕ) (i : ℕ) (at : Place) (k : Tally) (opens rests : List ℕ) (r : Reading t i at k opens rests) where

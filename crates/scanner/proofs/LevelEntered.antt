@@ -7,7 +7,7 @@ use native.Mathlib.Omega.{arith}
 use lib.Dec.{ltb}
 use lib.ListN.{length, getD, set}
 use borrow.Author.Tests.{lt-ltb, ltb-true}
-use Rattle.form.proofs.Tested.{both}
+use Rattle.form.proofs.ComputedTests.{both}
 use Rattle.scanner.specs.declared.levels.Bracket.{Bracket}
 use Rattle.scanner.specs.declared.levels.Level.{Level}
 use Rattle.scanner.specs.declared.levels.Level.the-variants.{Test}
@@ -17,12 +17,12 @@ use Rattle.form.specs.Inside.Rows.{codeAt, codes}
 use Rattle.scanner.specs.Rules.{behind-j, behind-bracket, held}
 use Rattle.scanner.specs.Levels.{found, around, levelOf, levelAt, restOf, outerAt, restAt, Under, level}
 use Rattle.form.specs.Inside.Rows.{same}
-use Rattle.scanner.specs.Places.{isBracket, heads, fits, Follows, Placed, in-name, in-bracket}
+use Rattle.scanner.specs.Places.{isBracket, heads, fits, Follows, IsIn, in-name, in-bracket}
 use Rattle.scanner.specs.Places.{roomOf, entered, Lies}
 use Rattle.form.proofs.NamesRead.{codes-more}
-use Rattle.form.proofs.Tested.{same-list}
-use Rattle.scanner.proofs.Across.{around-same, around-open}
-use Rattle.scanner.proofs.Ringing.{kept-push, held-same}
+use Rattle.form.proofs.ComputedTests.{same-list}
+use Rattle.scanner.proofs.AcrossBrackets.{around-same, around-open}
+use Rattle.scanner.proofs.RingOfFrames.{kept-push, held-same}
 use Rattle.scanner.proofs.PlaceKept.{Tests, one-back, follows-first}
 use Rattle.scanner.proofs.LevelKept.{level-is}
 
@@ -94,7 +94,7 @@ module _ (t : List ℕ) (i : ℕ) (at : Place) (opens rests : List ℕ) (σ : St
   -- into a rule for the bracket or name at q, from a level with c spaces so far
   enters : (to q c : ℕ) → around t q ≡ found (at .bracket) c → 0 < q → q ≤ suc i
       → same (codes (restOf (levelAt t (at .bracket)) c)) (codes (suc (at .pc))) ≡ true → 128 ≤ codeAt (at .pc)
-      → Placed t (suc i) to q → Follows t (suc i) to → Enters to q
+      → IsIn t (suc i) to q → Follows t (suc i) to → Enters to q
   enters to q c a z y e w k f =
       let x : codes (suc (at .pc)) ≡ codes (restAt t q) =
       sym (ap codes (rest-is t q (at .bracket) c a) ∙ same-list (codes (restOf (levelAt t (at .bracket)) c)) (codes (suc (at .pc))) e) in
@@ -116,7 +116,7 @@ module _ (t : List ℕ) (i : ℕ) (at : Place) (opens rests : List ℕ) (σ : St
   pub lies-program : getD t i 0 ≡ 74 → codeAt (at .pc) ≡ 128 → Enters behind-j (suc i)
   lies-program b e = go (s .placed)
     where
-      go : Placed t i (at .pc) (at .bracket) → Enters behind-j (suc i)
+      go : IsIn t i (at .pc) (at .bracket) → Enters behind-j (suc i)
       go (in-name k o a) = absurd (no-head-program (at .pc) e k)
       go (in-bracket c a f) =
           let n = around-same t i (λ z. omega arith) (λ z. omega arith) (λ z. omega arith) in
@@ -126,7 +126,7 @@ module _ (t : List ℕ) (i : ℕ) (at : Place) (opens rests : List ℕ) (σ : St
   pub lies-test : getD t i 0 ≡ 40 → Tests (at .pc) → Enters behind-bracket i
   lies-test b u = go (s .placed)
     where
-      go : Placed t i (at .pc) (at .bracket) → Enters behind-bracket i
+      go : IsIn t i (at .pc) (at .bracket) → Enters behind-bracket i
       go (in-name k o a) = absurd (u .no-head k)
       go (in-bracket c a f) =
           let m = u .in-body (levelAt t (at .bracket)) c f in

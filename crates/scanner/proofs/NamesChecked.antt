@@ -7,7 +7,7 @@ use native.Mathlib.Omega.{arith}
 use lib.Dec.{eqb, ltb, leb}
 use borrow.Author.Tests.{eqb-true, le-leb}
 use Rattle.form.specs.Inside.Rows.{long, codeAt, codes, same, inName}
-use Rattle.form.proofs.Tested.{both, all, all-at}
+use Rattle.form.proofs.ComputedTests.{both, all, all-at}
 use Rattle.form.proofs.NamesRead.{in-names, at-code, by-code, name-code}
 use Rattle.scanner.specs.Levels.{levelOf}
 use Rattle.scanner.specs.Places.{heads, fits, isPlain, isEnd}

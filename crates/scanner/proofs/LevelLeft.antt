@@ -15,14 +15,14 @@ use Rattle.form.specs.Inside.Rows.{formRow, kinds, codeAt, nameEnd, codes}
 use Rattle.scanner.specs.Rules.{held}
 use Rattle.scanner.specs.Levels.{found, around, levelIn, levelFrom, levelOf, levelAt, restOf, outerAt, restAt, Under, top}
 use Rattle.scanner.specs.Levels.{level}
-use Rattle.scanner.specs.Places.{isTop, heads, fits, Placed, in-name, in-bracket, Resumes, Kept}
+use Rattle.scanner.specs.Places.{isTop, heads, fits, IsIn, in-name, in-bracket, Resumes, RingHolds}
 use Rattle.scanner.specs.Places.{Numbered, leaving, Lies}
 use Rattle.form.proofs.NamesRead.{codes-end}
 use Rattle.scanner.proofs.BackToBracket.{back-within}
-use Rattle.scanner.proofs.Across.{around-close}
-use Rattle.scanner.proofs.Ringing.{held-same}
+use Rattle.scanner.proofs.AcrossBrackets.{around-close}
+use Rattle.scanner.proofs.RingOfFrames.{held-same}
 use Rattle.scanner.proofs.PlaceKept.{Closes, follows-symbol}
-use Rattle.scanner.proofs.Framing.{in-a-bracket}
+use Rattle.scanner.proofs.LevelEntered.{in-a-bracket}
 
 -- each rest fits its level
 rest-fits : (k : Level) (c : ℕ) → fits k c (codes (restOf k c)) ≡ true
@@ -74,7 +74,7 @@ module _ (t : List ℕ) (i : ℕ) (at : Place) (opens rests : List ℕ) (σ : St
   -- out of the bracket to place r, with l frames left in the ring
   out-at : (to : Place) → getD t i 0 ≡ 41 → 0 < at .bracket → (c : ℕ) → around t i ≡ found (at .bracket) c
       → to .bracket ≡ outerAt t (at .bracket) → Resumes (to .pc) (restAt t (at .bracket)) → to .number ≡ 0
-      → to .depth ≤ at .depth → to .live ≤ 4096 → Kept t (outerAt t (at .bracket)) (to .depth) (to .live) opens rests
+      → to .depth ≤ at .depth → to .live ≤ 4096 → RingHolds t (outerAt t (at .bracket)) (to .depth) (to .live) opens rests
       → (τ : Stack) → Under t (outerAt t (at .bracket)) τ → Lies t (suc i) to opens rests τ
   out-at to b z c a e r n d l k τ u =
       let w = around-close t i (at .bracket) c b z a in
@@ -87,10 +87,10 @@ module _ (t : List ℕ) (i : ℕ) (at : Place) (opens rests : List ℕ) (σ : St
         few = l;
         numbered = subst (λ (m : ℕ). Numbered (to .pc) m) (sym n) tt;
         under = subst (λ (o : ℕ). Under t o τ) (sym e) u;
-        placed = subst (λ (o : ℕ). Placed t (suc i) (to .pc) o) (sym e)
+        placed = subst (λ (o : ℕ). IsIn t (suc i) (to .pc) o) (sym e)
             (in-bracket (around t (at .bracket) .spaces) (w ∙ around-is t (at .bracket)) (rw (r .0) (rest-there t (at .bracket))));
         follows = follows-symbol (to .pc) (r .1) t (suc i);
-        kept = subst (λ (o : ℕ). Kept t o (to .depth) (to .live) opens rests) (sym e) k;
+        kept = subst (λ (o : ℕ). RingHolds t o (to .depth) (to .live) opens rests) (sym e) k;
       }
 
 peel : (t : List ℕ) (o : ℕ) (σ : Stack) → 0 < o → Under t o σ
@@ -99,9 +99,9 @@ peel t o σ h top = absurd (omega arith)
 peel t o σ h (level {σ = τ} x u) = (τ, u, refl)
 
 -- the ring's last frame
-kept-last : (t : List ℕ) (o d l : ℕ) (opens rests : List ℕ) → Kept t o d (suc l) opens rests
+kept-last : (t : List ℕ) (o d l : ℕ) (opens rests : List ℕ) → RingHolds t o d (suc l) opens rests
     → (getD opens ((d - 1) % 4096) 0 ≡ outerAt t o) × Resumes (getD rests ((d - 1) % 4096) 0) (restAt t o)
-    × Kept t (outerAt t o) (d - 1) l opens rests
+    × RingHolds t (outerAt t o) (d - 1) l opens rests
 kept-last t o zero l opens rests k = absurd k
 kept-last t o (suc d) l opens rests k = let z : suc d - 1 ≡ d = omega arith in rw z k
 
@@ -112,7 +112,7 @@ module _ (t : List ℕ) (i : ℕ) (at : Place) (opens rests : List ℕ) (σ : St
 
   out-to : getD t i 0 ≡ 41 → 0 < at .bracket → (c : ℕ) → around t i ≡ found (at .bracket) c
       → (τ : Stack) → Under t (outerAt t (at .bracket)) τ → σ ≡ held (restAt t (at .bracket)) 0 ++ τ
-      → (l : ℕ) → l ≤ 4096 → Kept t (at .bracket) (at .depth) l opens rests → Leaves l
+      → (l : ℕ) → l ≤ 4096 → RingHolds t (at .bracket) (at .depth) l opens rests → Leaves l
   unfolding leaving
   out-to b z c a τ u e zero m k = (
     τ,
@@ -130,7 +130,7 @@ module _ (t : List ℕ) (i : ℕ) (at : Place) (opens rests : List ℕ) (σ : St
   pub lies-out : getD t i 0 ≡ 41 → Closes (at .pc) → Leaves (at .live)
   lies-out b k = go (s .placed)
     where
-      go : Placed t i (at .pc) (at .bracket) → Leaves (at .live)
+      go : IsIn t i (at .pc) (at .bracket) → Leaves (at .live)
       go (in-name h o a) = absurd (k .no-head h)
       go (in-bracket c a f) =
           let z = in-a-bracket t (at .bracket) (k .in-body (levelAt t (at .bracket)) c f) in
@@ -185,7 +185,7 @@ pub at-end : (t : List ℕ) (i : ℕ) (at : Place) (opens rests : List ℕ) (σ 
     → codeAt (at .pc) ≡ 0 → σ ≡ []
 at-end t i at opens rests σ s e = go (s .placed)
   where
-    go : Placed t i (at .pc) (at .bracket) → σ ≡ []
+    go : IsIn t i (at .pc) (at .bracket) → σ ≡ []
     go (in-name h o a) = absurd (no-head-end (at .pc) e h)
     go (in-bracket c a f) =
         empty-top t (at .bracket) σ (top-is t (at .bracket) (top-end (at .pc) (levelAt t (at .bracket)) c e f)) (s .under)

@@ -10,12 +10,12 @@ use Rattle.form.specs.Fails.{Fails}
 use Rattle.form.specs.Made.{named, tests}
 use Rattle.form.specs.Inside.Machine.{Sym, Stack, dead, on, step, run, reach}
 use Rattle.form.specs.Inside.Counted.{Counts, counts, none, counted, tally}
-use Rattle.form.specs.Inside.Standing.{start, Stands}
+use Rattle.form.specs.Inside.ReadTo.{start, ReadTo}
 use Rattle.form.proofs.Counted.{tallied}
 use Rattle.form.proofs.FailsHere.{Stops, stops, fails}
 use Rattle.form.proofs.Sound.{has-reading, dead≢on, cons≢nil}
 
-pub stands-first : (t : List ℕ) → Stands t 0 start none
+pub stands-first : (t : List ℕ) → ReadTo t 0 start none
 stands-first t = record { within = omega arith; runs-on = refl; reaches-on = omega arith; counts-on = refl }
 
 -- the byte at i and those behind it
@@ -24,8 +24,8 @@ drop-at [] i h = absurd (omega arith)
 drop-at (b ∷ t) zero h = refl
 drop-at (b ∷ t) (suc i) h = let z : suc i + 1 ≡ suc (i + 1) = omega arith in rw z (drop-at t i (omega arith))
 
-pub stands-on : {t : List ℕ} {i : ℕ} {σ τ : Stack} {k : Counts} → Stands t i σ k
-    → i < length t → step σ (getD t i 0) ≡ on τ → Stands t (i + 1) τ (counted σ (getD t i 0) k)
+pub stands-on : {t : List ℕ} {i : ℕ} {σ τ : Stack} {k : Counts} → ReadTo t i σ k
+    → i < length t → step σ (getD t i 0) ≡ on τ → ReadTo t (i + 1) τ (counted σ (getD t i 0) k)
 unfolding run reach tally
 stands-on {t} {i} s h e =
     let z = drop-at t i h in
@@ -38,7 +38,7 @@ stands-on {t} {i} s h e =
     }
 
 -- no reading goes on at byte i
-pub stands-dead : {t : List ℕ} {i : ℕ} {σ : Stack} {k : Counts} → Stands t i σ k
+pub stands-dead : {t : List ℕ} {i : ℕ} {σ : Stack} {k : Counts} → ReadTo t i σ k
     → i < length t → step σ (getD t i 0) ≡ dead → Fails t i
 unfolding run reach
 stands-dead {t} {i} s h e =
@@ -53,7 +53,7 @@ drop-end [] = refl
 drop-end (b ∷ t) = drop-end t
 
 -- the text ends early
-pub stands-short : {t : List ℕ} {s : Sym} {σ : Stack} {k : Counts} → Stands t (length t) (s ∷ σ) k
+pub stands-short : {t : List ℕ} {s : Sym} {σ : Stack} {k : Counts} → ReadTo t (length t) (s ∷ σ) k
     → Fails t (length t)
 unfolding run reach
 stands-short {t} s =
@@ -63,7 +63,7 @@ stands-short {t} s =
     fails t (length t) (subst (Stops start t) a (stops t start)) (λ o. cons≢nil (sym (rw z at (s .runs-on)) ∙ o))
 
 -- the text ends with nothing more to come: it has a reading, and its counts are known
-pub stands-whole : {t : List ℕ} {k : Counts} → Stands t (length t) [] k
+pub stands-whole : {t : List ℕ} {k : Counts} → ReadTo t (length t) [] k
     → (p : Program) × Says (whole p) t × (k ≡ counts (size p) (tests p) (named p))
 unfolding run tally
 stands-whole {t} s =

@@ -14,15 +14,15 @@ use Rattle.form.specs.Inside.Rows.{codeAt, codes, opens, inName}
 use Rattle.form.proofs.NamesRead.{behind-symbol}
 use Rattle.scanner.specs.Rules.{held}
 use Rattle.scanner.specs.Levels.{around, levelAt, restOf, outerAt, restAt, Under, top, level}
-use Rattle.scanner.specs.Places.{Resumes, Kept, roomOf}
+use Rattle.scanner.specs.Places.{Resumes, RingHolds, roomOf}
 
 -- two numbers less than a ring apart have different places in it
 apart : (a j : ℕ) → a < j → j < a + 4096 → a % 4096 ≡ j % 4096 → ⊥
 apart a j g h e = omega arith
 
 -- a frame written further on leaves those that are held
-kept-set : (t : List ℕ) (o d l : ℕ) (opens rests : List ℕ) (j x y : ℕ) → d ≤ j → j + l < d + 4096 → Kept t o d l opens rests
-    → Kept t o d l (set opens (j % 4096) x) (set rests (j % 4096) y)
+kept-set : (t : List ℕ) (o d l : ℕ) (opens rests : List ℕ) (j x y : ℕ) → d ≤ j → j + l < d + 4096 → RingHolds t o d l opens rests
+    → RingHolds t o d l (set opens (j % 4096) x) (set rests (j % 4096) y)
 kept-set t o d zero opens rests j x y g h k = tt
 kept-set t o zero (suc l) opens rests j x y g h k = k
 kept-set t o (suc d) (suc l) opens rests j x y g h (a, b, k) =
@@ -34,7 +34,7 @@ kept-set t o (suc d) (suc l) opens rests j x y g h (a, b, k) =
       kept-set t (outerAt t o) d l opens rests j x y (omega arith) (omega arith) k,
     )
 
-kept-fewer : (t : List ℕ) (o d l : ℕ) (opens rests : List ℕ) → Kept t o d (suc l) opens rests → Kept t o d l opens rests
+kept-fewer : (t : List ℕ) (o d l : ℕ) (opens rests : List ℕ) → RingHolds t o d (suc l) opens rests → RingHolds t o d l opens rests
 kept-fewer t o d zero opens rests k = tt
 kept-fewer t o zero (suc l) opens rests k = k
 kept-fewer t o (suc d) (suc l) opens rests (a, b, k) = (a, b, kept-fewer t (outerAt t o) d l opens rests k)
@@ -44,29 +44,29 @@ low-place d = omega arith
 
 -- the frame of the level o, left at place p for a bracket at q
 pub kept-push : (t : List ℕ) (o q d l p : ℕ) (opens rests : List ℕ) → length opens ≡ 4096 → length rests ≡ 4096 → l ≤ 4096
-    → outerAt t q ≡ o → Resumes p (restAt t q) → Kept t o d l opens rests
-    → Kept t q (suc d) (roomOf l) (set opens (d % 4096) o) (set rests (d % 4096) p)
+    → outerAt t q ≡ o → Resumes p (restAt t q) → RingHolds t o d l opens rests
+    → RingHolds t q (suc d) (roomOf l) (set opens (d % 4096) o) (set rests (d % 4096) p)
 kept-push t o q d l p opens rests g h m e f k = go (ltb l 4096) refl
   where
     r : ℕ
     r = d % 4096
 
-    pushed : (n : ℕ) → n < 4096 → Kept t o d n opens rests → Kept t q (suc d) (suc n) (set opens r o) (set rests r p)
+    pushed : (n : ℕ) → n < 4096 → RingHolds t o d n opens rests → RingHolds t q (suc d) (suc n) (set opens r o) (set rests r p)
     pushed n z c =
         let a = getD-set-same opens r o 0 (rw g (low-place d)) in
         let b = getD-set-same rests r p 0 (rw h (low-place d)) in (
           a ∙ sym e,
           subst (λ (x : ℕ). Resumes x (restAt t q)) (sym b) f,
-          subst (λ (x : ℕ). Kept t x d n (set opens r o) (set rests r p)) (sym e)
+          subst (λ (x : ℕ). RingHolds t x d n (set opens r o) (set rests r p)) (sym e)
               (kept-set t o d n opens rests d o p (omega arith) (omega arith) c),
         )
 
-    full : (n : ℕ) → n ≡ 4096 → Kept t o d n opens rests → Kept t q (suc d) n (set opens r o) (set rests r p)
+    full : (n : ℕ) → n ≡ 4096 → RingHolds t o d n opens rests → RingHolds t q (suc d) n (set opens r o) (set rests r p)
     full n z c =
         let y : n ≡ suc 4095 = z in
         rw y (pushed 4095 (omega arith) (kept-fewer t o d 4095 opens rests (rw y at c)))
 
-    go : (b : Bool) → ltb l 4096 ≡ b → Kept t q (suc d) (cond b (suc l) l) (set opens r o) (set rests r p)
+    go : (b : Bool) → ltb l 4096 ≡ b → RingHolds t q (suc d) (cond b (suc l) l) (set opens r o) (set rests r p)
     go true b = pushed l (ltb-true l 4096 b) k
     go false b = let z = ltb-false l 4096 b in let y : l ≡ 4096 = omega arith in full l y k
 
@@ -87,7 +87,7 @@ module _ (t : List ℕ) (o i : ℕ) (e : around t i ≡ around t o) where
   unfolding restAt
   rest-same = ap (λ (r : Bracket). restOf (levelAt t (r .at)) (r .spaces)) e
 
-  pub kept-same : (d l : ℕ) (opens rests : List ℕ) → Kept t o d l opens rests → Kept t i d l opens rests
+  pub kept-same : (d l : ℕ) (opens rests : List ℕ) → RingHolds t o d l opens rests → RingHolds t i d l opens rests
   kept-same d zero opens rests k = tt
   kept-same zero (suc l) opens rests k = k
   kept-same (suc d) (suc l) opens rests k = rw (outer-same, rest-same) k
