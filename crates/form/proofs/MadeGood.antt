@@ -10,7 +10,7 @@ use Rattle.junior.specs.Program.{Program, Argument, no-argument, number, event,
 use Rattle.junior.specs.Program.{Parts, no-part, one-part, two-parts, parts, sizeOf, size}
 use Rattle.junior.proofs.Parts.{size-by, some-nodes}
 use Rattle.table.specs.Records.{nodes, configurations, events, sizeAt}
-use Rattle.table.specs.Good.{laidOut, goodNode}
+use Rattle.table.specs.Good.{last-kind, laidOut, goodNode}
 use Rattle.table.proofs.ByParts.{some-record}
 use Rattle.table.proofs.Laid.{Laid, one, two}
 use Rattle.table.proofs.Parts.{partCount, children-are, limitOf, by-kind}
@@ -48,7 +48,7 @@ module _ (t : List ℕ) (whole : sizeAt t 0 ≡ nodes t) where
         o .argument-is,
         children-are v,
         by-kind p .limit-is t,
-        le-leb (kind p) 12 (by-kind p .known),
+        le-leb (kind p) last-kind (by-kind p .known),
         lt-ltb a (limitOf t (argument p)) w,
         laid-out l,
         root-good i,

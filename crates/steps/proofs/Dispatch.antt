@@ -5,10 +5,11 @@ use mathlib.Core.Logic.{_≢_}
 use mathlib.Core.List.{List, [], _∷_}
 use native.Mathlib.Omega.{arith}
 use lib.ListN.{length, getD}
-use Rattle.junior.specs.Program.{Program, Nothing, Stop, Atom, Seq, Par, Loop, Repeat, Generate, Await, When}
-use Rattle.junior.specs.Program.{Until, Control, Local, kind}
 use Rattle.junior.specs.Term.{Term, prog}
+use Rattle.junior.specs.Program.{kind}
 use Rattle.table.specs.Records.{kindAt}
+use Rattle.table.specs.Good.{last-kind}
+use Rattle.table.proofs.Parts.{by-kind as its-kind}
 use Rattle.table.proofs.Tree.{size-pos}
 use Rattle.table.proofs.Loaded.{kind-of, in-table, own-node}
 use Rattle.state.specs.Kinds.{seq-kind, par-kind, await-kind, local-kind}
@@ -132,23 +133,7 @@ module _ {U : Term → Type 0} {table : List ℕ} {i : ℕ} {state m row : List 
     pub by-others : {L′ : Lent} {r : ℕ} → HasRun 0 Others (lent table state m row) i L′ r → HasRun 0 U (lent table state m row) i L′ r
     by-others run = widen (λ b p q a t h. other a h read x y z) run
 
-kind-below : (p : Program) → kind p < 13
-unfolding kind
-kind-below Nothing = omega arith
-kind-below Stop = omega arith
-kind-below (Atom a) = omega arith
-kind-below (Seq p q) = omega arith
-kind-below (Par p q) = omega arith
-kind-below (Loop p) = omega arith
-kind-below (Repeat n p) = omega arith
-kind-below (Generate s) = omega arith
-kind-below (Await c) = omega arith
-kind-below (When c p q) = omega arith
-kind-below (Until c p q) = omega arith
-kind-below (Control s p) = omega arith
-kind-below (Local s p) = omega arith
-
-between : {n k : ℕ} → 12 ≤ n → k ≡ n → k < 13 → n ≡ 12
+between : {n k : ℕ} → last-kind ≤ n → k ≡ n → k ≤ last-kind → n ≡ last-kind
 between l e u = omega arith
 
 -- n is none of these numbers
@@ -169,7 +154,7 @@ the-last (before, part, behind, o) {n} read (((((((((z, n0), n1), n2), n5), n6),
     let beyond-2 = past (past (past least n0) n1) n2 in
     let beyond-7 = past (past (past (past (past beyond-2 (λ e. w .2 (is ∙ e))) (λ e. w .0 (is ∙ e))) n5) n6) n7 in
     let beyond-11 = past (past (past (past beyond-7 (λ e. w .1 (is ∙ e))) n9) n10) n11 in
-    between beyond-11 is (kind-below (prog t))
+    between beyond-11 is (its-kind (prog t) .known)
 
 -- the node that the code has found is the one that the laws speak of
 pub run-at : {W : Term → Type 0} {L L′ : Lent} {r j k : ℕ} → j ≡ k → HasRun 0 W L j L′ r → HasRun 0 W L k L′ r

@@ -11,7 +11,7 @@ use Rattle.junior.specs.Program.{control, local, Two, seq, par, when, until, si
 use Rattle.junior.proofs.Parts.{parts-none, parts-one, parts-two}
 use Rattle.table.specs.Records.{nodes, configurations, kindAt, zeroAt, argumentAt, sizeAt, secondAt}
 use Rattle.table.specs.Records.{configurationAt}
-use Rattle.table.specs.Good.{children, argumentLimit, goodNode}
+use Rattle.table.specs.Good.{last-kind, children, argumentLimit, goodNode}
 use Rattle.table.specs.Spells.{Configured, configurationOf, Argues, Spells, form, programOf, tested, treeOf}
 use Rattle.table.specs.Inside.{ConfigurationsGood, NodesGood}
 use Rattle.table.specs.Inside.Weighing.{treeAt}
@@ -35,7 +35,7 @@ pub data Kind : ℕ → Type 0 where
   k11 : Kind 11
   k12 : Kind 12
 
-pub kind-below : (k : ℕ) → k ≤ 12 → Kind k
+pub kind-below : (k : ℕ) → k ≤ last-kind → Kind k
 kind-below zero h = k0
 kind-below (suc zero) h = k1
 kind-below (suc (suc zero)) h = k2

@@ -8,16 +8,16 @@ use lib.Dec.{eqb, leb, ltb}
 use lib.ListN.{getD, List·getD-eq-default}
 use borrow.Author.Tests.{lt-ltb, le-ltb, le-leb, lt-leb, eq-eqb, ne-eqb}
 use Rattle.table.specs.Records.{nodes, configurations, events, kindAt, zeroAt, argumentAt, sizeAt}
-use Rattle.table.specs.Good.{childCounts, children, argumentLimits, argumentLimit, laidOut, goodNode}
+use Rattle.table.specs.Good.{last-kind, childCounts, children, argumentLimits, argumentLimit, laidOut, goodNode}
 use Rattle.table.specs.Inside.Weighing.{SizedWhole, Within, OfKind}
 
 root-fine : (t : List ℕ) (n i : ℕ) → sizeAt t 0 ≡ n → n ≡ nodes t → (ltb 0 i || eqb (sizeAt t i) (nodes t)) ≡ true
 root-fine t n zero e f = rw (eq-eqb _ _ (e ∙ f))
 root-fine t n (suc i) e f = rw (lt-ltb 0 (suc i) (omega arith))
 
-pub bad-kind : (t : List ℕ) (i : ℕ) → 12 < kindAt t i → false ≡ goodNode t i
+pub bad-kind : (t : List ℕ) (i : ℕ) → last-kind < kindAt t i → false ≡ goodNode t i
 unfolding goodNode
-bad-kind t i h = rw (lt-leb (kindAt t i) 12 h)
+bad-kind t i h = rw (lt-leb (kindAt t i) last-kind h)
 
 -- the layout, by how many children there are and by the tests that pass
 module _ (written : ℕ → ℕ) (n i count : ℕ) where
@@ -66,7 +66,7 @@ within-of P i l =
     let e = F .long in
     record { long = omega arith; n-is = F .n-is; n-most = F .n-most; whole = P .whole; here = l }
 
-pub as-kind : {t : List ℕ} {i r : ℕ} → r ≡ kindAt t i → (k : ℕ) → r ≡ k → leb k 12 ≡ true → {limit count : ℕ}
+pub as-kind : {t : List ℕ} {i r : ℕ} → r ≡ kindAt t i → (k : ℕ) → r ≡ k → leb k last-kind ≡ true → {limit count : ℕ}
     → argumentLimit t k ≡ limit → children k ≡ count → OfKind t i k limit count
 as-kind e k f h l c = record { kind-is = sym e ∙ f; known = h; limit-is = l; count-is = c }
 

@@ -14,7 +14,7 @@ use Rattle.junior.specs.Program.{Two, seq, par, when, until, Parts, no-part, on
 use Rattle.junior.specs.Figures.{only-if, stops, figure, times, per}
 use Rattle.junior.proofs.Parts.{parts-none, parts-one, parts-two, only-parts}
 use Rattle.table.specs.Records.{configurations, events}
-use Rattle.table.specs.Good.{children, argumentLimit}
+use Rattle.table.specs.Good.{last-kind, children, argumentLimit}
 use Rattle.table.specs.Verdict.{Node, partsInOrder, preorder, endlessParts, endlessLoop}
 use Rattle.table.specs.Inside.Early.{Earliness, Tests}
 use Rattle.table.specs.Inside.Weighing.{Counts, levels, height}
@@ -33,7 +33,7 @@ limitOf t (configuration c) = configurations t
 
 -- what a program's kind says of it
 pub record ByKind (p : Program) : Type 0 where
-  pub known : kind p ≤ 12
+  pub known : kind p ≤ last-kind
   pub count-is : children (kind p) ≡ partCount (parts p)
   pub limit-is : (t : List ℕ) → argumentLimit t (kind p) ≡ limitOf t (argument p)
 

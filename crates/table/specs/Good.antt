@@ -15,6 +15,10 @@ laidOut written n i (suc (suc more)) =
     let second = i + 1 + written (i + 1) in
     ltb (i + 1) n && (ltb second n && eqb (written i) (1 + written (i + 1) + written second))
 
+-- the kinds go from 0, Nothing, to this one, Local
+abbrev pub last-kind : ℕ
+last-kind = 12
+
 -- how many children each kind has, in the order of the kinds: Seq, Par, When, Until two; Loop, Repeat, Control, Local one
 abbrev pub childCounts : List ℕ
 childCounts = 0 ∷ 0 ∷ 0 ∷ 2 ∷ 2 ∷ 1 ∷ 1 ∷ 0 ∷ 0 ∷ 2 ∷ 2 ∷ 1 ∷ 1 ∷ []
@@ -33,7 +37,7 @@ argumentLimit t k = getD (argumentLimits (events t) (configurations t)) k 0
 -- node i is good; record 0 must also have size N
 unfoldable pub goodNode : List ℕ → ℕ → Bool
 goodNode t i =
-    leb (kindAt t i) 12
+    leb (kindAt t i) last-kind
     && (eqb (zeroAt t i) 0
     && (ltb (argumentAt t i) (argumentLimit t (kindAt t i))
     && (laidOut (sizeAt t) (nodes t) i (children (kindAt t i)) && (ltb 0 i || eqb (sizeAt t i) (nodes t)))))

@@ -298,18 +298,21 @@ fn good_node(table: &[u8], n: usize, m: usize, v: usize, i: usize) -> bool
     ensures { λ r. ⌜ r ≡ goodNode (now (table .entry)) i ⌝ }
 {
     let k = kind_at(table, i);
-    if k > 12 {
+    if k > LAST_KIND {
         return false;
     }
     good_as(table, n, i, limit_of(k, m, v), children_of(k))
 }
+
+// The kinds go from 0, Nothing, to this one, Local.
+const LAST_KIND: usize = 12;
 
 // What the argument of kind k is below.
 fn limit_of(k: usize, m: usize, v: usize) -> usize
     ensures { λ r. ⌜ ((t : List ℕ) → m ≡ configurations t → v ≡ events t → argumentLimit t k ≡ r) ⌝ }
 {
     let limits = [1, 1, 65536, 1, 1, 1, 65536, v, m, m, m, v, v];
-    if k < 13 {
+    if k <= LAST_KIND {
         return limits[k];
     }
     0
@@ -339,13 +342,13 @@ fn first_deep(table: &[u8], i: usize, d: usize) -> usize
     first_deep(table, second, d + 1)
 }
 
-const CHILDREN: [usize; 13] = [0, 0, 0, 2, 2, 1, 1, 0, 0, 2, 2, 1, 1];
+const CHILDREN: [usize; LAST_KIND + 1] = [0, 0, 0, 2, 2, 1, 1, 0, 0, 2, 2, 1, 1];
 
 // How many children kind k has.
 pub fn children_of(k: usize) -> usize
     ensures { λ r. ⌜ children k ≡ r ⌝ }
 {
-    if k < 13 {
+    if k <= LAST_KIND {
         return CHILDREN[k];
     }
     0

@@ -9,7 +9,7 @@ use Rattle.junior.specs.Program.{Program, number, argument, Parts, no-part, one
 use Rattle.junior.specs.Figures.{stops, figure, per, every}
 use Rattle.table.specs.declared.weights.Weight.{Weight}
 use Rattle.table.specs.Records.{nodes, kindAt, sizeAt}
-use Rattle.table.specs.Good.{children, argumentLimit, goodNode}
+use Rattle.table.specs.Good.{last-kind, children, argumentLimit, goodNode}
 use Rattle.table.specs.Spells.{programOf}
 use Rattle.table.specs.Verdict.{endlessLoop}
 use Rattle.table.specs.Inside.{Framed, ConfigurationsGood, NodesGood}
@@ -127,7 +127,7 @@ pub record Within (t : List ℕ) (n i : ℕ) : Type 0 where
 -- its kind, what its argument must be below, and how many children it has
 pub record OfKind (t : List ℕ) (i k limit count : ℕ) : Type 0 where
   pub kind-is : kindAt t i ≡ k
-  pub known : leb k 12 ≡ true
+  pub known : leb k last-kind ≡ true
   pub limit-is : argumentLimit t k ≡ limit
   pub count-is : children k ≡ count
 
