@@ -42,13 +42,17 @@ enum { ZAPPER_GENERATIONS = 2, ZAPPER_MOST_ATOMS = 3, ZAPPER_WEIGHT = 4, ZAPPER_
 /* A start's answer. */
 enum { ZAPPER_START_PLACES = 2 };
 
-/* The words of an event set: event e is bit e % 64 of word e / 64. Where an answer names an event, ZAPPER_NO_EVENT says that there is none. */
-enum { ZAPPER_EVENT_WORDS = 4, ZAPPER_NO_EVENT = 64 * ZAPPER_EVENT_WORDS };
+/*
+ * The words of an event set: event e is bit e % 64 of word e / 64. Where an answer names an event or a node, ZAPPER_NO_EVENT and ZAPPER_NO_NODE
+ * say that there is none.
+ */
+enum { ZAPPER_EVENT_WORDS = 4, ZAPPER_NO_EVENT = 64 * ZAPPER_EVENT_WORDS, ZAPPER_NO_NODE = 4096 };
 
 /*
  * An instant's answer: how many events are present at its end and which is the lowest (ZAPPER_NO_EVENT if none is), how many atoms were written,
- * whether the program has finished (1 or 0), how many passes there were, and the events present: event e is bit e % 64 of place
- * ZAPPER_EVENTS + e / 64. If the instant is refused these are 0, but the lowest event is ZAPPER_NO_EVENT.
+ * whether the program has finished (1 or 0), how many passes there were; the node of the first test that was suspended in the last pass before
+ * the end was declared, and the event that it waited for (ZAPPER_NO_NODE and ZAPPER_NO_EVENT if the end never was); and the events present: event
+ * e is bit e % 64 of place ZAPPER_EVENTS + e / 64. If the instant is refused these are 0, but what names an event or a node says that there is none.
  */
 enum {
     ZAPPER_COUNT = 2,
@@ -56,7 +60,9 @@ enum {
     ZAPPER_ATOMS = 4,
     ZAPPER_FINISHED = 5,
     ZAPPER_PASSES = 6,
-    ZAPPER_EVENTS = 7,
+    ZAPPER_WAITS_NODE = 7,
+    ZAPPER_WAITS_EVENT = 8,
+    ZAPPER_EVENTS = 9,
     ZAPPER_INSTANT_PLACES = ZAPPER_EVENTS + ZAPPER_EVENT_WORDS
 };
 

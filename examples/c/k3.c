@@ -1,4 +1,5 @@
-/* Checks a table, starts its program and runs three instants of it (01, "Bench list", K3), listing each as the listing program does. */
+/* Checks a table, starts its program and runs three instants of it (01, "Bench list", K3), listing each as the listing program does
+ * and, where its end was declared, what it waited for. */
 #include <stdio.h>
 
 #include "zapper.h"
@@ -67,6 +68,8 @@ int main(void)
         print_events(answer + ZAPPER_EVENTS);
         print_atoms(atoms, answer[ZAPPER_ATOMS]);
         printf("\n");
+        if (answer[ZAPPER_WAITS_NODE] != ZAPPER_NO_NODE)
+            printf("  node %d waits for event %d\n", (int)answer[ZAPPER_WAITS_NODE], (int)answer[ZAPPER_WAITS_EVENT]);
     }
     return 0;
 }

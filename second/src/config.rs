@@ -47,6 +47,20 @@ impl Config {
         self.fixed(e) && !self.eval(e)
     }
 
+    /// The events that the configuration mentions, in the order of its text.
+    fn mentioned(&self) -> Vec<u8> {
+        match self {
+            Config::Event(s) => vec![*s],
+            Config::Not(c) => c.mentioned(),
+            Config::And(c1, c2) | Config::Or(c1, c2) => [c1.mentioned(), c2.mentioned()].concat(),
+        }
+    }
+
+    /// The lowest event that the configuration mentions and that isn't present in E (L1).
+    pub fn missing(&self, e: Env) -> Option<u8> {
+        self.mentioned().into_iter().filter(|&s| !e.present.has(s)).min()
+    }
+
     /// The form of the configuration lets it have this value before the end is declared (L2).
     pub fn early(&self, value: bool) -> bool {
         match self {

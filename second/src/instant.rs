@@ -2,7 +2,7 @@
 
 use crate::env::{Env, Events};
 use crate::figures::{self, Figures};
-use crate::rules::{self, Course};
+use crate::rules::{self, Course, Unknown};
 use crate::state;
 use crate::table::{self, Program, Refusal};
 use crate::term::{Flag, Term};
@@ -14,6 +14,15 @@ pub struct Report {
     pub atoms: usize,
     pub finished: bool,
     pub passes: usize,
+    /// The first suspended test of the last pass before the end was declared, and what it waits for (L1).
+    pub waits: Option<Wait>,
+}
+
+/// The node of a suspended test, and the lowest event that it mentions and doesn't find present.
+#[derive(Clone, Copy, Debug, PartialEq, Eq)]
+pub struct Wait {
+    pub node: usize,
+    pub event: u8,
 }
 
 /// Checks a table: refusals 1 to 8, or its figures.
@@ -54,11 +63,10 @@ pub fn in_any_order(
         return Err(Refusal::new(12, 0));
     }
     let mut course = Course::new(second_first);
-    let (answer, residual, events, passes) = passes(state::read(&program.root, room), handed, &mut course);
+    let (answer, residual, report) = passes(state::read(&program.root, room), handed, &mut course);
     state::write(&program.root, answer, &residual, room);
-    let atoms = course.actions.len();
-    row[..atoms].copy_from_slice(&course.actions);
-    Ok(Report { events, atoms, finished: answer == Flag::Term, passes })
+    row[..report.atoms].copy_from_slice(&course.actions);
+    Ok(report)
 }
 
 /// A table that passes 1 to 8, with its figures.
@@ -73,19 +81,37 @@ fn room<'a>(program: &Program, state: &'a mut [u8]) -> Result<&'a mut [u8], Refu
     state.get_mut(..4 * program.root.size).ok_or(Refusal::new(9, 0))
 }
 
-/// Instant(t) of 000, 5.2: the answer, the residual, the present events and the number of passes.
-pub fn passes(t: Term, handed: Events, course: &mut Course) -> (Flag, Term, Events, usize) {
+/// Instant(t) of 000, 5.2: the answer, the residual and the report.
+pub fn passes(t: Term, handed: Events, course: &mut Course) -> (Flag, Term, Report) {
     let mut now = t;
     let mut e = Env { present: handed, eoi: false, moved: false };
     let mut passes = 0;
+    let mut waits = None;
     loop {
+        course.unknown.clear();
         let (answer, rest, after) = rules::run(&now, e, course);
         passes += 1;
         e = match (answer, after.moved) {
-            (Flag::Stop | Flag::Term, _) => return (answer, rest, after.present, passes), // (47)
-            (Flag::Susp, false) => Env { eoi: true, ..after },                            // (48)
-            (Flag::Susp, true) => Env { moved: false, ..after },                          // (49)
+            // (47)
+            (Flag::Stop | Flag::Term, _) => {
+                let (events, atoms) = (after.present, course.actions.len());
+                return (answer, rest, Report { events, atoms, finished: answer == Flag::Term, passes, waits });
+            }
+            // (48)
+            (Flag::Susp, false) => {
+                waits = first_wait(&course.unknown);
+                Env { eoi: true, ..after }
+            }
+            // (49)
+            (Flag::Susp, true) => Env { moved: false, ..after },
         };
         now = rest;
     }
+}
+
+/// The suspended test of the lowest node. What is unknown mentions an event that isn't present.
+fn first_wait(unknown: &[Unknown]) -> Option<Wait> {
+    let first = unknown.iter().min_by_key(|test| test.at)?;
+    let event = first.test.missing(first.seen).expect("an event that isn't present");
+    Some(Wait { node: first.at, event })
 }

@@ -123,16 +123,18 @@ fn make(call: Call, second_first: &mut dyn FnMut() -> bool) -> String {
         Call::Instant { table, mut state, events, mut row } => {
             let answer = instant::in_any_order(&table, &mut state, events, &mut row, second_first);
             let Refusal { number, index } = answer.as_ref().err().copied().unwrap_or(Refusal::new(0, 0));
-            let refused = Report { events: Events::none(), atoms: 0, finished: false, passes: 0 };
+            let refused = Report { events: Events::none(), atoms: 0, finished: false, passes: 0, waits: None };
             let report = answer.unwrap_or(refused);
             format!(
-                "{number} {index} {} {} {} {} {} {} {} {}",
+                "{number} {index} {} {} {} {} {} {} {} {} {} {}",
                 words::list(report.events.rising()),
                 report.events.rising().count(),
                 report.events.rising().next().map_or(256, usize::from),
                 report.atoms,
                 u8::from(report.finished),
                 report.passes,
+                report.waits.map_or(4096, |wait| wait.node),
+                report.waits.map_or(256, |wait| usize::from(wait.event)),
                 words::hex(&state),
                 words::hex(&words::row_bytes(&row))
             )
@@ -166,9 +168,9 @@ mod tests {
         says(&format!("start {NOTHING} 0102030405"), "0 0 0000000005");
         says(&format!("start {NOTHING} 010203"), "9 0 010203");
         says(&format!("start {NOTHING} -"), "9 0 -");
-        says(&format!("instant {NOTHING} 00000000ff 0,0 -"), "0 0 0 1 0 0 1 1 03000000ff -");
-        says(&format!("instant {NOTHING} 00000000 - 0007"), "0 0 - 0 256 0 1 1 03000000 0007");
-        says(&format!("instant {NOTHING} 00000000 3,0,1 0007"), "11 1 - 0 256 0 0 0 00000000 0007");
+        says(&format!("instant {NOTHING} 00000000ff 0,0 -"), "0 0 0 1 0 0 1 1 4096 256 03000000ff -");
+        says(&format!("instant {NOTHING} 00000000 - 0007"), "0 0 - 0 256 0 1 1 4096 256 03000000 0007");
+        says(&format!("instant {NOTHING} 00000000 3,0,1 0007"), "11 1 - 0 256 0 0 0 4096 256 00000000 0007");
         // The text of the table.
         let text = words::hex(b"Jr.Nothing()");
         says(&format!("read {text} {NOTHING}0506"), &format!("0 0 16 {NOTHING}0506"));
@@ -206,7 +208,7 @@ mod tests {
         says(&format!("check {}", zeros(33_001)), "bad-line");
         says(&format!("start - {}", zeros(17_000)), &format!("1 0 {}", zeros(17_000)));
         says(&format!("start - {}", zeros(17_001)), "bad-line");
-        says(&format!("instant - - - {}", zeros(8_400)), &format!("1 0 - 0 256 0 0 0 - {}", zeros(8_400)));
+        says(&format!("instant - - - {}", zeros(8_400)), &format!("1 0 - 0 256 0 0 0 4096 256 - {}", zeros(8_400)));
         says(&format!("instant - - - {}", zeros(8_402)), "bad-line");
         for word in ["read", "print"] {
             for (given, room) in [(33_001, 0), (0, 33_001)] {
@@ -217,7 +219,7 @@ mod tests {
         says(&format!("print {} {}", zeros(33_000), zeros(33_000)), &format!("1 0 0 {}", zeros(33_000)));
         // The events may be as many as the line holds: 12 + 159,986 + 2 bytes are 160,000.
         let many = ",10".repeat(53_328);
-        says(&format!("instant - - 10{many} -"), "1 0 - 0 256 0 0 0 - -");
+        says(&format!("instant - - 10{many} -"), "1 0 - 0 256 0 0 0 4096 256 - -");
         says(&format!("instant - - 100{many} -"), "bad-line");
     }
 

@@ -1,8 +1,11 @@
-//! The listing program: one instant for each line of input, one line of output for each.
+//! The listing program: one instant for each line of input, one line of output for each; and the program for people,
+//! which says under each instant whose end was declared what the program waits for (L1).
 
 use crate::env::Events;
-use crate::instant;
-use crate::table::Refusal;
+use crate::instant::{self, Wait};
+use crate::spell;
+use crate::state;
+use crate::table::{Node, Refusal};
 use crate::words;
 use std::io::{BufRead, Result, Write};
 
@@ -11,12 +14,33 @@ const LINE_BYTES: usize = 1024;
 
 /// Plays a table over an input.
 pub fn play(table: &[u8], input: impl BufRead, out: &mut impl Write) -> Result<()> {
+    each_instant(table, input, out, |_, _, _| Ok(()))
+}
+
+/// The same, with a line more under each instant that waits.
+pub fn explain(table: &[u8], input: impl BufRead, out: &mut impl Write) -> Result<()> {
+    each_instant(table, input, out, |out, root, waits| match waits {
+        Some(Wait { node, event }) => {
+            writeln!(out, "waits at node {node} in {} for event {event}", spell::own_part(state::node_at(root, node)))
+        }
+        None => Ok(()),
+    })
+}
+
+/// Plays a table over an input; what is told of an instant's wait, the program at hand, goes under its line.
+fn each_instant<W: Write>(
+    table: &[u8],
+    input: impl BufRead,
+    out: &mut W,
+    mut tell: impl FnMut(&mut W, &Node, Option<Wait>) -> Result<()>,
+) -> Result<()> {
     // Room enough for any table: 4,096 nodes and as many atoms.
     let mut state = [0; 4 * 4096];
     let mut row = [0; 4096];
-    if let Err(Refusal { number, index }) = instant::start(table, &mut state) {
-        return writeln!(out, "table refused {number} {index}");
-    }
+    let program = match instant::start(table, &mut state).and_then(|()| instant::load(table)) {
+        Ok((program, _)) => program,
+        Err(Refusal { number, index }) => return writeln!(out, "table refused {number} {index}"),
+    };
     let mut number = 0u64;
     words::each_line(input, |line| {
         number += 1;
@@ -24,14 +48,17 @@ pub fn play(table: &[u8], input: impl BufRead, out: &mut impl Write) -> Result<(
             return writeln!(out, "{number} bad-line");
         };
         match instant::instant(table, &mut state, events, &mut row) {
-            Ok(report) => writeln!(
-                out,
-                "{number} {} {} {} {}",
-                report.passes,
-                if report.finished { "TERM" } else { "STOP" },
-                words::list(report.events.rising()),
-                words::list(&row[..report.atoms])
-            ),
+            Ok(report) => {
+                writeln!(
+                    out,
+                    "{number} {} {} {} {}",
+                    report.passes,
+                    if report.finished { "TERM" } else { "STOP" },
+                    words::list(report.events.rising()),
+                    words::list(&row[..report.atoms])
+                )?;
+                tell(out, &program.root, report.waits)
+            }
             Err(Refusal { number: refusal, index }) => writeln!(out, "{number} refused {refusal} {index}"),
         }
     })

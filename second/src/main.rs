@@ -1,5 +1,5 @@
-//! The second program: answers the lines of the calls program, plays the listing program,
-//! and makes random and edge cases for both.
+//! The second program: answers the lines of the calls program, plays the listing program, with what is waited for or without,
+//! and makes random and edge cases for all.
 
 mod config;
 mod env;
@@ -27,8 +27,8 @@ use std::io::{BufWriter, Read, Result, Write};
 use std::path::Path;
 use std::process::ExitCode;
 
-const USAGE: &str = "usage: second calls | orders SEED | run | make edges | make text-edges \
-                     | make calls|loops|orders|texts CASES SEED | make listing SEED DIR";
+const USAGE: &str = "usage: second calls | orders SEED | run | why | make edges | make text-edges \
+                     | make calls|loops|orders|texts|waits CASES SEED | make listing SEED DIR";
 
 fn main() -> ExitCode {
     let arguments: Vec<String> = std::env::args().skip(1).collect();
@@ -44,6 +44,7 @@ fn main() -> ExitCode {
             Err(_) => return misused(),
         },
         ["run"] => listing::play(&read_table(Path::new("table.bin")), std::io::stdin().lock(), &mut out),
+        ["why"] => listing::explain(&read_table(Path::new("table.bin")), std::io::stdin().lock(), &mut out),
         ["make", "edges"] => print_lines(&mut out, make::edges::lines()),
         ["make", "text-edges"] => print_lines(&mut out, make::text_edges::lines()),
         ["make", "listing", seed, dir] => match seed.parse() {

@@ -11,13 +11,28 @@ use std::rc::Rc;
 pub struct Course<'a> {
     /// The actions that atoms have executed, in order.
     pub actions: Vec<u16>,
+    /// The tests that this pass has read and found unknown.
+    pub unknown: Vec<Unknown>,
     /// Asked anew at each Par that has two suspended branches: true if the second one runs first.
     pub second_first: &'a mut dyn FnMut() -> bool,
 }
 
+/// A test found unknown: the node that suspends, what it tests, and the environment in which it was read (L1).
+pub struct Unknown {
+    pub at: usize,
+    pub test: Rc<Config>,
+    pub seen: Env,
+}
+
 impl Course<'_> {
     pub fn new(second_first: &mut dyn FnMut() -> bool) -> Course<'_> {
-        Course { actions: vec![], second_first }
+        Course { actions: vec![], unknown: vec![], second_first }
+    }
+
+    /// A node suspends as it is, since its test is unknown.
+    fn suspend(&mut self, t: &Term, test: &Rc<Config>, e: Env) -> Conclusion {
+        self.unknown.push(Unknown { at: t.at, test: test.clone(), seen: e });
+        Says(Flag::Susp, t.clone(), e)
     }
 }
 
@@ -59,10 +74,10 @@ fn step(t: &Term, e: Env, course: &mut Course) -> Conclusion {
             let e = Env { present: e.present.with(*s), moved: true, ..e };
             Says(Flag::Term, t.becomes(Form::Gone), e) // (16)
         }
-        Form::Await(c) => wait(t, c, e),
-        Form::When(c, then, other) => when(t, c, then, other, e),
+        Form::Await(c) => wait(t, c, e, course),
+        Form::When(c, then, other) => when(t, c, then, other, e, course),
         Form::Until(c, body, handler) => until(t, c, body, handler, e, course),
-        Form::UntilStar(c, body, handler) => until_star(t, c, body, handler, e),
+        Form::UntilStar(c, body, handler) => until_star(t, c, body, handler, e, course),
         Form::Control(s, body) => control(t, *s, body, e, course),
         Form::LocalMinus(s, body) => local_minus(t, *s, body, e, course),
         Form::LocalPlus(s, body) => local_plus(t, *s, body, e, course),
@@ -149,7 +164,7 @@ fn repeat(t: &Term, n: u16, body: &Term, e: Env) -> Conclusion {
     AsRunning(t.becomes(Form::Seq(body.clone(), fewer)), e) // (15)
 }
 
-fn when(t: &Term, c: &Rc<Config>, then: &Term, other: &Term, e: Env) -> Conclusion {
+fn when(t: &Term, c: &Rc<Config>, then: &Term, other: &Term, e: Env, course: &mut Course) -> Conclusion {
     if c.sat(e) && !e.eoi {
         AsRunning(then.clone(), e) // (17)
     } else if c.sat(e) {
@@ -159,11 +174,11 @@ fn when(t: &Term, c: &Rc<Config>, then: &Term, other: &Term, e: Env) -> Conclusi
     } else if c.unsat(e) {
         Says(Flag::Stop, other.clone(), e) // (20)
     } else {
-        Says(Flag::Susp, t.clone(), e) // (21)
+        course.suspend(t, c, e) // (21)
     }
 }
 
-fn wait(t: &Term, c: &Rc<Config>, e: Env) -> Conclusion {
+fn wait(t: &Term, c: &Rc<Config>, e: Env, course: &mut Course) -> Conclusion {
     if c.sat(e) && !e.eoi {
         Says(Flag::Term, t.becomes(Form::Gone), e) // (22)
     } else if c.sat(e) {
@@ -171,19 +186,19 @@ fn wait(t: &Term, c: &Rc<Config>, e: Env) -> Conclusion {
     } else if c.unsat(e) {
         Says(Flag::Stop, t.clone(), e) // (24)
     } else {
-        Says(Flag::Susp, t.clone(), e) // (25)
+        course.suspend(t, c, e) // (25)
     }
 }
 
 fn control(t: &Term, s: u8, body: &Term, e: Env, course: &mut Course) -> Conclusion {
-    let event = Config::Event(s);
+    let event = Rc::new(Config::Event(s));
     if event.sat(e) {
         let (a, rest, e1) = run(body, e, course);
         Says(a, t.becomes(Form::Control(s, rest)), e1) // (26), keeping E' as 001 does
     } else if event.unsat(e) {
         Says(Flag::Stop, t.clone(), e) // (27)
     } else {
-        Says(Flag::Susp, t.clone(), e) // (28)
+        course.suspend(t, &event, e) // (28)
     }
 }
 
@@ -197,7 +212,7 @@ fn until(t: &Term, c: &Rc<Config>, body: &Term, handler: &Term, e: Env, course: 
     }
 }
 
-fn until_star(t: &Term, c: &Rc<Config>, body: &Term, handler: &Term, e: Env) -> Conclusion {
+fn until_star(t: &Term, c: &Rc<Config>, body: &Term, handler: &Term, e: Env, course: &mut Course) -> Conclusion {
     if c.sat(e) && !e.eoi {
         AsRunning(handler.clone(), e) // (31)
     } else if c.sat(e) {
@@ -206,7 +221,7 @@ fn until_star(t: &Term, c: &Rc<Config>, body: &Term, handler: &Term, e: Env) -> 
         // (33), before the end too, as 001 has it
         Says(Flag::Stop, t.becomes(Form::Until(c.clone(), body.clone(), handler.clone())), e)
     } else {
-        Says(Flag::Susp, t.clone(), e) // (34)
+        course.suspend(t, c, e) // (34)
     }
 }
 

@@ -34,3 +34,14 @@ impl Display for Node {
         }
     }
 }
+
+/// A test that can wait, in the written form, with `..` for what it runs.
+pub fn own_part(node: &Node) -> String {
+    match &node.written {
+        Written::Await(c) => format!("Jr.Await({c})"),
+        Written::When(c, ..) => format!("Jr.When({c}, ..)"),
+        Written::Until(c, ..) => format!("Jr.Until({c}, ..)"),
+        Written::Control(s, _) => format!("Jr.Control({s}, ..)"),
+        _ => panic!("node {} is no test", node.at),
+    }
+}

@@ -38,6 +38,14 @@ pub fn below(node: &Node) -> Vec<&Node> {
     }
 }
 
+/// The node of an index that is this one's or below it.
+pub fn node_at(node: &Node, index: usize) -> &Node {
+    match below(node).into_iter().rev().find(|child| child.at <= index) {
+        Some(child) if node.at < index => node_at(child, index),
+        _ => node,
+    }
+}
+
 /// The lowest node that keeps the state from being at rest. Indexes rise in reading order,
 /// so the first one met is the lowest.
 pub fn blamed(node: &Node, room: &[u8]) -> Option<usize> {

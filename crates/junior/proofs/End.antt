@@ -105,7 +105,7 @@ Blocked X (until2 c p t) = Blocked X t
 Blocked X (control s t) = X s ≡ true → Blocked X t
 Blocked X (local b s t) = Blocked (put s b X) t
 
-leave-susp : (α : Flag) (t : Term) → α ≡ SUSP → leave α t ≡ t
+pub leave-susp : (α : Flag) (t : Term) → α ≡ SUSP → leave α t ≡ t
 unfolding leave
 leave-susp SUSP t h = refl
 leave-susp STOP t h = refl
@@ -141,7 +141,7 @@ leave-susp TERM t h = absurd (TERM≢SUSP h)
 γ-susp TERM TERM h = absurd (TERM≢SUSP h)
 
 -- a Local whose event didn't change keeps its sign
-sign-kept : (b now : Bool) (α : Flag) → now ≡ b → α ≡ SUSP → sign b α now ≡ b
+pub sign-kept : (b now : Bool) (α : Flag) → now ≡ b → α ≡ SUSP → sign b α now ≡ b
 sign-kept b now α h f = rw f (go b now h)
   where
     go : (b now : Bool) → now ≡ b → sign b SUSP now ≡ b

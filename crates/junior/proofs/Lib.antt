@@ -25,6 +25,17 @@ pub mod Agree
 pub mod Ending
 pub mod Order
 pub mod Visits
+pub mod Lower
+pub mod Lacking
+pub mod Waits
+pub mod WayDown
+pub mod WaitOrder
+pub mod Waited
+pub mod AtTheEnd
+pub mod FirstWait
+pub mod L1
+pub mod Seen
+pub mod WaitedSo
 pub mod Counted
 pub mod AsPrinted
 pub mod PrintedOnce

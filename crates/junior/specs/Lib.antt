@@ -18,3 +18,6 @@ pub mod Printed
 pub mod Visits
 pub mod StoppedBefore
 pub mod NeverRoundTwice
+pub mod Waited
+pub mod L1
+pub mod WaitedSo

@@ -55,6 +55,8 @@ run-in-room {t} {s} h o =
       lowest-is = o .lowest-is;
       atoms-are = o .atoms-are;
       finished-is = o .finished-is;
+      waits-node-is = o .waits-node-is;
+      waits-event-is = o .waits-event-is;
       state-is =
           ap
           (λ l. l ++ drop (4 * nodes t) s)

@@ -17,6 +17,7 @@ use Rattle.junior.specs.Trace.{collect}
 use Rattle.junior.specs.Rules.{left-first}
 use Rattle.junior.specs.Figures.{stops, LoopsStop, figure}
 use Rattle.junior.specs.AtRest.{AtRest}
+use Rattle.junior.specs.Waited.{waited, first-wait, before-the-end, lacks}
 use Rattle.junior.proofs.Going.{fresh-at-rest, leaves-rest, program-kept}
 use Rattle.junior.proofs.Kept.{prog-fresh}
 use Rattle.junior.proofs.Exists.{goes-by, begins, seq0-runs, loop0-runs, loop1-runs, repeat0-runs, again-runs}
@@ -42,8 +43,8 @@ use Rattle.kernel.specs.Answer.{outcomeNumber, outcomeIndex, onAccepted,
 use Rattle.kernel.specs.Answer.{Started}
 use Rattle.kernel.specs.Bench.{Line, Entry, accepted, refused, not-started, not-run, resumed, Checks, Starts, Answers}
 use Rattle.kernel.specs.Bench.{Follow, Alone, word-of, words-of, set, turned-down, Shown, All, phases, K1-to-K12}
-use Rattle.kernel.specs.Bench.{more-of-the-forms, loops, resumed-rooms, tests, figures, harmless-loops, refused-tables}
-use Rattle.kernel.specs.Bench.{refused-rooms, not-at-rest, bench-list}
+use Rattle.kernel.specs.Bench.{more-of-the-forms, loops, resumed-rooms, tests, figures, harmless-loops, waiting-tests}
+use Rattle.kernel.specs.Bench.{refused-tables, refused-rooms, not-at-rest, bench-list}
 use Rattle.kernel.proofs.Accepted.{admitted}
 use Rattle.kernel.proofs.Outcomes.{start-ran}
 use Rattle.kernel.proofs.OneAnswer.{ran-or-not, one-start}
@@ -57,7 +58,7 @@ told-by : List ℕ → ℕ → List ℕ → (x : Term) → LoopsStop (prog x) �
     → List Seen
 told-by t a b x o r y (inl e) later =
     let (n, u, i) = ends left-first x o r (members (y .handed)) in
-    seen-run y b (past-rest t a y) n u ∷ later (u .to) (rw (program-kept i) o) (leaves-rest i r)
+    seen-run y b (past-rest t a y) n u (waited i) ∷ later (u .to) (rw (program-kept i) o) (leaves-rest i r)
 told-by t a b x o r y (inr e) later = seen-refused y (stateBytes x ++ b) (past-rest t a y) ∷ later x o r
 
 told : List ℕ → ℕ → List ℕ → (x : Term) → LoopsStop (prog x) → AtRest x → List Line → List Seen
@@ -81,7 +82,7 @@ follows t {a = a} v b x e o r (y ∷ l) h =
         → Answers t (stateBytes x ++ b) y × Follow t (y .state) l
     go (inl ran) f h =
         let (n, u, i) = ends left-first x o r (members (y .handed)) in
-        let now : seen-run y b (past-rest t a y) n u ≡ seen y = cc in
+        let now : seen-run y b (past-rest t a y) n u (waited i) ≡ seen y = cc in
         let later : told t a b (u .to) (rw (program-kept i) o) (leaves-rest i r) l ≡ map seen l = cc in (
           run-answers t v b x e r y i ran now,
           subst (λ s. Follow t s l) (ap (λ z. z .state) now) (f (u .to) (program-kept i ∙ e) _ _ later),
@@ -205,7 +206,16 @@ module _ (t : List ℕ) (c : Checked) {n i : ℕ} (h : Checks t c n i 0 0 0) (aw
         outcome-is = rw (h .verdict-is, away _);
         ran = λ e. absurd (let z : _≡_ {A = ℕ} 0 1 = cc in omega arith);
         refused = λ k. (
-          record { events-are = nowhere; count-is = refl; lowest-is = refl; atoms-are = refl; finished-is = refl; passes-are = refl },
+          record {
+            events-are = nowhere;
+            count-is = refl;
+            lowest-is = refl;
+            atoms-are = refl;
+            finished-is = refl;
+            passes-are = refl;
+            waits-node-is = refl;
+            waits-event-is = refl;
+          },
           refl,
           refl,
         );
@@ -281,7 +291,7 @@ unfolding computed listed if-accepted if-refused judged told told-by told-alone 
     size kind stops early-true early-false figure outcomeNumber outcomeIndex startOutcome startedRoom instantOutcome rests phaseRests flagsRest
     countRests zeroNode zeroNodes lowest howMany marks put test fixed eval prog fresh leave collect below ends ends-within ends-by pass-exists begins goes-by
     seq0-runs loop0-runs loop1-runs repeat0-runs repeat1-runs again-runs await-runs when0-runs until0-runs until*-runs control-runs
-    LoopsStop AtRest
+    LoopsStop AtRest first-wait before-the-end lacks
 bench =
     and-all K1-to-K12 _ (all-show K1-to-K12 refl)
     (and-all more-of-the-forms _ (all-show more-of-the-forms refl)
@@ -290,8 +300,9 @@ bench =
     (and-all tests _ (all-show tests refl)
     (and-all figures _ (all-show figures refl)
     (and-all harmless-loops _ (all-show harmless-loops refl)
+    (and-all waiting-tests _ (all-show waiting-tests refl)
     (and-all refused-tables _ (all-show refused-tables refl)
-    (and-all refused-rooms _ (all-show refused-rooms refl) (all-show not-at-rest refl)))))))))
+    (and-all refused-rooms _ (all-show refused-rooms refl) (all-show not-at-rest refl))))))))))
   where
     resumed-shown : All Shown resumed-rooms
     resumed-shown =

@@ -17,8 +17,10 @@ use Rattle.junior.specs.Configuration.{Env, handed-in}
 use Rattle.junior.specs.Trace.{atoms}
 use Rattle.junior.specs.Rules.{left-first, Result}
 use Rattle.junior.specs.Instant.{Instant}
+use Rattle.junior.specs.Waited.{waited}
 use Rattle.junior.specs.Printed.{Abstract, reads, Deed, actions, _∣_—[_doing_]—_passes→_∣_}
 use Rattle.junior.proofs.Deterministic.{one-outcome}
+use Rattle.junior.proofs.Waited.{one-waited}
 use Rattle.junior.proofs.Going.{leaves-rest, program-kept}
 use Rattle.junior.proofs.AsPrinted.{instant-as-printed}
 use Rattle.junior.proofs.PrintedOnce.{printed-exactly, actions-deeds}
@@ -28,8 +30,8 @@ use Rattle.state.proofs.Parts.{len-bytes}
 use Rattle.state.proofs.OneTerm.{one-term}
 use Rattle.kernel.specs.declared.Outcome.the-variants.{Ran}
 use Rattle.kernel.specs.declared.Answer.{Answer}
-use Rattle.kernel.specs.Answer.{unlisted, instantOutcome, ended, Run, Answered}
-use Rattle.kernel.specs.Demand2.{Premises, TermInState, Gives, GivesPrinted, Demand2}
+use Rattle.kernel.specs.Answer.{unlisted, instantOutcome, ended, nodeOf, eventOf, Run, Answered}
+use Rattle.kernel.specs.Demand2.{Premises, TermInState, Gives, Reports, GivesPrinted, Demand2}
 use Rattle.kernel.proofs.Accepted.{admitted}
 use Rattle.kernel.proofs.Outcomes.{instant-ran}
 
@@ -83,6 +85,12 @@ module _ {t s : List ℕ} {X : Events} {row s′ row′ : List ℕ} {a : Answer}
       let (same-passes, same-result) = one-outcome (r .instant) i in
       subst (λ m. Gives t s row s′ row′ a m u) same-passes (subst (λ x. Gives t s row s′ row′ a (a .passes) x) same-result gives)
 
+  -- and whatever they report is what was answered
+  reports-all : (n : ℕ) (u : Result) (i : Instant left-first (r .term) (handed-in X) n u) → Reports a (waited i)
+  reports-all n u i =
+      let same = one-waited (r .instant) i in
+      record { node = r .waits-node-is ∙ ap nodeOf same; event = r .waits-event-is ∙ ap eventOf same }
+
   -- the term that is left
   stands-next : TermInState t s′ (r .result .to)
   stands-next = record {
@@ -120,6 +128,7 @@ demand-2 p o =
       stands = stands r;
       there = (_, r .result, r .instant);
       gives = λ i. gives-all p r _ _ i;
+      reports = λ i. reports-all p r _ _ i;
       printed-there = (_, _, _, _, _, instant-as-printed (r .instant));
       printed-gives = λ i. gives-printed p r i;
     }

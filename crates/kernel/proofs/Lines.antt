@@ -4,6 +4,7 @@ use mathlib.Core.Bool.{Bool, true, false, cond, _&&_}
 use mathlib.Core.Path.{_≡_, refl, ap, sym, subst, _∙_, fun-ext}
 use mathlib.Core.Logic.{_≢_}
 use mathlib.Core.List.{List, [], _∷_, _++_}
+use mathlib.Core.Option.{Option}
 use native.Mathlib.Omega.{arith}
 use lib.Dec.{eqb, leb, ltb}
 use lib.ListN.{length, getD, drop, length-append}
@@ -19,7 +20,9 @@ use Rattle.junior.specs.Trace.{atoms, generations}
 use Rattle.junior.specs.Rules.{left-first, Result}
 use Rattle.junior.specs.Instant.{Instant}
 use Rattle.junior.specs.AtRest.{AtRest}
+use Rattle.junior.specs.Waited.{Wait, waited}
 use Rattle.junior.proofs.Grows.{among, only-generated-in-all}
+use Rattle.junior.proofs.Waited.{one-waited}
 use Rattle.table.specs.declared.Checked.the-variants.{Accepted}
 use Rattle.table.specs.Records.{nodes}
 use Rattle.table.specs.Spells.{treeOf}
@@ -31,7 +34,7 @@ use Rattle.state.specs.Resting.{blamed}
 use Rattle.state.proofs.Blameless.{resting}
 use Rattle.kernel.specs.declared.Outcome.{Outcome}
 use Rattle.kernel.specs.declared.Outcome.the-variants.{Ran, UnlistedEvent, AtomRoom}
-use Rattle.kernel.specs.Answer.{outcomeNumber, outcomeIndex, unlisted, instantOutcome, ended, Answered}
+use Rattle.kernel.specs.Answer.{outcomeNumber, outcomeIndex, unlisted, instantOutcome, ended, nodeOf, eventOf, Answered}
 use Rattle.kernel.specs.Bench.{Line, Answers}
 use Rattle.kernel.proofs.Accepted.{admitted}
 use Rattle.kernel.proofs.Outcomes.{instant-is}
@@ -108,6 +111,8 @@ pub record Seen : Type 0 where
   pub atoms : ℕ
   pub finished : Bool
   pub passes : ℕ
+  pub waits-node : ℕ
+  pub waits-event : ℕ
   pub state : List ℕ
   pub row : List ℕ
   pub handed-whole : Bool
@@ -125,6 +130,8 @@ seen y = record {
   atoms = y .answer .atoms;
   finished = y .answer .finished;
   passes = y .answer .passes;
+  waits-node = y .answer .waits .node;
+  waits-event = y .answer .waits .event;
   state = y .state;
   row = y .row;
   handed-whole = whole (y .handed);
@@ -132,9 +139,9 @@ seen y = record {
   generated-placed = true;
 }
 
--- what is to be seen of an instant that ran, n passes and the result r, in a room with b behind the state's bytes
-abbrev pub seen-run : Line → List ℕ → Outcome → ℕ → Result → Seen
-seen-run y b o n r = record {
+-- what is to be seen of an instant that ran, n passes and the result r, reporting w, in a room with b behind the state's bytes
+abbrev pub seen-run : Line → List ℕ → Outcome → ℕ → Result → Option Wait → Seen
+seen-run y b o n r w = record {
   outcome = o;
   number = outcomeNumber o;
   index = outcomeIndex o;
@@ -144,6 +151,8 @@ seen-run y b o n r = record {
   atoms = length (atoms (r .acts));
   finished = ended (r .flag);
   passes = n;
+  waits-node = nodeOf w;
+  waits-event = eventOf w;
   state = stateBytes (r .to) ++ b;
   row = atoms (r .acts) ++ drop (length (atoms (r .acts))) (y .lent);
   handed-whole = true;
@@ -163,6 +172,8 @@ seen-refused y s o = record {
   atoms = 0;
   finished = false;
   passes = 0;
+  waits-node = 4096;
+  waits-event = places;
   state = s;
   row = y .lent;
   handed-whole = whole (y .handed);
@@ -209,9 +220,9 @@ pub run-answers : (t : List ℕ) {g a w : ℕ} → verdictOf t ≡ Accepted g a 
     → AtRest x
     → (y : Line)
     → {n : ℕ} {r : Result}
-    → Instant left-first x (handed-in (members (y .handed))) n r
+    → (i : Instant left-first x (handed-in (members (y .handed))) n r)
     → y .answer .outcome ≡ Ran
-    → seen-run y b (past-rest t a y) n r ≡ seen y
+    → seen-run y b (past-rest t a y) n r (waited i) ≡ seen y
     → Answers t (stateBytes x ++ b) y
 run-answers t v b x e rest y {n} {r} i ran s =
     let long = room-long t v x e in
@@ -222,6 +233,9 @@ run-answers t v b x e rest y {n} {r} i ran s =
     let past : (k : ℕ) → places ≤ k → r .env .now k ≡ false =
     λ k h. only-generated-in-all i k (not-among (generations (r .acts)) placed-all k h) (members-past (y .handed) handed k h) in
     let atoms-are = sym (ap (λ z. z .atoms) s) in
+    let instant : Instant left-first x (handed-in (members (y .handed))) (y .answer .passes) r =
+    subst (λ m. Instant left-first x (handed-in (members (y .handed))) m r) (ap (λ z. z .passes) s) i in
+    let reports = one-waited i instant in
     only-answers
     (record {
       outcome-is = sym outcome ∙ outcome-past-rest t v b x e rest y;
@@ -231,12 +245,14 @@ run-answers t v b x e rest y {n} {r} i ran s =
         bytes = take-at (stateBytes x) b (4 * nodes t) long;
         at-rest = rest;
         result = r;
-        instant = subst (λ m. Instant left-first x (handed-in (members (y .handed))) m r) (ap (λ z. z .passes) s) i;
+        instant = instant;
         events-are = same-set (y .answer .events) (r .env .now) reported (sym (ap (λ z. z .events) s)) past;
         count-is = sym (ap (λ z. z .count) s);
         lowest-is = sym (ap (λ z. z .lowest) s);
         atoms-are = atoms-are;
         finished-is = sym (ap (λ z. z .finished) s);
+        waits-node-is = sym (ap (λ z. z .waits-node) s) ∙ ap nodeOf reports;
+        waits-event-is = sym (ap (λ z. z .waits-event) s) ∙ ap eventOf reports;
         state-is = rw (drop-at (stateBytes x) b (4 * nodes t) long) (sym (ap (λ z. z .state) s));
         row-is = rw atoms-are (sym (ap (λ z. z .row) s));
       };
@@ -265,6 +281,8 @@ refused-answers t s y o i n e =
           atoms-are = sym (ap (λ z. z .atoms) e);
           finished-is = sym (ap (λ z. z .finished) e);
           passes-are = sym (ap (λ z. z .passes) e);
+          waits-node-is = sym (ap (λ z. z .waits-node) e);
+          waits-event-is = sym (ap (λ z. z .waits-event) e);
         },
         sym (ap (λ z. z .state) e),
         sym (ap (λ z. z .row) e),

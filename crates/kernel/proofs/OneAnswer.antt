@@ -1,5 +1,5 @@
 -- No input of check, start or instant allows two answers or two contents of a room.
-use mathlib.Core.Path.{_≡_, refl, ap, sym, _∙_}
+use mathlib.Core.Path.{_≡_, refl, ap, sym, subst, _∙_}
 use mathlib.Core.Logic.{_≢_, _⊎_, inl, inr}
 use mathlib.Core.List.{List, _++_}
 use Prim.Native.Nat.{ℕ, suc, _*_, _^_, _<_}
@@ -9,8 +9,14 @@ use Rattle.events.specs.declared.EventSet.{EventSet}
 use Rattle.events.specs.Events.{Events, howMany, lowest}
 use Rattle.events.specs.Members.{places, members, Whole}
 use Rattle.events.proofs.Sets.{same-members}
+use Rattle.junior.specs.Configuration.{Env}
+use Rattle.junior.specs.Term.{Term}
 use Rattle.junior.specs.Trace.{atoms}
+use Rattle.junior.specs.Rules.{left-first, Result}
+use Rattle.junior.specs.Instant.{Instant}
+use Rattle.junior.specs.Waited.{waited}
 use Rattle.junior.proofs.Deterministic.{one-outcome}
+use Rattle.junior.proofs.Waited.{one-waited}
 use Rattle.table.specs.declared.Checked.{Checked}
 use Rattle.table.specs.Records.{nodes}
 use Rattle.table.specs.Verdict.{verdictOf}
@@ -20,7 +26,7 @@ use Rattle.kernel.specs.declared.Outcome.{Outcome}
 use Rattle.kernel.specs.declared.Outcome.the-variants.{Ran, Table, StateRoom, NotAtRest, UnlistedEvent}
 use Rattle.kernel.specs.declared.Outcome.the-variants.{AtomRoom}
 use Rattle.kernel.specs.declared.Answer.{Answer}
-use Rattle.kernel.specs.Answer.{startedRoom, ended, Run, Refused, Started, Answered}
+use Rattle.kernel.specs.Answer.{startedRoom, ended, nodeOf, eventOf, Run, Refused, Started, Answered}
 use Rattle.kernel.specs.Exports.{instant-length, startPlaces, instantPlaces, StartedInPlaces, AnsweredInPlaces}
 
 pub one-check : (t : List ℕ) (q r : Checked) → q ≡ verdictOf t → r ≡ verdictOf t → q ≡ r
@@ -33,9 +39,25 @@ one-start {t} {s} a b =
 
 -- two answers are the same if their fields are
 same-answer : (q r : Answer) → q .outcome ≡ r .outcome → q .events ≡ r .events → q .count ≡ r .count → q .lowest ≡ r .lowest
-    → q .atoms ≡ r .atoms → q .finished ≡ r .finished → q .passes ≡ r .passes → q ≡ r
-same-answer q r a b c d e f g =
-    λ i. record { outcome = a i; events = b i; count = c i; lowest = d i; atoms = e i; finished = f i; passes = g i }
+    → q .atoms ≡ r .atoms → q .finished ≡ r .finished → q .passes ≡ r .passes
+    → q .waits .node ≡ r .waits .node → q .waits .event ≡ r .waits .event → q ≡ r
+same-answer q r a b c d e f g h k =
+    λ i. record {
+      outcome = a i;
+      events = b i;
+      count = c i;
+      lowest = d i;
+      atoms = e i;
+      finished = f i;
+      passes = g i;
+      waits = record { node = h i; event = k i };
+    }
+
+-- from one term, however that is said, instants report one test
+same-waited : {x y : Term} {E : Env} {m n : ℕ} {r s : Result} → x ≡ y → (i : Instant left-first x E m r) (j : Instant left-first y E n s)
+    → waited i ≡ waited j
+same-waited {E = E} {n = n} {s = s} e i j =
+    subst (λ z. (k : Instant left-first z E n s) → waited i ≡ waited k) e (λ k. one-waited i k) j
 
 same-events : (x y : EventSet) → Whole x → Whole y → members x ≡ members y → x ≡ y
 same-events x y f g e = same-members x y f g (λ n h. ap (λ X. X n) e)
@@ -55,6 +77,7 @@ module _ {q r : Answer} (f : Whole (q .events)) (g : Whole (r .events)) (o : q .
   same-run {t} {s} {row = row} x y =
       let term-is = one-term (y .term) (x .term) (y .program ∙ sym (x .program)) (sym (y .bytes) ∙ x .bytes) in
       let (passes-are, result-is) = one-outcome (x .instant) (rw term-is at (y .instant)) in
+      let reports = same-waited (sym term-is) (x .instant) (y .instant) in
       let atoms-are = x .atoms-are ∙ (ap (λ z. length (atoms (z .acts))) result-is ∙ sym (y .atoms-are)) in (
         same-answer q r o
             (same-events (q .events) (r .events) f g (x .events-are ∙ (ap (λ z. z .env .now) result-is ∙ sym (y .events-are))))
@@ -62,7 +85,9 @@ module _ {q r : Answer} (f : Whole (q .events)) (g : Whole (r .events)) (o : q .
             (x .lowest-is ∙ (ap (λ z. lowest places (z .env .now)) result-is ∙ sym (y .lowest-is)))
             atoms-are
             (x .finished-is ∙ (ap (λ z. ended (z .flag)) result-is ∙ sym (y .finished-is)))
-            passes-are,
+            passes-are
+            (x .waits-node-is ∙ (ap nodeOf reports ∙ sym (y .waits-node-is)))
+            (x .waits-event-is ∙ (ap eventOf reports ∙ sym (y .waits-event-is))),
         x .state-is ∙ (ap (λ z. stateBytes (z .to) ++ drop (4 * nodes t) s) result-is ∙ sym (y .state-is)),
         x .row-is
             ∙ (ap (λ z. atoms (z .acts) ++ drop (q .atoms) row) result-is
@@ -74,6 +99,7 @@ module _ {q r : Answer} (f : Whole (q .events)) (g : Whole (r .events)) (o : q .
       same-answer q r o (same-events (q .events) (r .events) f g (x .events-are ∙ sym (y .events-are)))
       (x .count-is ∙ sym (y .count-is)) (x .lowest-is ∙ sym (y .lowest-is)) (x .atoms-are ∙ sym (y .atoms-are))
       (x .finished-is ∙ sym (y .finished-is)) (x .passes-are ∙ sym (y .passes-are))
+      (x .waits-node-is ∙ sym (y .waits-node-is)) (x .waits-event-is ∙ sym (y .waits-event-is))
 
 -- what a running program holds as a set of events is Whole (`whole` in crate events, proofs/Sets)
 pub one-instant : {t s : List ℕ} {X : Events} {row s₁ s₂ row₁ row₂ : List ℕ} {q r : Answer} → Whole (q .events) → Whole (r .events)
@@ -106,7 +132,7 @@ whole-in-places : (p : List ℕ) (a : Answer) → Places instant-length p → p 
 whole-in-places p a l e =
     record {
       long = let n = sym (ap length e) ∙ l .long in omega arith;
-      fits = λ q. let n = suc (suc (suc (suc (suc (suc (suc q)))))) in rw (ap (λ z. getD z n 0) e) at (l .fits n);
+      fits = λ q. let n = suc (suc (suc (suc (suc (suc (suc (suc (suc q)))))))) in rw (ap (λ z. getD z n 0) e) at (l .fits n);
     }
 
 pub one-instant-in-places : {t s words row s₁ s₂ row₁ row₂ p₁ p₂ : List ℕ} → Places instant-length p₁ → Places instant-length p₂

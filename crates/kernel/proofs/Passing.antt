@@ -1,16 +1,17 @@
 -- An instant in the code's hands: what holds before each pass, what a pass that suspends leaves of it, and what one that ends it gives.
 use Prim.Native.Nat.{ℕ, suc, _+_, _-_, _*_, _≤_, _<_}
-use mathlib.Core.Bool.{Bool, true, false, cond}
-use mathlib.Core.Path.{_≡_, refl, ap, sym, _∙_}
+use mathlib.Core.Bool.{Bool, true, false, cond, false≢true}
+use mathlib.Core.Path.{_≡_, refl, ap, sym, subst, _∙_}
 use mathlib.Core.Logic.{_≢_}
 use mathlib.Core.List.{List, [], _∷_, _++_, append-assoc, append-nil}
+use mathlib.Core.Option.{Option, none, some}
 use native.Mathlib.Nat.{zero-add}
 use native.Mathlib.Omega.{arith}
 use mir.Val.{boolByte}
 use lib.Dec.{eqb, ltb}
 use lib.ListN.{length, getD, take, drop, set, replicate, length-append, length-set, length-replicate, drop-of-length-le}
 use lib.Seq.{take-at, take-all, drop-append-add, drop-drop}
-use borrow.Author.Tests.{ltb-true, ltb-false, ne-eqb, eq-eqb}
+use borrow.Author.Tests.{ltb-true, ltb-false, le-ltb, ne-eqb, eq-eqb}
 use Rattle.events.specs.declared.EventSet.{EventSet}
 use Rattle.events.specs.Events.{Events, howMany, lowest}
 use Rattle.events.specs.Members.{places, marks, members}
@@ -24,6 +25,7 @@ use Rattle.junior.specs.Rules.{left-first, Result, answers, after}
 use Rattle.junior.specs.Instant.{Instant, r47, r48, r49}
 use Rattle.junior.specs.Figures.{per, G}
 use Rattle.junior.specs.Inside.{pot}
+use Rattle.junior.specs.Waited.{Wait, first-wait, before-the-end, waited}
 use Rattle.junior.proofs.Little.{collect-++}
 use Rattle.junior.proofs.Kept.{kept}
 use Rattle.junior.proofs.Grows.{end-kept}
@@ -31,6 +33,8 @@ use Rattle.junior.proofs.Going.{rest-going, stands}
 use Rattle.junior.proofs.End.{ended}
 use Rattle.junior.proofs.Figures.{pot-at-rest}
 use Rattle.junior.proofs.Instants.{uses-up, goes-on}
+use Rattle.junior.proofs.WayDown.{way-leads}
+use Rattle.junior.proofs.Waited.{one-waited}
 use Rattle.table.specs.Records.{nodes}
 use Rattle.table.proofs.Tree.{size-pos}
 use Rattle.state.specs.StateBytes.{zeros, below, stateBytes}
@@ -44,8 +48,10 @@ use Rattle.steps.specs.Lent.{lent, Stands, Went, CanRun, HasRun}
 use Rattle.steps.proofs.Done.{wrote-long, few}
 use Rattle.steps.proofs.Row.{still, tally-1, tally-2, first-words, first-tally, first-holds, next-words, next-holds}
 use Rattle.kernel.specs.declared.Answer.{Answer}
-use Rattle.kernel.specs.Answer.{Run, ended as ended-by}
-use Rattle.kernel.specs.Passes.{Startable, Reported}
+use Rattle.kernel.specs.Answer.{Run, ended as ended-by, nodeOf, eventOf}
+use Rattle.kernel.specs.Passes.{Startable, Reported, LeadsIfStill, WaitsAfter}
+use Rattle.waiting.specs.declared.Wait as W
+use Rattle.waiting.specs.Down.{StandsAt, Leads}
 
 -- the tally for the next pass: move false, and the end declared if nothing moved
 abbrev pub next-tally : List ℕ → List ℕ
@@ -89,6 +95,17 @@ abbrev Onward : Term → Events → ℕ → List Act → Term → Env → Type 0
 Onward t₀ X passes acts t E =
     (n : ℕ) (r : Result) → Instant left-first t E n r → Instant left-first t₀ (handed-in X) (passes + n) (after acts r)
 
+-- what the whole instant reports: o, once the end is declared in E, else what the instant from t in E will
+pub record Tells (t₀ : Term) (X : Events) (t : Term) (E : Env) (o : Option Wait) : Type 0 where
+  pub reports : {m n : ℕ} {r s : Result} (j : Instant left-first t₀ (handed-in X) m r) (i : Instant left-first t E n s)
+      → waited j ≡ cond (E .eoi) o (waited i)
+  pub undeclared : E .eoi ≡ false → o ≡ none
+
+-- the numbers of an answer name this, or nothing
+pub record Names (w : W.Wait) (o : Option Wait) : Type 0 where
+  pub node-is : w .node ≡ nodeOf o
+  pub event-is : w .event ≡ eventOf o
+
 -- no more passes than generations; one more once the end is declared
 abbrev Soon : Term → ℕ → Term → Bool → Type 0
 Soon t₀ passes t ended = passes + cond ended 0 (pot (per 7) t) ≤ G (prog t₀) + cond ended 1 0
@@ -104,6 +121,8 @@ pub record Underway (table : List ℕ) (t₀ : Term) (X : Events) (row₀ state 
   pub row-is : row ≡ atoms acts ++ drop (length (atoms acts)) row₀
   pub still : envOf words tally .move ≡ false
   pub soon : Soon t₀ passes term (envOf words tally .eoi)
+  pub named : Option Wait
+  pub tells : Tells t₀ X term (envOf words tally) named
 
 module _ {table : List ℕ} {t₀ : Term} {X : Events} {row₀ state words row tally : List ℕ} {passes : ℕ}
     (u : Underway table t₀ X row₀ state words row tally passes) where
@@ -132,6 +151,15 @@ module _ {table : List ℕ} {t₀ : Term} {X : Events} {row₀ state words row t
     -- a pass that doesn't suspend ends the instant
     pub ends : α ≢ SUSP → Instant left-first t₀ (handed-in X) (passes + 1) (answers α (ran .to) (envOf words′ tally′) all-acts)
     ends h = u .onward 1 _ (r47 (ran .rewrites) h)
+
+    -- and what was named is what it reports
+    pub reported : α ≢ SUSP → {m : ℕ} {r : Result} (j : Instant left-first t₀ (handed-in X) m r) → waited j ≡ u .named
+    unfolding before-the-end first-wait
+    reported h j = u .tells .reports j (r47 (ran .rewrites) h) ∙ go (envOf words tally .eoi) refl
+      where
+        go : (b : Bool) → envOf words tally .eoi ≡ b → cond b (u .named) none ≡ u .named
+        go true e = refl
+        go false e = sym (u .tells .undeclared e)
 
   -- a pass that suspends leads to the next
   module _ {state′ words′ row′ tally′ : List ℕ} (ran : Ran root (u .term) words row tally state′ words′ row′ tally′ SUSP) where
@@ -192,6 +220,27 @@ module _ {table : List ℕ} {t₀ : Term} {X : Events} {row₀ state words row t
         on true e i = r49 (ran .rewrites) refl e i
         on false e i = r48 (ran .rewrites) refl e i
 
+    -- what is named after it: what waits in it, if nothing moved
+    abbrev pub next-named : Bool → Option Wait
+    next-named m = cond m (u .named) (first-wait (ran .acts))
+
+    tells-next : (m : Bool) → envOf words′ tally′ .move ≡ m → Tells t₀ X (ran .to) (next-env m (envOf words′ tally′)) (next-named m)
+    unfolding before-the-end
+    tells-next true e = record {
+      reports = λ j i.
+          u .tells .reports j (r49 (ran .rewrites) refl e i)
+          ∙ (ap (λ b. cond b (u .named) (waited i)) not-ended ∙ sym (ap (λ b. cond b (u .named) (waited i)) off));
+      undeclared = λ z. u .tells .undeclared not-ended;
+    }
+    tells-next false e = record {
+      reports = λ j i.
+          u .tells .reports j (r48 (ran .rewrites) refl e i) ∙ ap (λ b. cond b (u .named) (first-wait (ran .acts))) not-ended;
+      undeclared = λ z. absurd (false≢true (sym z));
+    }
+
+    tells-again : (m : Bool) → envOf words′ tally′ .move ≡ m → Tells t₀ X (ran .to) (envOf words′ (next-tally tally′)) (next-named m)
+    tells-again m e = subst (λ F. Tells t₀ X (ran .to) F (next-named m)) (sym (next m e)) (tells-next m e)
+
     pub goes : Underway table t₀ X row₀ state′ words′ row′ (next-tally tally′) (passes + 1)
     goes = record {
       term = ran .to;
@@ -203,7 +252,20 @@ module _ {table : List ℕ} {t₀ : Term} {X : Events} {row₀ state words row t
       row-is = row-after ran;
       still = still-again _ refl;
       soon = soon-again _ refl;
+      named = next-named (envOf words′ tally′ .move);
+      tells = tells-again _ refl;
     }
+
+    -- where nothing moved, the way down from node 0 leads to what waits
+    pub leads : envOf words′ tally′ .move ≡ false → (w : Wait) × Leads table state′ 0 (marks words′) w × (first-wait (ran .acts) ≡ some w)
+    leads e =
+        let (w, led, first) = way-leads (ran .rewrites) refl e in
+        let stands-there : StandsAt table state′ 0 (ran .to) = record {
+          placed = rw (kept (ran .rewrites)) (u .ready .placed);
+          rest = [];
+          bytes = ran .bytes ∙ sym (append-nil (stateBytes (ran .to)));
+        } in
+        (w, record { term = ran .to; stands = stands-there; leads = led }, first)
 
 -- before the first pass
 pub begins : {table state row : List ℕ} (words : List ℕ) (b : Startable table state row) → 64 * length words ≡ places
@@ -230,6 +292,8 @@ begins words b wide =
       row-is = refl;
       still = refl;
       soon = omega (arith, pot-at-rest (per 7) t (b .at-rest));
+      named = none;
+      tells = record { reports = λ j i. one-waited j i; undeclared = λ z. refl };
     }
 
 -- the bytes of what has ended: all zero, and marked as phase 3
@@ -259,23 +323,29 @@ pub run-of : {t s row₀ state words row tally : List ℕ} {X : Events} {passes 
     → α ≢ SUSP
     → {s′ : List ℕ} → s′ ≡ stateBytes (ran .to)
     → {events : EventSet} → events .words ≡ words′
-    → {r : Answer} → Reported events (atoms-done tally′) (ended-by α) (passes + 1) r
+    → {waits : W.Wait} → Names waits (u .named)
+    → {r : Answer} → Reported events (atoms-done tally′) (ended-by α) (passes + 1) waits r
     → Run t s X row₀ s′ row′ r
-run-of {t} {s} {row₀ = row₀} {words = words} {tally = tally} b u {words′ = words′} {row′ = row′} {tally′ = tally′} {α} ran h {s′} e w {r} o =
+run-of {t} {s} {row₀ = row₀} {words = words} {tally = tally} {X = X} b u {words′ = words′} {row′ = row′} {tally′ = tally′} {α} ran h {s′} e w n {r} o =
     let all : take (4 * nodes t) s ≡ s = take-all (4 * nodes t) s (omega (arith, b .long)) in
     let none : drop (4 * nodes t) s ≡ [] = drop-of-length-le s {i = 4 * nodes t} (omega (arith, b .long)) in
+    let instant : Instant left-first (b .term) (handed-in X) (r .passes) (answers α (ran .to) (envOf words′ tally′) (all-acts u ran)) =
+    rw (o .passes-are) (ends u ran h) in
+    let told = reported u ran h instant in
     record {
       term = b .term;
       program = b .program;
       bytes = all ∙ b .bytes;
       at-rest = b .at-rest;
       result = answers α (ran .to) (envOf words′ tally′) (all-acts u ran);
-      instant = rw (o .passes-are) (ends u ran h);
+      instant = instant;
       events-are = ap members (o .events-are) ∙ ap marks w;
       count-is = o .count-is ∙ ap (λ l. howMany places (marks l)) w;
       lowest-is = o .lowest-is ∙ ap (λ l. lowest places (marks l)) w;
       atoms-are = o .atoms-are ∙ done-after u ran;
       finished-is = o .finished-is;
+      waits-node-is = ap (λ x. x .node) (o .waits-are) ∙ (n .node-is ∙ ap nodeOf (sym told));
+      waits-event-is = ap (λ x. x .event) (o .waits-are) ∙ (n .event-is ∙ ap eventOf (sym told));
       state-is = e ∙ (sym (append-nil (stateBytes (ran .to))) ∙ ap (λ l. stateBytes (ran .to) ++ l) (sym none));
       row-is = row-after u ran ∙ ap (λ n. atoms (all-acts u ran) ++ drop n row₀) (sym (o .atoms-are ∙ done-after u ran));
     }
@@ -293,10 +363,11 @@ handed-words table words l base e = ap wordsOf e ∙ first-words table words l b
 -- before the first pass, by the row
 pub begins-by : {table state row : List ℕ} (words : List ℕ) (b : Startable table state row) → length words ≡ event-words
     → {m : List ℕ} → m ≡ firstNumbers words (6 * nodes table)
-    → Underway table (b .term) (marks (wordsOf m)) row state (wordsOf m) row (tallyOf m) 0 × Numbers table m
+    → (u : Underway table (b .term) (marks (wordsOf m)) row state (wordsOf m) row (tallyOf m) 0) × Numbers table m × (u .named ≡ none)
+unfolding begins
 begins-by {table} words b l e =
     let base = 6 * nodes table in
-    rw (e, first-words table words l base, first-tally table words l base) (begins words b (ap (λ n. 64 * n) l), first-holds table words l)
+    rw (e, first-words table words l base, first-tally table words l base) (begins words b (ap (λ n. 64 * n) l), first-holds table words l, refl)
 
 module _ {table : List ℕ} {t₀ : Term} {X : Events} {row₀ state m row : List ℕ} {passes : ℕ}
     (u : Underway table t₀ X row₀ state (wordsOf m) row (tallyOf m) passes) (n : Numbers table m) where
@@ -323,11 +394,37 @@ module _ {table : List ℕ} {t₀ : Term} {X : Events} {row₀ state m row : Lis
     pub row-holds : Numbers table m′
     row-holds = still n (went .kept)
 
+    -- what is found after a pass that suspended
+    module _ (ran : Ran root (u .term) (wordsOf m) row (tallyOf m) state′ (wordsOf m′) row′ (tallyOf m′) SUSP) where
+      names-after : {before after : W.Wait} → Names before (u .named) → WaitsAfter table state′ m′ before after
+          → Names after (next-named u ran (ltb 0 (getD m′ moved-at 0)))
+      names-after {before} {after} n a = go (ltb 0 (getD m′ moved-at 0)) refl
+        where
+          go : (b : Bool) → ltb 0 (getD m′ moved-at 0) ≡ b → Names after (next-named u ran b)
+          go true e =
+              let some-moved = ltb-true 0 (getD m′ moved-at 0) e in
+              rw (a .moved (λ z. omega arith)) n
+          go false e =
+              let none-moved = ltb-false 0 (getD m′ moved-at 0) e in
+              let (w, l, first) = leads u ran e in
+              let (x, y) = a .still (omega arith) w l in
+              rw first (record { node-is = x; event-is = y })
+
+      leads-if : LeadsIfStill table state′ m′
+      leads-if = (row-holds .long, λ z. let (w, l, first) = leads u ran (le-ltb 0 (getD m′ moved-at 0) (omega arith)) in (w, l))
+
+    pub can-look : r ≢ 1 → r ≢ 2 → LeadsIfStill table state′ m′
+    can-look x y = let suspended : r ≡ 0 = omega (arith, went .below) in leads-if (ran-by (ap flagOf suspended))
+
     -- neither STOP nor TERM: another pass
-    pub goes-by : r ≢ 1 → r ≢ 2 → Underway table t₀ X row₀ state′ (wordsOf (nextNumbers m′)) row′ (tallyOf (nextNumbers m′)) (passes + 1)
+    pub goes-by : r ≢ 1 → r ≢ 2
+        → (v : Underway table t₀ X row₀ state′ (wordsOf (nextNumbers m′)) row′ (tallyOf (nextNumbers m′)) (passes + 1))
+        × ((before after : W.Wait) → Names before (u .named) → WaitsAfter table state′ m′ before after → Names after (v .named))
+    unfolding goes ran-by went
     goes-by x y =
         let suspended : r ≡ 0 = omega (arith, went .below) in
-        rw (next-words m′, next-tallied m′ (row-holds .long)) (goes u (ran-by (ap flagOf suspended)))
+        rw (next-words m′, next-tallied m′ (row-holds .long))
+        (goes u (ran-by (ap flagOf suspended)), λ before after n a. names-after (ran-by (ap flagOf suspended)) n a)
 
     pub next-row-holds : Numbers table (nextNumbers m′)
     next-row-holds = next-holds row-holds

@@ -4,9 +4,10 @@ use mathlib.Core.Bool.{Bool, true, false, cond, _&&_}
 use mathlib.Core.Path.{_≡_}
 use mathlib.Core.Logic.{_≢_}
 use mathlib.Core.List.{List, _++_}
+use mathlib.Core.Option.{Option, none, some}
 use lib.ListN.{length, take, drop, replicate}
 use lib.Dec.{leb, ltb}
-use Rattle.events.specs.Events.{Events, none, howMany, lowest}
+use Rattle.events.specs.Events.{Events, none as no-event, howMany, lowest}
 use Rattle.events.specs.Members.{places, members}
 use Rattle.junior.specs.declared.Flag.{Flag}
 use Rattle.junior.specs.declared.Flag.the-variants.{SUSP, STOP, TERM}
@@ -16,6 +17,7 @@ use Rattle.junior.specs.Trace.{atoms}
 use Rattle.junior.specs.Rules.{left-first, Result}
 use Rattle.junior.specs.Instant.{Instant}
 use Rattle.junior.specs.AtRest.{AtRest}
+use Rattle.junior.specs.Waited.{Wait, waited}
 use Rattle.table.specs.declared.Checked.{Checked}
 use Rattle.table.specs.declared.Checked.the-variants.{BadLength, BadCounts, BadDistances, BadConfiguration, BadNode}
 use Rattle.table.specs.declared.Checked.the-variants.{TooDeep, EndlessLoop, TooHeavy, Accepted}
@@ -101,6 +103,15 @@ ended SUSP = false
 ended STOP = false
 ended TERM = true
 
+-- the test and the event that an instant's answer names: "node 4,096 and event 256 if the end was never declared"
+abbrev pub nodeOf : Option Wait → ℕ
+nodeOf none = 4096
+nodeOf (some w) = w .node
+
+abbrev pub eventOf : Option Wait → ℕ
+eventOf none = places
+eventOf (some w) = w .event
+
 -- an instant was run: the term that stands in the state's bytes, the instant that the rules give it, and all of it in the answer and the rooms
 pub record Run (t s : List ℕ) (X : Events) (row s′ row′ : List ℕ) (r : Answer) : Type 0 where
   pub term : Term
@@ -114,17 +125,22 @@ pub record Run (t s : List ℕ) (X : Events) (row s′ row′ : List ℕ) (r : A
   pub lowest-is : r .lowest ≡ lowest places (result .env .now)
   pub atoms-are : r .atoms ≡ length (atoms (result .acts))
   pub finished-is : r .finished ≡ ended (result .flag)
+  pub waits-node-is : r .waits .node ≡ nodeOf (waited instant)
+  pub waits-event-is : r .waits .event ≡ eventOf (waited instant)
   pub state-is : s′ ≡ stateBytes (result .to) ++ drop (4 * nodes t) s
   pub row-is : row′ ≡ atoms (result .acts) ++ drop (r .atoms) row
 
--- an instant was refused: every other field 0 or false, the set empty, `places` for the lowest
+-- an instant was refused: every other field 0 or false, the set empty, `places` for the lowest; of L1, "node 4,096 and event 256 if .. the call
+-- refused"
 pub record Refused (r : Answer) : Type 0 where
-  pub events-are : members (r .events) ≡ none
+  pub events-are : members (r .events) ≡ no-event
   pub count-is : r .count ≡ 0
   pub lowest-is : r .lowest ≡ places
   pub atoms-are : r .atoms ≡ 0
   pub finished-is : r .finished ≡ false
   pub passes-are : r .passes ≡ 0
+  pub waits-node-is : r .waits .node ≡ 4096
+  pub waits-event-is : r .waits .event ≡ places
 
 -- the whole of what an instant answers
 pub record Answered (t s : List ℕ) (X : Events) (row s′ row′ : List ℕ) (r : Answer) : Type 0 where

@@ -14,6 +14,7 @@ use Rattle.table.specs.declared.Checked.the-variants.{EndlessLoop, TooHeavy, Ac
 use Rattle.table.specs.Records.{nodes}
 use Rattle.table.specs.Verdict.{verdictOf, numberOf, indexOf, figuresOf}
 use Rattle.table.specs.Bytes.{node, configuration, trailer}
+use Rattle.waiting.specs.declared.Wait.{Wait}
 use Rattle.kernel.specs.declared.Outcome.{Outcome}
 use Rattle.kernel.specs.declared.Outcome.the-variants.{Ran, Table, StateRoom, NotAtRest, UnlistedEvent}
 use Rattle.kernel.specs.declared.Outcome.the-variants.{AtomRoom}
@@ -91,14 +92,32 @@ set l = record { words = words-of (places / 64) 0 l }
 abbrev pub no-event : ℕ
 no-event = places
 
+-- what stands for the test that waits and its event if the end wasn't declared
+abbrev pub no-wait : Wait
+no-wait = record { node = 4096; event = no-event }
+
 -- the answer of an instant that ran: its events, how many, the lowest; how many atoms; whether it finished; passes
 abbrev pub ran : List ℕ → ℕ → ℕ → ℕ → Bool → ℕ → Answer
 ran X count lowest atoms finished passes =
-    record { outcome = Ran; events = set X; count = count; lowest = lowest; atoms = atoms; finished = finished; passes = passes }
+    record { outcome = Ran; events = set X; count = count; lowest = lowest; atoms = atoms; finished = finished; passes = passes; waits = no-wait }
+
+-- the same of one whose end was declared: the node of the first test that waited, and the event
+abbrev pub waiting : ℕ → ℕ → Answer → Answer
+waiting n e a =
+    record {
+      outcome = a .outcome;
+      events = a .events;
+      count = a .count;
+      lowest = a .lowest;
+      atoms = a .atoms;
+      finished = a .finished;
+      passes = a .passes;
+      waits = record { node = n; event = e };
+    }
 
 -- the answer of one that was refused
 abbrev pub refusal : Outcome → Answer
-refusal o = record { outcome = o; events = set []; count = 0; lowest = no-event; atoms = 0; finished = false; passes = 0 }
+refusal o = record { outcome = o; events = set []; count = 0; lowest = no-event; atoms = 0; finished = false; passes = 0; waits = no-wait }
 
 -- an instant that ran: the events handed in, the row, the answer, the row after it, the state room after it
 abbrev pub instant-in : List ℕ → List ℕ → Answer → List ℕ → List ℕ → Line
@@ -236,7 +255,7 @@ K1-to-K12 =
     ∷ [])
     -- K3: P, Par(Seq(Await 0, Seq(Atom 7, Generate 1)), Await 1)
     ∷ accepted (table (par (reply 0) (await 1)) (event 0 ++ event 1) 2) 1 1 7
-    (instant [] (ran [] 0 no-event 0 false 2) row9 (room (0 ∷ 0 ∷ 0 ∷ 0 ∷ 0 ∷ 0 ∷ 0 ∷ []))
+    (instant [] (waiting 2 0 (ran [] 0 no-event 0 false 2)) row9 (room (0 ∷ 0 ∷ 0 ∷ 0 ∷ 0 ∷ 0 ∷ 0 ∷ []))
     ∷ instant (0 ∷ []) (ran (0 ∷ 1 ∷ []) 2 0 1 true 1) (7 ∷ 9 ∷ 9 ∷ 9 ∷ []) (room (3 ∷ 0 ∷ 0 ∷ 0 ∷ 0 ∷ 0 ∷ 0 ∷ []))
     ∷ instant (1 ∷ []) (ran (1 ∷ []) 1 1 0 true 1) row9 (room (3 ∷ 0 ∷ 0 ∷ 0 ∷ 0 ∷ 0 ∷ 0 ∷ []))
     ∷ [])
@@ -250,7 +269,7 @@ K1-to-K12 =
     ∷ [])
     -- K6: When(1, Atom 1, Atom 2)
     ∷ accepted (table choice (event 1) 2) 0 1 2
-    (instant [] (ran [] 0 no-event 0 false 2) row9 (room (2 ∷ 0 ∷ 0 ∷ []))
+    (instant [] (waiting 0 1 (ran [] 0 no-event 0 false 2)) row9 (room (2 ∷ 0 ∷ 0 ∷ []))
     ∷ instant [] (ran [] 0 no-event 1 true 1) (2 ∷ 9 ∷ 9 ∷ 9 ∷ []) (room (3 ∷ 0 ∷ 0 ∷ []))
     ∷ [])
     -- K7: Until(not 0, Stop, Atom 5)
@@ -259,17 +278,17 @@ K1-to-K12 =
     ∷ instant [] (ran [] 0 no-event 0 true 1) row9 (room (3 ∷ 0 ∷ 0 ∷ []))
     ∷ [])
     ∷ accepted (table (until 0 stop (atom 5)) (no (event 0)) 1) 0 1 3
-    (instant [] (ran [] 0 no-event 0 false 2) row9 (room (2 ∷ 0 ∷ 0 ∷ []))
+    (instant [] (waiting 0 0 (ran [] 0 no-event 0 false 2)) row9 (room (2 ∷ 0 ∷ 0 ∷ []))
     ∷ instant [] (ran [] 0 no-event 1 true 1) (5 ∷ 9 ∷ 9 ∷ 9 ∷ []) (room (3 ∷ 0 ∷ 0 ∷ []))
     ∷ [])
     -- K8: Loop(Await 0)
     ∷ refused (table (loop (await 0)) (event 0) 1) (EndlessLoop 0) 7 0
     -- Loop(Seq(Await 0, Stop)): once its body has ended it begins again in the same instant
     ∷ accepted (table (loop (seq (await 0) stop)) (event 0) 1) 0 0 7
-    (instant [] (ran [] 0 no-event 0 false 2) row9 (room (1 ∷ 0 ∷ 0 ∷ 0 ∷ []))
+    (instant [] (waiting 2 0 (ran [] 0 no-event 0 false 2)) row9 (room (1 ∷ 0 ∷ 0 ∷ 0 ∷ []))
     ∷ instant (0 ∷ []) (ran (0 ∷ []) 1 0 0 false 1) row9 (room (1 ∷ 2 ∷ 0 ∷ 3 ∷ []))
     ∷ instant (0 ∷ []) (ran (0 ∷ []) 1 0 0 false 1) row9 (room (1 ∷ 2 ∷ 0 ∷ 3 ∷ []))
-    ∷ instant [] (ran [] 0 no-event 0 false 2) row9 (room (1 ∷ 0 ∷ 0 ∷ 0 ∷ []))
+    ∷ instant [] (waiting 2 0 (ran [] 0 no-event 0 false 2)) row9 (room (1 ∷ 0 ∷ 0 ∷ 0 ∷ []))
     ∷ [])
     -- K9: Local(0, Par(Await 0, Generate 0))
     ∷ accepted (table (local 0 (par (await 0) (generate 0))) (event 0) 1) 1 0 4
@@ -284,7 +303,7 @@ K1-to-K12 =
     ∷ [])
     -- K11: Control(0, Generate 1)
     ∷ accepted (table (control 0 (generate 1)) [] 2) 1 0 2
-    (instant [] (ran [] 0 no-event 0 false 2) row9 (room (0 ∷ 0 ∷ []))
+    (instant [] (waiting 0 0 (ran [] 0 no-event 0 false 2)) row9 (room (0 ∷ 0 ∷ []))
     ∷ instant (0 ∷ []) (ran (0 ∷ 1 ∷ []) 2 0 0 true 1) row9 (room (3 ∷ 0 ∷ []))
     ∷ [])
     -- K12: Repeat(4094, Generate 0), and 4095; Repeat(4096, Atom 0), and 4097
@@ -322,23 +341,23 @@ more-of-the-forms =
     ∷ [])
     -- Par(Await 0, Await 1)
     ∷ accepted (table (par (await 0) (await 1)) (event 0 ++ event 1) 2) 0 0 3
-    (instant [] (ran [] 0 no-event 0 false 2) row9 (room (0 ∷ 0 ∷ 0 ∷ []))
-    ∷ instant (0 ∷ []) (ran (0 ∷ []) 1 0 0 false 2) row9 (own 0 2 0 ++ room (3 ∷ 0 ∷ []))
-    ∷ instant (0 ∷ []) (ran (0 ∷ []) 1 0 0 false 2) row9 (own 0 2 0 ++ room (3 ∷ 0 ∷ []))
+    (instant [] (waiting 1 0 (ran [] 0 no-event 0 false 2)) row9 (room (0 ∷ 0 ∷ 0 ∷ []))
+    ∷ instant (0 ∷ []) (waiting 2 1 (ran (0 ∷ []) 1 0 0 false 2)) row9 (own 0 2 0 ++ room (3 ∷ 0 ∷ []))
+    ∷ instant (0 ∷ []) (waiting 2 1 (ran (0 ∷ []) 1 0 0 false 2)) row9 (own 0 2 0 ++ room (3 ∷ 0 ∷ []))
     ∷ instant (1 ∷ []) (ran (1 ∷ []) 1 1 0 true 1) row9 (room (3 ∷ 0 ∷ 0 ∷ []))
     ∷ [])
     -- and its second branch first
     ∷ accepted (table (par (await 0) (await 1)) (event 0 ++ event 1) 2) 0 0 3
-    (instant (1 ∷ []) (ran (1 ∷ []) 1 1 0 false 2) row9 (own 0 8 0 ++ room (0 ∷ 3 ∷ []))
+    (instant (1 ∷ []) (waiting 1 0 (ran (1 ∷ []) 1 1 0 false 2)) row9 (own 0 8 0 ++ room (0 ∷ 3 ∷ []))
     ∷ instant (0 ∷ 1 ∷ []) (ran (0 ∷ 1 ∷ []) 2 0 0 true 1) row9 (room (3 ∷ 0 ∷ 0 ∷ []))
     ∷ [])
     -- Par(Seq(Stop, Atom 1), Await 0), and exchanged: a branch that stopped isn't run again in that instant
     ∷ accepted (table (par (seq stop (atom 1)) (await 0)) (event 0) 1) 0 1 5
-    (instant [] (ran [] 0 no-event 0 false 2) row9 (room (0 ∷ 0 ∷ 3 ∷ 0 ∷ 0 ∷ []))
+    (instant [] (waiting 4 0 (ran [] 0 no-event 0 false 2)) row9 (room (0 ∷ 0 ∷ 3 ∷ 0 ∷ 0 ∷ []))
     ∷ instant (0 ∷ []) (ran (0 ∷ []) 1 0 1 true 1) (1 ∷ 9 ∷ 9 ∷ 9 ∷ []) (room (3 ∷ 0 ∷ 0 ∷ 0 ∷ 0 ∷ []))
     ∷ [])
     ∷ accepted (table (par (await 0) (seq stop (atom 1))) (event 0) 1) 0 1 5
-    (instant [] (ran [] 0 no-event 0 false 2) row9 (room (0 ∷ 0 ∷ 0 ∷ 3 ∷ 0 ∷ []))
+    (instant [] (waiting 1 0 (ran [] 0 no-event 0 false 2)) row9 (room (0 ∷ 0 ∷ 0 ∷ 3 ∷ 0 ∷ []))
     ∷ instant (0 ∷ []) (ran (0 ∷ []) 1 0 1 true 1) (1 ∷ 9 ∷ 9 ∷ 9 ∷ []) (room (3 ∷ 0 ∷ 0 ∷ 0 ∷ 0 ∷ []))
     ∷ [])
     -- Par(Atom 1, Atom 2): the first branch first
@@ -347,7 +366,7 @@ more-of-the-forms =
     ∷ [])
     -- Par(Await 1, Generate 0) with event 0 there already: generating it is a move all the same
     ∷ accepted (table (par (await 0) (generate 0)) (event 1) 2) 1 0 3
-    (instant (0 ∷ []) (ran (0 ∷ []) 1 0 0 false 3) row9 (own 0 8 0 ++ room (0 ∷ 3 ∷ []))
+    (instant (0 ∷ []) (waiting 1 1 (ran (0 ∷ []) 1 0 0 false 3)) row9 (own 0 8 0 ++ room (0 ∷ 3 ∷ []))
     ∷ [])
     -- Loop(Seq(Atom 1, Stop)): A and W count the body twice
     ∷ accepted (table (loop (seq (atom 1) stop)) [] 1) 0 2 7
@@ -372,12 +391,12 @@ more-of-the-forms =
     ∷ [])
     -- Repeat(2, Await 0)
     ∷ accepted (table (repeat 2 (await 0)) (event 0) 1) 0 0 3
-    (instant [] (ran [] 0 no-event 0 false 2) row9 (own 1 0 1 ++ room (0 ∷ []))
+    (instant [] (waiting 1 0 (ran [] 0 no-event 0 false 2)) row9 (own 1 0 1 ++ room (0 ∷ []))
     ∷ instant (0 ∷ []) (ran (0 ∷ []) 1 0 0 true 1) row9 (room (3 ∷ 0 ∷ []))
     ∷ [])
     -- When(not 0, Atom 1, Atom 2): late then, early else
     ∷ accepted (table (when 0 (atom 1) (atom 2)) (no (event 0)) 1) 0 1 2
-    (instant [] (ran [] 0 no-event 0 false 2) row9 (room (1 ∷ 0 ∷ 0 ∷ []))
+    (instant [] (waiting 0 0 (ran [] 0 no-event 0 false 2)) row9 (room (1 ∷ 0 ∷ 0 ∷ []))
     ∷ instant (0 ∷ []) (ran (0 ∷ []) 1 0 1 true 1) (1 ∷ 9 ∷ 9 ∷ 9 ∷ []) (room (3 ∷ 0 ∷ 0 ∷ []))
     ∷ [])
     ∷ accepted (table (when 0 (atom 1) (atom 2)) (no (event 0)) 1) 0 1 2
@@ -389,7 +408,7 @@ more-of-the-forms =
     ∷ instant [] (ran [] 0 no-event 1 true 1) (1 ∷ 9 ∷ 9 ∷ 9 ∷ []) (room (3 ∷ 0 ∷ 0 ∷ 0 ∷ 0 ∷ 0 ∷ 0 ∷ []))
     ∷ [])
     ∷ accepted (table (when 0 (seq stop (atom 1)) (seq stop (atom 2))) (event 0) 1) 0 1 4
-    (instant [] (ran [] 0 no-event 0 false 2) row9 (room (2 ∷ 0 ∷ 0 ∷ 0 ∷ 0 ∷ 0 ∷ 0 ∷ []))
+    (instant [] (waiting 0 0 (ran [] 0 no-event 0 false 2)) row9 (room (2 ∷ 0 ∷ 0 ∷ 0 ∷ 0 ∷ 0 ∷ 0 ∷ []))
     ∷ instant (0 ∷ []) (ran (0 ∷ []) 1 0 0 false 1) row9 (room (2 ∷ 0 ∷ 0 ∷ 0 ∷ 0 ∷ 3 ∷ 0 ∷ []))
     ∷ instant (0 ∷ []) (ran (0 ∷ []) 1 0 1 true 1) (2 ∷ 9 ∷ 9 ∷ 9 ∷ []) (room (3 ∷ 0 ∷ 0 ∷ 0 ∷ 0 ∷ 0 ∷ 0 ∷ []))
     ∷ [])
@@ -398,13 +417,13 @@ more-of-the-forms =
     (instant (0 ∷ []) (ran (0 ∷ []) 1 0 1 true 1) (5 ∷ 9 ∷ 9 ∷ 9 ∷ []) (room (3 ∷ 0 ∷ 0 ∷ []))
     ∷ [])
     ∷ accepted (table (until 0 stop (atom 5)) (event 0) 1) 0 1 3
-    (instant [] (ran [] 0 no-event 0 false 2) row9 (room (0 ∷ 3 ∷ 0 ∷ []))
+    (instant [] (waiting 0 0 (ran [] 0 no-event 0 false 2)) row9 (room (0 ∷ 3 ∷ 0 ∷ []))
     ∷ instant (0 ∷ []) (ran (0 ∷ []) 1 0 0 true 1) row9 (room (3 ∷ 0 ∷ 0 ∷ []))
     ∷ [])
     -- Until(0, Await 1, Seq(Stop, Atom 5)): the test is read once the body has stopped; late handler
     ∷ accepted (table (until 0 (await 1) (seq stop (atom 5))) (event 0 ++ event 1) 2) 0 1 5
-    (instant [] (ran [] 0 no-event 0 false 2) row9 (room (0 ∷ 0 ∷ 0 ∷ 0 ∷ 0 ∷ []))
-    ∷ instant (0 ∷ []) (ran (0 ∷ []) 1 0 0 false 2) row9 (room (2 ∷ 0 ∷ 0 ∷ 0 ∷ 0 ∷ []))
+    (instant [] (waiting 1 1 (ran [] 0 no-event 0 false 2)) row9 (room (0 ∷ 0 ∷ 0 ∷ 0 ∷ 0 ∷ []))
+    ∷ instant (0 ∷ []) (waiting 1 1 (ran (0 ∷ []) 1 0 0 false 2)) row9 (room (2 ∷ 0 ∷ 0 ∷ 0 ∷ 0 ∷ []))
     ∷ instant [] (ran [] 0 no-event 0 false 1) row9 (room (2 ∷ 0 ∷ 0 ∷ 3 ∷ 0 ∷ []))
     ∷ instant [] (ran [] 0 no-event 1 true 1) (5 ∷ 9 ∷ 9 ∷ 9 ∷ []) (room (3 ∷ 0 ∷ 0 ∷ 0 ∷ 0 ∷ []))
     ∷ [])
@@ -419,7 +438,7 @@ more-of-the-forms =
     -- Control(0, Seq(Stop, Atom 3)): without its event the body stands still
     ∷ accepted (table (control 0 (seq stop (atom 3))) [] 1) 0 1 4
     (instant (0 ∷ []) (ran (0 ∷ []) 1 0 0 false 1) row9 (room (0 ∷ 0 ∷ 3 ∷ 0 ∷ []))
-    ∷ instant [] (ran [] 0 no-event 0 false 2) row9 (room (0 ∷ 0 ∷ 3 ∷ 0 ∷ []))
+    ∷ instant [] (waiting 0 0 (ran [] 0 no-event 0 false 2)) row9 (room (0 ∷ 0 ∷ 3 ∷ 0 ∷ []))
     ∷ instant (0 ∷ []) (ran (0 ∷ []) 1 0 1 true 1) (3 ∷ 9 ∷ 9 ∷ 9 ∷ []) (room (3 ∷ 0 ∷ 0 ∷ 0 ∷ []))
     ∷ [])
     -- Par(Control(0, Atom 3), Generate 0)
@@ -435,17 +454,17 @@ more-of-the-forms =
     ∷ [])
     -- Local(0, Await 0): the event outside is another
     ∷ accepted (table (local 0 (await 0)) (event 0) 1) 0 0 2
-    (instant (0 ∷ []) (ran (0 ∷ []) 1 0 0 false 2) row9 (room (0 ∷ 0 ∷ []))
+    (instant (0 ∷ []) (waiting 1 0 (ran (0 ∷ []) 1 0 0 false 2)) row9 (room (0 ∷ 0 ∷ []))
     ∷ [])
     -- Local(0, Par(Par(Await 0, Generate 0), Await 1)): present in every later pass of the instant, gone at rest
     ∷ accepted (table (local 0 (par (par (await 0) (generate 0)) (await 1))) (event 0 ++ event 1) 2) 1 0 6
-    (instant [] (ran [] 0 no-event 0 false 3) row9 (own 0 0 0 ++ (own 0 2 0 ++ room (3 ∷ 0 ∷ 0 ∷ 0 ∷ [])))
+    (instant [] (waiting 5 1 (ran [] 0 no-event 0 false 3)) row9 (own 0 0 0 ++ (own 0 2 0 ++ room (3 ∷ 0 ∷ 0 ∷ 0 ∷ [])))
     ∷ instant (1 ∷ []) (ran (1 ∷ []) 1 1 0 true 1) row9 (room (3 ∷ 0 ∷ 0 ∷ 0 ∷ 0 ∷ 0 ∷ []))
     ∷ [])
     -- Local(0, Seq(Generate 0, Seq(Stop, When(0, Atom 1, Atom 2)))): and in the next instant it is absent
     ∷ accepted (table (local 0 (seq (generate 0) (seq stop (when 0 (atom 1) (atom 2))))) (event 0) 1) 1 1 7
     (instant [] (ran [] 0 no-event 0 false 1) row9 (room (0 ∷ 2 ∷ 0 ∷ 0 ∷ 3 ∷ 0 ∷ 0 ∷ 0 ∷ []))
-    ∷ instant [] (ran [] 0 no-event 0 false 2) row9 (room (0 ∷ 2 ∷ 0 ∷ 2 ∷ 0 ∷ 2 ∷ 0 ∷ 0 ∷ []))
+    ∷ instant [] (waiting 5 0 (ran [] 0 no-event 0 false 2)) row9 (room (0 ∷ 2 ∷ 0 ∷ 2 ∷ 0 ∷ 2 ∷ 0 ∷ 0 ∷ []))
     ∷ instant [] (ran [] 0 no-event 1 true 1) (2 ∷ 9 ∷ 9 ∷ 9 ∷ []) (room (3 ∷ 0 ∷ 0 ∷ 0 ∷ 0 ∷ 0 ∷ 0 ∷ 0 ∷ []))
     ∷ [])
     -- Local(0, Seq(Generate 1, Stop)): other events go out
@@ -480,7 +499,7 @@ loops =
     ∷ accepted (table (loop (seq (await 0) stop)) (event 0) 1) 0 0 7
     (instant (0 ∷ []) (ran (0 ∷ []) 1 0 0 false 1) row9 (room (1 ∷ 2 ∷ 0 ∷ 3 ∷ []))
     ∷ instant (0 ∷ []) (ran (0 ∷ []) 1 0 0 false 1) row9 (room (1 ∷ 2 ∷ 0 ∷ 3 ∷ []))
-    ∷ instant [] (ran [] 0 no-event 0 false 2) row9 (room (1 ∷ 0 ∷ 0 ∷ 0 ∷ []))
+    ∷ instant [] (waiting 2 0 (ran [] 0 no-event 0 false 2)) row9 (room (1 ∷ 0 ∷ 0 ∷ 0 ∷ []))
     ∷ [])
     -- Loop(Repeat(2, Stop)): the Loop begins the Repeat again with count 1
     ∷ accepted (table (loop (repeat 2 stop)) [] 1) 0 0 7
@@ -505,31 +524,31 @@ tests =
     -- not 0: early unsat, late sat
     accepted (table (await 0) (no (event 0)) 1) 0 0 1
     (instant (0 ∷ []) (ran (0 ∷ []) 1 0 0 false 1) row9 (room (0 ∷ []))
-    ∷ instant [] (ran [] 0 no-event 0 false 2) row9 (room (3 ∷ []))
+    ∷ instant [] (waiting 0 0 (ran [] 0 no-event 0 false 2)) row9 (room (3 ∷ []))
     ∷ instant (0 ∷ []) (ran (0 ∷ []) 1 0 0 true 1) row9 (room (3 ∷ []))
     ∷ [])
     -- 0 and 1
     ∷ accepted (table (await 0) (both (event 0) (event 1)) 2) 0 0 1
-    (instant [] (ran [] 0 no-event 0 false 2) row9 (room (0 ∷ []))
-    ∷ instant (0 ∷ []) (ran (0 ∷ []) 1 0 0 false 2) row9 (room (0 ∷ []))
-    ∷ instant (1 ∷ []) (ran (1 ∷ []) 1 1 0 false 2) row9 (room (0 ∷ []))
+    (instant [] (waiting 0 0 (ran [] 0 no-event 0 false 2)) row9 (room (0 ∷ []))
+    ∷ instant (0 ∷ []) (waiting 0 1 (ran (0 ∷ []) 1 0 0 false 2)) row9 (room (0 ∷ []))
+    ∷ instant (1 ∷ []) (waiting 0 0 (ran (1 ∷ []) 1 1 0 false 2)) row9 (room (0 ∷ []))
     ∷ instant (0 ∷ 1 ∷ []) (ran (0 ∷ 1 ∷ []) 2 0 0 true 1) row9 (room (3 ∷ []))
     ∷ [])
     -- (not 0) and 1: early unsat by its first part
     ∷ accepted (table (await 0) (both (no (event 0)) (event 1)) 2) 0 0 1
     (instant (0 ∷ []) (ran (0 ∷ []) 1 0 0 false 1) row9 (room (0 ∷ []))
-    ∷ instant [] (ran [] 0 no-event 0 false 2) row9 (room (0 ∷ []))
-    ∷ instant (1 ∷ []) (ran (1 ∷ []) 1 1 0 false 2) row9 (room (3 ∷ []))
+    ∷ instant [] (waiting 0 0 (ran [] 0 no-event 0 false 2)) row9 (room (0 ∷ []))
+    ∷ instant (1 ∷ []) (waiting 0 0 (ran (1 ∷ []) 1 1 0 false 2)) row9 (room (3 ∷ []))
     ∷ [])
     -- 1 and (not 0): by its second
     ∷ accepted (table (await 0) (both (event 1) (no (event 0))) 2) 0 0 1
     (instant (0 ∷ []) (ran (0 ∷ []) 1 0 0 false 1) row9 (room (0 ∷ []))
     ∷ instant (0 ∷ 1 ∷ []) (ran (0 ∷ 1 ∷ []) 2 0 0 false 1) row9 (room (0 ∷ []))
-    ∷ instant (1 ∷ []) (ran (1 ∷ []) 1 1 0 false 2) row9 (room (3 ∷ []))
+    ∷ instant (1 ∷ []) (waiting 0 0 (ran (1 ∷ []) 1 1 0 false 2)) row9 (room (3 ∷ []))
     ∷ [])
     -- 0 or 1: early sat by its first part, by its second
     ∷ accepted (table (await 0) (either (event 0) (event 1)) 2) 0 0 1
-    (instant [] (ran [] 0 no-event 0 false 2) row9 (room (0 ∷ []))
+    (instant [] (waiting 0 0 (ran [] 0 no-event 0 false 2)) row9 (room (0 ∷ []))
     ∷ instant (0 ∷ []) (ran (0 ∷ []) 1 0 0 true 1) row9 (room (3 ∷ []))
     ∷ [])
     ∷ accepted (table (await 0) (either (event 0) (event 1)) 2) 0 0 1
@@ -538,7 +557,7 @@ tests =
     -- (not 0) or (not 1): early unsat by both, late sat
     ∷ accepted (table (await 0) (either (no (event 0)) (no (event 1))) 2) 0 0 1
     (instant (0 ∷ 1 ∷ []) (ran (0 ∷ 1 ∷ []) 2 0 0 false 1) row9 (room (0 ∷ []))
-    ∷ instant (0 ∷ []) (ran (0 ∷ []) 1 0 0 false 2) row9 (room (3 ∷ []))
+    ∷ instant (0 ∷ []) (waiting 0 1 (ran (0 ∷ []) 1 0 0 false 2)) row9 (room (3 ∷ []))
     ∷ [])
     -- a test that is a part of another configuration
     ∷ accepted (table (await 1) (no (event 0)) 1) 0 0 1 (instant (0 ∷ []) (ran (0 ∷ []) 1 0 0 true 1) row9 (room (3 ∷ [])) ∷ [])
@@ -567,19 +586,19 @@ abbrev pub harmless-loops : List Entry
 harmless-loops =
     -- Loop(When(0, Stop, Nothing)): 0 can be true early only, so the else branch needn't stop; with 0 absent, present, absent
     accepted (table (loop (when 0 stop nothing)) (event 0) 1) 0 0 5
-    (instant [] (ran [] 0 no-event 0 false 2) row9 (room (1 ∷ 2 ∷ 0 ∷ 0 ∷ []))
+    (instant [] (waiting 1 0 (ran [] 0 no-event 0 false 2)) row9 (room (1 ∷ 2 ∷ 0 ∷ 0 ∷ []))
     ∷ instant (0 ∷ []) (ran (0 ∷ []) 1 0 0 false 1) row9 (room (1 ∷ 1 ∷ 3 ∷ 0 ∷ []))
-    ∷ instant [] (ran [] 0 no-event 0 false 2) row9 (room (1 ∷ 2 ∷ 0 ∷ 0 ∷ []))
+    ∷ instant [] (waiting 1 0 (ran [] 0 no-event 0 false 2)) row9 (room (1 ∷ 2 ∷ 0 ∷ 0 ∷ []))
     ∷ [])
     -- Loop(When(not 0, Nothing, Stop)): early false only; Loop(When(not 0, Stop, Nothing)): its else branch doesn't stop
     ∷ accepted (table (loop (when 0 nothing stop)) (no (event 0)) 1) 0 0 5
-    (instant [] (ran [] 0 no-event 0 false 2) row9 (room (1 ∷ 1 ∷ 0 ∷ 0 ∷ []))
+    (instant [] (waiting 1 0 (ran [] 0 no-event 0 false 2)) row9 (room (1 ∷ 1 ∷ 0 ∷ 0 ∷ []))
     ∷ instant (0 ∷ []) (ran (0 ∷ []) 1 0 0 false 1) row9 (room (1 ∷ 2 ∷ 0 ∷ 3 ∷ []))
     ∷ [])
     ∷ refused (table (loop (when 0 stop nothing)) (no (event 0)) 1) (EndlessLoop 0) 7 0
     -- Loop(Await(not 0)), which can't be true early; Loop(Await(not not 0)) can, as Loop(Await 0) can, K8
     ∷ accepted (table (loop (await 0)) (no (event 0)) 1) 0 0 3
-    (instant [] (ran [] 0 no-event 0 false 2) row9 (room (1 ∷ 3 ∷ []))
+    (instant [] (waiting 1 0 (ran [] 0 no-event 0 false 2)) row9 (room (1 ∷ 3 ∷ []))
     ∷ instant (0 ∷ []) (ran (0 ∷ []) 1 0 0 false 1) row9 (room (1 ∷ 0 ∷ []))
     ∷ [])
     ∷ refused (table (loop (await 0)) (no (no (event 0))) 1) (EndlessLoop 0) 7 0
@@ -587,7 +606,7 @@ harmless-loops =
     ∷ refused (table (loop (await 1)) (no (event 0)) 1) (EndlessLoop 0) 7 0
     -- Loop(Until(not 0, Stop, Nothing)): the handler can't come early; Loop(Until(0, Stop, Nothing)): it can; Loop(Until(not 0, Nothing, Stop)): the body
     ∷ accepted (table (loop (until 0 stop nothing)) (no (event 0)) 1) 0 0 7
-    (instant [] (ran [] 0 no-event 0 false 2) row9 (room (1 ∷ 2 ∷ 0 ∷ 0 ∷ []))
+    (instant [] (waiting 1 0 (ran [] 0 no-event 0 false 2)) row9 (room (1 ∷ 2 ∷ 0 ∷ 0 ∷ []))
     ∷ instant (0 ∷ []) (ran (0 ∷ []) 1 0 0 false 1) row9 (room (1 ∷ 0 ∷ 3 ∷ 0 ∷ []))
     ∷ [])
     ∷ refused (table (loop (until 0 stop nothing)) (event 0) 1) (EndlessLoop 0) 7 0
@@ -610,6 +629,44 @@ harmless-loops =
     ∷ accepted (table (repeat 9 (seq (generate 0) (await 0))) (no (event 0)) 1) 2 0 7 []
     ∷ accepted (table (repeat 65535 (await 0)) (no (event 0)) 1) 0 0 3 []
     ∷ refused (table (repeat 65535 (await 0)) (event 0) 1) TooHeavy 8 0
+    ∷ []
+
+-- L1: the first test in node order that was suspended in the last pass before the end, and the lowest event that it lacks
+abbrev pub waiting-tests : List Entry
+waiting-tests =
+    -- Await(1 and 0): the lowest of two; Await((0 or 1) and 2): a part that is decided counts too
+    accepted (table (await 0) (both (event 1) (event 0)) 2) 0 0 1
+    (instant (0 ∷ []) (waiting 0 1 (ran (0 ∷ []) 1 0 0 false 2)) row9 (room (0 ∷ []))
+    ∷ instant [] (waiting 0 0 (ran [] 0 no-event 0 false 2)) row9 (room (0 ∷ []))
+    ∷ instant (1 ∷ []) (waiting 0 0 (ran (1 ∷ []) 1 1 0 false 2)) row9 (room (0 ∷ []))
+    ∷ [])
+    ∷ accepted (table (await 0) (both (either (event 0) (event 1)) (event 2)) 3) 0 0 1
+    (instant (1 ∷ []) (waiting 0 0 (ran (1 ∷ []) 1 1 0 false 2)) row9 (room (0 ∷ []))
+    ∷ [])
+    -- Par(Await 1, Generate 0): the last pass before the end is the quiet second one
+    ∷ accepted (table (par (await 0) (generate 0)) (event 1) 2) 1 0 3
+    (instant [] (waiting 1 1 (ran (0 ∷ []) 1 0 0 false 3)) row9 (own 0 8 0 ++ room (0 ∷ 3 ∷ []))
+    ∷ [])
+    -- Par(When(1, Await 0, Nothing), Generate 1): the When waited in the first pass, the Await in the last
+    ∷ accepted (table (par (when 0 (await 1) nothing) (generate 1)) (event 1 ++ event 0) 2) 1 0 4
+    (instant [] (waiting 2 0 (ran (1 ∷ []) 1 1 0 false 3)) row9 (own 0 8 0 ++ room (1 ∷ 0 ∷ 0 ∷ 3 ∷ []))
+    ∷ [])
+    -- Local(0, Seq(Generate 0, Await(0 and 1))), Local(0, Await 0): a Local's event as the test sees it
+    ∷ accepted (table (local 0 (seq (generate 0) (await 0))) (both (event 0) (event 1)) 2) 1 0 4
+    (instant [] (waiting 3 1 (ran [] 0 no-event 0 false 3)) row9 (room (0 ∷ 2 ∷ 0 ∷ 0 ∷ []))
+    ∷ [])
+    ∷ accepted (table (local 0 (await 0)) (event 0) 1) 0 0 2
+    (instant (0 ∷ []) (waiting 1 0 (ran (0 ∷ []) 1 0 0 false 2)) row9 (room (0 ∷ 0 ∷ []))
+    ∷ [])
+    -- Until(0, Stop, Atom 5): what waits is the Until, its body having stopped
+    ∷ accepted (table (until 0 stop (atom 5)) (event 0) 1) 0 1 3
+    (instant [] (waiting 0 0 (ran [] 0 no-event 0 false 2)) row9 (room (0 ∷ 3 ∷ 0 ∷ []))
+    ∷ [])
+    -- Control(2, Await 1): for its own event; with it present, its body's test
+    ∷ accepted (table (control 2 (await 0)) (event 1) 3) 0 0 2
+    (instant [] (waiting 0 2 (ran [] 0 no-event 0 false 2)) row9 (room (0 ∷ 0 ∷ []))
+    ∷ instant (2 ∷ []) (waiting 1 1 (ran (2 ∷ []) 1 2 0 false 2)) row9 (room (0 ∷ 0 ∷ []))
+    ∷ [])
     ∷ []
 
 -- Refusals 1 to 5 and 7 (6 is run only, 01)
@@ -745,4 +802,5 @@ not-at-rest =
 abbrev pub bench-list : List Entry
 bench-list =
     K1-to-K12
-    ++ (more-of-the-forms ++ (loops ++ (resumed-rooms ++ (tests ++ (figures ++ (harmless-loops ++ (refused-tables ++ (refused-rooms ++ not-at-rest))))))))
+    ++ (more-of-the-forms
+    ++ (loops ++ (resumed-rooms ++ (tests ++ (figures ++ (harmless-loops ++ (waiting-tests ++ (refused-tables ++ (refused-rooms ++ not-at-rest)))))))))

@@ -5,6 +5,7 @@ use Prim.Native.Nat.{ℕ, _*_, _<_, _≤_}
 use mathlib.Core.Bool.{true}
 use mathlib.Core.Path.{_≡_}
 use mathlib.Core.List.{List}
+use mathlib.Core.Option.{Option}
 use lib.ListN.{length, take, drop}
 use Rattle.events.specs.Events.{Events, howMany, lowest}
 use Rattle.events.specs.Members.{places, members}
@@ -16,6 +17,7 @@ use Rattle.junior.specs.Rules.{left-first, Result}
 use Rattle.junior.specs.Instant.{Instant}
 use Rattle.junior.specs.Printed.{Abstract, reads, Deed, actions, _∣_—[_doing_]—_passes→_∣_}
 use Rattle.junior.specs.AtRest.{AtRest}
+use Rattle.junior.specs.Waited.{Wait, waited}
 use Rattle.table.specs.declared.Checked.the-variants.{Accepted}
 use Rattle.table.specs.Records.{nodes, events}
 use Rattle.table.specs.Spells.{treeOf}
@@ -24,7 +26,7 @@ use Rattle.state.specs.StateBytes.{stateBytes}
 use Rattle.state.specs.Resting.{blamed}
 use Rattle.kernel.specs.declared.Outcome.the-variants.{Ran}
 use Rattle.kernel.specs.declared.Answer.{Answer}
-use Rattle.kernel.specs.Answer.{ended}
+use Rattle.kernel.specs.Answer.{ended, nodeOf, eventOf}
 
 -- what an instant is handed
 pub record Premises (t s : List ℕ) (X : Events) (row : List ℕ) : Type 0 where
@@ -67,7 +69,13 @@ pub record Gives (t s row s′ row′ : List ℕ) (a : Answer) (n : ℕ) (r : Re
   pub state-beyond : drop (4 * nodes t) s′ ≡ drop (4 * nodes t) s
   pub row-beyond : drop (a .atoms) row′ ≡ drop (a .atoms) row
 
--- the answer and the rooms are what n passes by the rules as 000 prints them give: the flag α, doing l, and u in E
+-- L1: "Demand 2 covers both fields", the node and the event of the test that the instant reports
+pub record Reports (a : Answer) (w : Option Wait) : Type 0 where
+  pub node : a .waits .node ≡ nodeOf w
+  pub event : a .waits .event ≡ eventOf w
+
+-- the answer and the rooms are what n passes by the rules as 000 prints them give: the flag α, doing l, and u in E. L1's fields aren't among
+-- them: what 000's rules tell of a pass has no nodes.
 pub record GivesPrinted (t s′ row′ : List ℕ) (a : Answer) (n : ℕ) (α : Flag) (l : List Deed) (u : Abstract) (E : Env) : Type 0 where
   pub event-set : members (a .events) ≡ E .now
   pub actions-in-order : take (a .atoms) row′ ≡ actions l
@@ -86,6 +94,7 @@ pub record Demand2 (t s : List ℕ) (X : Events) (row s′ row′ : List ℕ) (a
   -- "that Junior's rewriting rules give .. left branch first": by rules without rule 9
   pub there : (n : ℕ) × (r : Result) × Instant left-first term (handed-in X) n r
   pub gives : {n : ℕ} {r : Result} → Instant left-first term (handed-in X) n r → Gives t s row s′ row′ a n r
+  pub reports : {n : ℕ} {r : Result} (i : Instant left-first term (handed-in X) n r) → Reports a (waited i)
   -- "Junior's rewriting rules .. read as the requirements settle them": by the rules as 000 prints them, too, there is an instant, and every
   -- instant gives this
   pub printed-there : (n : ℕ) × (α : Flag) × (l : List Deed) × (u : Abstract) × (E : Env)

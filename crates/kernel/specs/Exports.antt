@@ -18,14 +18,15 @@ checkPlaces c = numberOf c ∷ indexOf c ∷ figuresOf c .generations ∷ figure
 abbrev pub startPlaces : Outcome → List ℕ
 startPlaces o = outcomeNumber o ∷ outcomeIndex o ∷ []
 
--- number, index, how many events are present, the lowest, how many atoms were written, whether finished, passes, the set's words
+-- number, index, how many events are present, the lowest, how many atoms were written, whether finished, passes, the node and
+-- the event of the test that waited, the set's words
 abbrev pub instantPlaces : Answer → List ℕ
 instantPlaces a =
-    startPlaces (a .outcome) ++ (a .count ∷ a .lowest ∷ a .atoms ∷ cond (a .finished) 1 0 ∷ a .passes ∷ a .events .words)
+    startPlaces (a .outcome) ++ (a .count ∷ a .lowest ∷ a .atoms ∷ cond (a .finished) 1 0 ∷ a .passes ∷ a .waits .node ∷ a .waits .event ∷ a .events .words)
 
 -- how many they are
 abbrev pub instant-length : ℕ
-instant-length = 7 + places / 64
+instant-length = 9 + places / 64
 
 pub record StartedInPlaces (t s s′ into : List ℕ) : Type 0 where
   pub outcome : Outcome

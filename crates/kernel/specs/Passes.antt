@@ -3,11 +3,12 @@ use Prim.Native.Nat.{ℕ, _*_, _≤_}
 use mathlib.Core.Bool.{Bool}
 use mathlib.Core.Path.{_≡_}
 use mathlib.Core.List.{List}
-use lib.ListN.{length}
+use mathlib.Core.Logic.{_≢_}
+use lib.ListN.{length, getD}
 use denote.Ref.{RefT}
 use Rattle.events.specs.declared.EventSet.{EventSet}
 use Rattle.events.specs.Events.{Events, howMany, lowest}
-use Rattle.events.specs.Members.{places, members}
+use Rattle.events.specs.Members.{places, marks, members}
 use Rattle.junior.specs.Term.{Term, prog}
 use Rattle.junior.specs.Figures.{LoopsStop, G, A}
 use Rattle.junior.specs.AtRest.{AtRest}
@@ -15,6 +16,9 @@ use Rattle.table.specs.Records.{nodes}
 use Rattle.table.specs.Spells.{treeOf}
 use Rattle.table.specs.Inside.{Placed}
 use Rattle.state.specs.StateBytes.{stateBytes}
+use Rattle.steps.specs.Numbers.{moved-at, places-of-row, wordsOf}
+use Rattle.waiting.specs.declared.Wait.{Wait}
+use Rattle.waiting.specs.Down.{SomeLeads, LeadsTo}
 use Rattle.kernel.specs.declared.Outcome.the-variants.{Ran}
 use Rattle.kernel.specs.declared.Answer.{Answer}
 use Rattle.kernel.specs.Answer.{Run}
@@ -40,7 +44,7 @@ pub record RanBehind (t : List ℕ) (s : RefT (List ℕ)) (X : Events) (w s′ w
   pub same-row : w′ .name ≡ w .name
 
 -- the answer of an instant that was run
-pub record Reported (events : EventSet) (atoms : ℕ) (finished : Bool) (passes : ℕ) (r : Answer) : Type 0 where
+pub record Reported (events : EventSet) (atoms : ℕ) (finished : Bool) (passes : ℕ) (waits : Wait) (r : Answer) : Type 0 where
   pub outcome-is : r .outcome ≡ Ran
   pub events-are : r .events ≡ events
   pub count-is : r .count ≡ howMany places (members events)
@@ -48,3 +52,14 @@ pub record Reported (events : EventSet) (atoms : ℕ) (finished : Bool) (passes 
   pub atoms-are : r .atoms ≡ atoms
   pub finished-is : r .finished ≡ finished
   pub passes-are : r .passes ≡ passes
+  pub waits-are : r .waits ≡ waits
+
+-- the way from node 0 leads to a test that waits, if the row says that nothing moved
+abbrev pub LeadsIfStill : List ℕ → List ℕ → List ℕ → Type 0
+LeadsIfStill t s numbers =
+    (length numbers ≡ places-of-row) × (getD numbers moved-at 0 ≡ 0 → SomeLeads t s 0 (marks (wordsOf numbers)))
+
+-- then r is that test, else what was named before
+pub record WaitsAfter (t s numbers : List ℕ) (before r : Wait) : Type 0 where
+  pub still : getD numbers moved-at 0 ≡ 0 → LeadsTo t s (marks (wordsOf numbers)) r
+  pub moved : getD numbers moved-at 0 ≢ 0 → r ≡ before

@@ -15,7 +15,7 @@ use table::check;
 use table::numbers::refusal_of_table;
 
 // An instant's answer has so many places in front of the words of its events, and so many in all.
-const LEADING: usize = 7;
+const LEADING: usize = 9;
 
 const INSTANT_PLACES: usize = LEADING + WORDS;
 
@@ -76,6 +76,8 @@ pub extern "C" fn zapper_instant(
         a.atoms as u64,
         a.finished as u64,
         a.passes as u64,
+        a.waits.node as u64,
+        a.waits.event as u64,
     ];
     let present = a.events.words;
     *answer = places_of(leading, present);

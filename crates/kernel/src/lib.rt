@@ -13,6 +13,8 @@ use state::resting::first_blamed;
 use table::Checked;
 use table::check;
 use table::records::word_at;
+use waiting::Wait;
+use waiting::no_wait;
 
 pub mod exports;
 pub mod numbers;
@@ -41,6 +43,9 @@ pub struct Answer {
     pub atoms: usize,
     pub finished: bool,
     pub passes: usize,
+    // The first test in node order that was suspended in the last pass before the end was declared, and the event that it waits for; node
+    // 4,096 and event 256 if the end never was.
+    pub waits: Wait,
 }
 
 // Makes the state fresh: refusals 1 to 9.
@@ -139,5 +144,6 @@ fn refused(outcome: Outcome) -> Answer
         atoms: 0,
         finished: false,
         passes: 0,
+        waits: no_wait(),
     }
 }

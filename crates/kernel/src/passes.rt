@@ -3,7 +3,7 @@ ghost use mathlib.Core.Path.{_≡_};
 ghost use Rattle.events.specs.Members.{members};
 ghost use Rattle.kernel.specs.declared.Outcome.the-variants.{Ran};
 ghost use Rattle.kernel.specs.Answer.{Run};
-ghost use Rattle.kernel.specs.Passes.{Startable, RanBehind, Reported};
+ghost use Rattle.kernel.specs.Passes.{Startable, RanBehind, Reported, LeadsIfStill, WaitsAfter};
 use crate::Answer;
 use crate::Outcome;
 use events::EventSet;
@@ -11,11 +11,16 @@ use runner::run_child;
 use steps::flags::STOP;
 use steps::flags::TERM;
 use steps::numbers::ATOMS;
+use steps::numbers::MOVED;
+use steps::numbers::NUMBERS;
 use steps::numbers::events_of;
 use steps::numbers::first_numbers;
 use steps::numbers::next_pass;
 use steps::phases::GONE;
 use table::records::word_at;
+use waiting::Wait;
+use waiting::no_wait;
+use waiting::waiting;
 
 // Passes from node 0 until one answers STOP or TERM (01, "Instant"). All that stands here is walked by hand: the slices are handed on as
 // references of one register each, which no slice that is a parameter can be lent as otherwise.
@@ -35,25 +40,39 @@ fn run_from(table: &[u8], state: &mut &mut [u8], events: EventSet, atoms: &mut &
     ensures { λ r. ⌜ RanBehind (now (table .entry)) (now (state .entry)) (members events) (now (atoms .entry)) (now (state .exit)) (now (atoms .exit)) r ⌝ }
 {
     let nodes = word_at(table, table.len() - 10);
-    let mut numbers = first_numbers(events, 6 * nodes);
+    let mut row = first_numbers(events, 6 * nodes);
     let mut passes = 0;
+    let mut waits = no_wait();
     loop {
         passes += 1;
-        let flag = run_child(&table, 0, state, &mut numbers, atoms);
+        let flag = run_child(&table, 0, state, &mut row, atoms);
         if flag == STOP {
-            return report(events_of(&numbers), numbers[ATOMS] as usize, false, passes);
+            return report(events_of(&row), row[ATOMS] as usize, false, passes, waits);
         }
         if flag == TERM {
             state[0] = GONE;
-            return report(events_of(&numbers), numbers[ATOMS] as usize, true, passes);
+            return report(events_of(&row), row[ATOMS] as usize, true, passes, waits);
         }
-        next_pass(&mut numbers);
+        waits = waits_after(table, state, &row, waits);
+        next_pass(&mut row);
     }
 }
 
+// What is waited for after a pass that suspended: if nothing moved, the end is declared now, and that is looked for.
+fn waits_after(table: &[u8], state: &mut [u8], numbers: &[u64; NUMBERS], waits: Wait) -> Wait
+    requires { ⌜ LeadsIfStill (now table) (now state) (now numbers) ⌝ }
+    ensures { λ r. ⌜ now (state .exit) ≡ now (state .entry) ⌝ }
+    ensures { λ r. ⌜ WaitsAfter (now (table .entry)) (now (state .entry)) (now (numbers .entry)) waits r ⌝ }
+{
+    if numbers[MOVED] == 0 {
+        return waiting(table, state, events_of(numbers));
+    }
+    waits
+}
+
 // The answer of an instant that was run.
-fn report(events: EventSet, atoms: usize, finished: bool, passes: usize) -> Answer
-    ensures { λ r. ⌜ Reported events atoms finished passes r ⌝ }
+fn report(events: EventSet, atoms: usize, finished: bool, passes: usize, waits: Wait) -> Answer
+    ensures { λ r. ⌜ Reported events atoms finished passes waits r ⌝ }
 {
     Answer {
         outcome: Outcome::Ran,
@@ -63,5 +82,6 @@ fn report(events: EventSet, atoms: usize, finished: bool, passes: usize) -> Answ
         atoms,
         finished,
         passes,
+        waits,
     }
 }

@@ -36,8 +36,15 @@ written {least} {text} {old} {r = r} f h p =
     record {
       answer = simp (le-leb least (length old) h) whole;
       room = simp (le-leb least (length old) h) (p .room ∙ sets-front old text (omega arith));
+      short = omega arith;
       within = omega arith;
     }
 
 pub unwritten : {least : ℕ} (text : List ℕ) {old : List ℕ} → length old < least → Written least text old old 0
-unwritten {least} text {old} h = record { answer = simp (lt-leb least (length old) h); room = simp (lt-leb least (length old) h); within = omega arith }
+unwritten {least} text {old} h =
+    record {
+      answer = simp (lt-leb least (length old) h);
+      room = simp (lt-leb least (length old) h);
+      short = omega arith;
+      within = omega arith;
+    }

@@ -52,4 +52,5 @@ enough n = 6 * (n + (places + 10))
 pub record Written (least : ℕ) (text old new : List ℕ) (r : ℕ) : Type 0 where
   pub answer : r ≡ cond (leb least (length old)) (length text) 0
   pub room : new ≡ cond (leb least (length old)) (text ++ drop (length text) old) old
+  pub short : r ≤ least
   pub within : r ≤ length old

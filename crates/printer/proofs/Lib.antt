@@ -6,3 +6,4 @@ pub mod ShortTests
 pub mod NodesIn
 pub mod ArgumentsIn
 pub mod ShortTexts
+pub mod Outlined

@@ -20,7 +20,7 @@ use Rattle.letters.proofs.Puts.{puts-then}
 use Rattle.printer.proofs.FitsInParts.{fits-first, fits-on}
 
 -- what stands at a node, by how many parts its record says there are
-tree-at : {t : List ℕ} {i n : ℕ} {p : Program} → Spells t i p → children (kindAt t i) ≡ n → Tree t i n p
+pub tree-at : {t : List ℕ} {i n : ℕ} {p : Program} → Spells t i p → children (kindAt t i) ≡ n → Tree t i n p
 tree-at {t} {i} {p = p} h e = subst (λ (m : ℕ). Tree t i m p) e (tree t i p h)
 
 -- no part; some, the first of which comes first; one; two

@@ -10,7 +10,7 @@ use Rattle.table.specs.Inside.{Loaded}
 use Rattle.table.proofs.TestParts.{Test, fine-test, not-part, and-parts, or-parts}
 use Rattle.form.specs.Spelling.{spellTest}
 
-pub test-short : {t : List ℕ} → Loaded t → (d : Config) {j : ℕ} → Test t j d → length (spellTest d) ≤ 12 * weight d
+pub test-short : {t : List ℕ} → Loaded t → (d : Config) {j : ℕ} → Test t j d → length (spellTest d) ≤ 7 * weight d
 unfolding Configured weight spellTest
 test-short l (Event s) h =
     let below = fine-test (l .configurations-good) h 0 (h .there .0) .event-below in

@@ -34,10 +34,10 @@ link-few : (k : ℕ) → length (link k) ≤ 2
 unfolding link
 link-few k = linked-few (inside k 0) (inside k 1)
 
-argument-few : {t : List ℕ} {i : ℕ} {p : Program} → Placed t i p → length (argument p) ≤ 24576
+argument-few : {t : List ℕ} {i : ℕ} {p : Program} → Placed t i p → length (argument p) ≤ 14336
 argument-few {t} {i} {p} h = go (argued t i p (h .spelled))
   where
-    go : {a b : Bool} → Argued t i p a b → length (argument p) ≤ 24576
+    go : {a b : Bool} → Argued t i p a b → length (argument p) ≤ 14336
     go (no-argument e) = rw e (omega arith)
     go (a-number e) =
         let n = argumentAt t i in
@@ -46,17 +46,17 @@ argument-few {t} {i} {p} h = go (argued t i p (h .spelled))
         let x = test-at h l d c in
         rw e (omega (arith, ends-inside (h .loaded .configurations-good) d x, test-short (h .loaded) d x, h .loaded .framed .m-most))
 
-head-few : {t : List ℕ} {i : ℕ} {p : Program} → Placed t i p → length (head p) ≤ 24590
+pub head-few : {t : List ℕ} {i : ℕ} {p : Program} → Placed t i p → length (head p) ≤ 14350
 head-few {t} {i} {p} h =
     simp length-append (omega (arith, name-short p, argument-few h, link-few (kind p)))
 
-short : (n : ℕ) {t : List ℕ} {i : ℕ} {p : Program} → Placed t i p → size p ≤ n → length (spell p) ≤ 24700 * size p
+short : (n : ℕ) {t : List ℕ} {i : ℕ} {p : Program} → Placed t i p → size p ≤ n → length (spell p) ≤ 14400 * size p
 short zero {p = p} h l = absurd (omega (arith, size-pos p))
 short (suc n) {t} {i} {p} h l =
     rw (spelled-by p, length-append (head p) (rest p)) (go (λ j q d m. short n d m) (tree t i p (h .spelled)))
   where
-    go : ((j : ℕ) (q : Program) → Placed t j q → size q ≤ n → length (spell q) ≤ 24700 * size q) → {m : ℕ} → Tree t i m p
-        → length (head p) + length (rest p) ≤ 24700 * size p
+    go : ((j : ℕ) (q : Program) → Placed t j q → size q ≤ n → length (spell q) ≤ 14400 * size q) → {m : ℕ} → Tree t i m p
+        → length (head p) + length (rest p) ≤ 14400 * size p
     go below (leaf h′ f) = rw (rest-none f) (omega (arith, head-few h, of-none f .size-is))
     go below (one {q = q} h′ f x) =
         let s = of-one f .size-is in

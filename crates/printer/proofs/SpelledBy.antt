@@ -1,4 +1,5 @@
--- A program's spelling is what its own record tells and the rest: `spelled-by`; and what the codes of its kind tell of its argument.
+-- A program's spelling is what its own record tells and the rest: `spelled-by`; in short, the same and how it closes: `outlined-by`; and what
+-- the codes of its kind tell of its argument.
 use mathlib.Core.Bool.{Bool, true, false}
 use mathlib.Core.Path.{_≡_, refl, ap, _∙_}
 use mathlib.Core.List.{List, [], _++_, append-assoc}
@@ -11,6 +12,7 @@ use Rattle.junior.specs.Program.{Leaf, One, Two, Parts, no-part, one-part, two-
 use Rattle.junior.proofs.Parts.{parts-none, parts-one, parts-two}
 use Rattle.form.specs.Names.{opening}
 use Rattle.form.specs.Spelling.{spellArgument, before, spellParts, spell}
+use Rattle.printer.specs.Outline.{outlineParts, outline}
 use Rattle.printer.specs.Printing.{takesTest, takesNumber, argument, link, head, restOf, rest}
 
 -- an argument, and whether a form that has it takes a test, and a number
@@ -63,14 +65,15 @@ before-is (configuration c) w = refl
 regroup : (o a l w : List ℕ) → o ++ (a ++ (l ++ w)) ≡ (o ++ (a ++ l)) ++ w
 regroup o a l w = simp append-assoc
 
+with-argument : (p : Program) (w : List ℕ)
+    → opening (kind p) ++ before (own p) w ≡ (opening (kind p) ++ (spellArgument (own p) ++ linkAfter (own p))) ++ w
+with-argument p w =
+    ap (λ (x : List ℕ). opening (kind p) ++ x) (before-is (own p) w) ∙ regroup (opening (kind p)) (spellArgument (own p)) (linkAfter (own p)) w
+
 by-parts : {p : Program} (v : Parts p) → spellParts v ≡ (opening (kind p) ++ (spellArgument (own p) ++ between v)) ++ restOf v
 by-parts {p} (no-part f) = regroup (opening (kind p)) (spellArgument (own p)) [] (bytes ")")
-by-parts {p} (one-part f q) =
-    let w = restOf (one-part f q) in
-    ap (λ (x : List ℕ). opening (kind p) ++ x) (before-is (own p) w) ∙ regroup (opening (kind p)) (spellArgument (own p)) (linkAfter (own p)) w
-by-parts {p} (two-parts f q r) =
-    let w = restOf (two-parts f q r) in
-    ap (λ (x : List ℕ). opening (kind p) ++ x) (before-is (own p) w) ∙ regroup (opening (kind p)) (spellArgument (own p)) (linkAfter (own p)) w
+by-parts {p} (one-part f q) = with-argument p (restOf (one-part f q))
+by-parts {p} (two-parts f q r) = with-argument p (restOf (two-parts f q r))
 
 pub spelled-by : (p : Program) → spell p ≡ head p ++ rest p
 unfolding spell argument rest
@@ -88,3 +91,34 @@ rest-one f = ap restOf (parts-one f)
 pub rest-two : {p q r : Program} → Two p q r → rest p ≡ spell q ++ (bytes ", " ++ (spell r ++ bytes ")"))
 unfolding rest spell
 rest-two f = ap restOf (parts-two f)
+
+-- how a program in short closes
+abbrev closingOf : {p : Program} → Parts p → List ℕ
+closingOf (no-part f) = bytes ")"
+closingOf (one-part f q) = bytes "..)"
+closingOf (two-parts f q r) = bytes "..)"
+
+unfoldable pub closing : Program → List ℕ
+closing p = closingOf (parts p)
+
+short-by-parts : {p : Program} (v : Parts p)
+    → outlineParts v ≡ (opening (kind p) ++ (spellArgument (own p) ++ between v)) ++ closingOf v
+short-by-parts {p} (no-part f) = regroup (opening (kind p)) (spellArgument (own p)) [] (bytes ")")
+short-by-parts {p} (one-part f q) = with-argument p (bytes "..)")
+short-by-parts {p} (two-parts f q r) = with-argument p (bytes "..)")
+
+pub outlined-by : (p : Program) → outline p ≡ head p ++ closing p
+unfolding outline argument closing
+outlined-by p = rw (codes-tell p .link-is) (short-by-parts (parts p))
+
+pub closing-none : {p : Program} → Leaf p → closing p ≡ bytes ")"
+unfolding closing
+closing-none f = ap closingOf (parts-none f)
+
+pub closing-one : {p q : Program} → One p q → closing p ≡ bytes "..)"
+unfolding closing
+closing-one f = ap closingOf (parts-one f)
+
+pub closing-two : {p q r : Program} → Two p q r → closing p ≡ bytes "..)"
+unfolding closing
+closing-two f = ap closingOf (parts-two f)

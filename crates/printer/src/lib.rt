@@ -1,3 +1,3 @@
 // Printing the program of an accepted table into a lent room, as far as there is room.
-mod room;
+pub mod room;
 pub mod spelled;

@@ -6,6 +6,7 @@ ghost use Rattle.form.specs.Names.{opening};
 ghost use Rattle.form.specs.Spelling.{spell};
 ghost use Rattle.form.specs.Inside.Rows.{TheNames, kinds, formRow, nameEnd, inside};
 ghost use Rattle.letters.specs.Rooms.{Puts};
+ghost use Rattle.printer.specs.Outline.{outline};
 ghost use Rattle.printer.specs.Printing.{Fits, argument, linked, head, joint, Printable, Shows, Testable, ShowsTest};
 use crate::room::put;
 use crate::room::put_name;
@@ -53,6 +54,19 @@ fn put_node(names: &[u8; LONG], table: &[u8], i: usize, room: &mut [u8], at: usi
     let between = put(room, first, b", ");
     let second = put_node(names, table, second_at(table, i), room, between);
     put(room, second, b")")
+}
+
+// Prints the program at node i, `..` for its parts.
+pub fn put_outline(table: &[u8], i: usize, room: &mut [u8], at: usize) -> usize
+    requires { ⌜ Printable outline (now table) i at ⌝ }
+    ensures { λ r. ⌜ Shows outline (now (table .entry)) i (now (room .entry)) (now (room .exit)) at r ⌝ }
+{
+    let names = table_of_names();
+    let begun = put_head(&names, table, i, room, at);
+    if children_of(kind_at(table, i)) == 0 {
+        return put(room, begun, b")");
+    }
+    put(room, begun, b"..)")
 }
 
 // What its own record tells: the name, the argument, and what stands between the argument and a part.

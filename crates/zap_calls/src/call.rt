@@ -213,6 +213,8 @@ fn call_instant(
             answer.atoms as u64,
             answer.finished as u64,
             answer.passes as u64,
+            answer.waits.node as u64,
+            answer.waits.event as u64,
         ],
     );
     let bytes = put_bytes(output, figures, state, 32);

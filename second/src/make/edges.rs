@@ -4,6 +4,7 @@ use super::draft::short::*;
 use super::draft::{Cond, Draft, Records};
 use super::limits::{broad, filled, nots, weighing, wrapped};
 use super::loop_edges;
+use super::wait_edges;
 use crate::env::Events;
 use crate::instant;
 use crate::lines::{print, Call};
@@ -34,6 +35,7 @@ pub fn lines() -> Vec<String> {
     edges.scopes();
     edges.nests();
     loop_edges::add(&mut edges);
+    wait_edges::add(&mut edges);
     let mut met = HashSet::new();
     edges.0.retain(|line| met.insert(line.clone()));
     edges.0
@@ -75,7 +77,7 @@ impl Edges {
         self.add(Call::Start { table: table.to_vec(), state });
     }
 
-    fn instant(&mut self, table: &[u8], state: &[u8], events: &[u8], places: usize) {
+    pub fn instant(&mut self, table: &[u8], state: &[u8], events: &[u8], places: usize) {
         let (table, state) = (table.to_vec(), state.to_vec());
         self.add(Call::Instant { table, state, events: set(events), row: vec![0xa5a5; places] });
     }
@@ -88,7 +90,7 @@ impl Edges {
     }
 
     /// Instants one after the other from a state on, in rooms with places to spare.
-    fn go_on(&mut self, records: &Records, state: Vec<u8>, instants: &[&[u8]]) {
+    pub fn go_on(&mut self, records: &Records, state: Vec<u8>, instants: &[&[u8]]) {
         let table = records.bytes();
         let places = instant::check(&table).map_or(0, |figures| figures.a as usize) + 1;
         let mut state = state;

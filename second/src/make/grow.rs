@@ -11,6 +11,8 @@ struct Ground<'a> {
     events: usize,
     /// The conditions that tests choose from, so that several tests ask the same.
     conds: Vec<Cond>,
+    /// How often each kind of step is taken.
+    steps: [usize; 8],
 }
 
 /// A random program as records, mostly of an acceptable table.
@@ -27,10 +29,38 @@ pub fn lasting(r: &mut Random) -> Records {
 /// A random program of many branches that share few events, so that the order in which they run tells.
 pub fn woven(r: &mut Random) -> Records {
     let events = r.between(2, 4);
+    let program = weave(r, events, [26, 26, 20, 4, 7, 7, 4, 6]);
+    Records::sharing(events as u16, &program)
+}
+
+/// A random program of many tests over several events, within scopes and one behind another, so that instants wait.
+pub fn waiting(r: &mut Random) -> Records {
+    let events = r.between(2, 6);
+    let program = weave(r, events, [10, 34, 3, 3, 12, 14, 12, 12]);
+    let mut records = Records::sharing(events as u16, &program);
+    if r.chance(15) {
+        spread(r, &mut records);
+    }
+    records
+}
+
+fn weave(r: &mut Random, events: usize, steps: [usize; 8]) -> Draft {
     let conds = (0..r.between(1, 4)).map(|_| cond(r, events, 3)).collect();
     let branches = r.between(2, 8);
-    let program = Ground { r, events, conds }.weave(branches);
-    Records::sharing(events as u16, &program)
+    Ground { r, events, conds, steps }.weave(branches)
+}
+
+/// Gives the events other numbers, anywhere below 256.
+fn spread(r: &mut Random, records: &mut Records) {
+    let step = 2 * r.below(128) + 1;
+    let elsewhere = |event: usize| (event + 1) * step % 256;
+    for node in records.nodes.iter_mut().filter(|node| matches!(node.kind, 7 | 11 | 12)) {
+        node.argument = elsewhere(usize::from(node.argument)) as u16;
+    }
+    for config in records.configs.iter_mut().filter(|config| config.kind == 0) {
+        config.event = elsewhere(usize::from(config.event)) as u8;
+    }
+    records.events = 256;
 }
 
 fn records(r: &mut Random, lasting: bool) -> Records {
@@ -47,7 +77,7 @@ fn records(r: &mut Random, lasting: bool) -> Records {
         3 => r.between(26, 60),
         _ => r.between(61, 160),
     };
-    let mut ground = Ground { r, events, conds };
+    let mut ground = Ground { r, events, conds, steps: [1; 8] };
     let program = match ground.r.weigh(&[50, 10, 32, 8]) {
         0 => ground.draft(nodes),
         1 => ground.chain(nodes / 5 + 1),
@@ -249,7 +279,7 @@ impl Ground<'_> {
     }
 
     fn step(&mut self) -> Draft {
-        match self.r.weigh(&[26, 26, 20, 4, 7, 7, 4, 6]) {
+        match self.r.weigh(&self.steps) {
             0 => generate(self.event()),
             1 => wait(self.test()),
             2 => self.atom(),

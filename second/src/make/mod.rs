@@ -16,6 +16,8 @@ mod rest;
 mod spoil;
 pub mod text_edges;
 pub mod texts;
+mod wait_edges;
+pub mod waits;
 mod wide;
 mod write;
 
@@ -26,6 +28,7 @@ pub fn lines(sort: &str, cases: usize, seed: u64) -> Option<Box<dyn Iterator<Ite
         "loops" => Some(Box::new(loops::lines(cases, seed))),
         "orders" => Some(Box::new(orders::lines(cases, seed))),
         "texts" => Some(Box::new(texts::lines(cases, seed))),
+        "waits" => Some(Box::new(waits::lines(cases, seed))),
         _ => None,
     }
 }

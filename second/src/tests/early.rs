@@ -1,5 +1,6 @@
 //! L2: what stops, by the values that a test can have before the end. Its examples, typed in, and what its rule must keep.
 
+use super::waits::at;
 use super::*;
 use crate::config::Config;
 use crate::env::Env;
@@ -19,8 +20,10 @@ fn a_loop_over_when() {
     assert_eq!(check(1, program()), figures(0, 0, 5));
     let mut play = Play::new(1, program());
     play.instant(&[], 2, "STOP", &[], &[]);
+    assert_eq!(play.waits, at(1, 0));
     assert_eq!(play.state, [1, 0, 0, 0, 2, 0, 0, 0, 0, 0, 0, 0, 0, 0, 0, 0]);
     play.instant(&[0], 1, "STOP", &[0], &[]);
+    assert_eq!(play.waits, None);
     assert_eq!(play.state, [1, 0, 0, 0, 1, 0, 0, 0, 3, 0, 0, 0, 0, 0, 0, 0]);
 }
 
@@ -31,6 +34,7 @@ fn a_loop_over_await() {
     assert_eq!(check(1, program()), figures(0, 0, 3));
     let mut play = Play::new(1, program());
     play.instant(&[], 2, "STOP", &[], &[]);
+    assert_eq!(play.waits, at(1, 0));
     assert_eq!(play.state, [1, 0, 0, 0, 3, 0, 0, 0]);
     play.instant(&[0], 1, "STOP", &[0], &[]);
     assert_eq!(play.state, [1, 0, 0, 0, 0, 0, 0, 0]);

@@ -30,8 +30,8 @@ fn a_refusal_writes_nothing() {
         ("check", _) => assert_eq!(answer[2..], ["0", "0", "0"]),
         ("start", _) => assert_eq!(answer[2], line[2]),
         _ => {
-            assert_eq!(answer[2..8], ["-", "0", "256", "0", "0", "0"]);
-            assert_eq!(answer[8..], [line[2], line[4]]);
+            assert_eq!(answer[2..10], ["-", "0", "256", "0", "0", "0", "4096", "256"]);
+            assert_eq!(answer[10..], [line[2], line[4]]);
         }
     });
 }
@@ -44,13 +44,13 @@ fn success_writes_its_part() {
             return;
         }
         let n = table::read(&bytes(line[1])).expect("accepted").root.size;
-        let (before, after) = (bytes(line[2]), bytes(answer[if line[0] == "start" { 2 } else { 8 }]));
+        let (before, after) = (bytes(line[2]), bytes(answer[if line[0] == "start" { 2 } else { 10 }]));
         assert_eq!(before.len(), after.len());
         assert_eq!(before[4 * n..], after[4 * n..]);
         if line[0] == "start" {
             assert!(after[..4 * n].iter().all(|&byte| byte == 0));
         } else {
-            let (row, later) = (bytes(line[4]), bytes(answer[9]));
+            let (row, later) = (bytes(line[4]), bytes(answer[11]));
             let atoms: usize = answer[5].parse().expect("a number");
             assert_eq!(row.len(), later.len());
             assert_eq!(row[2 * atoms..], later[2 * atoms..]);
@@ -73,7 +73,7 @@ fn an_instant_ends_at_rest() {
         assert!(number(answer[5]) <= figures.a);
         let present: Vec<&str> = answer[2].split(',').collect();
         assert!(line[3].split(',').all(|event| event == "-" || present.contains(&event)));
-        let after = bytes(answer[8]);
+        let after = bytes(answer[10]);
         assert_eq!(state::blamed(&program.root, &after), None);
         if answer[6] == "1" {
             assert!(after[0] == 3 && after[1..4 * program.root.size].iter().all(|&byte| byte == 0));

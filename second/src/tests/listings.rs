@@ -1,4 +1,4 @@
-//! The listing program: P's listing and the readings taken.
+//! The listing program: P's listing and the readings taken; and the program for people (L1).
 
 use super::*;
 use crate::listing;
@@ -7,6 +7,12 @@ use crate::make::draft::short::*;
 fn listing(table: &[u8], input: &[u8]) -> String {
     let mut out = Vec::new();
     listing::play(table, input, &mut out).expect("memory takes all");
+    String::from_utf8(out).expect("a listing is text")
+}
+
+fn explained(table: &[u8], input: &[u8]) -> String {
+    let mut out = Vec::new();
+    listing::explain(table, input, &mut out).expect("memory takes all");
     String::from_utf8(out).expect("a listing is text")
 }
 
@@ -91,4 +97,42 @@ fn e7_table_that_cannot_be_read() {
 fn e9_line_numbers_go_on() {
     let text = listing(&patient(1), &[b'\n'; 65_537]);
     assert!(text.ends_with("\n65535 1 STOP - -\n65536 1 STOP - -\n65537 1 STOP - -\n"));
+}
+
+// README's install: it waits for event 2 until that is announced beside event 1.
+#[test]
+fn an_install_that_hangs() {
+    let both = wait(and(event(1), event(2)));
+    let install = seq(atom(1), seq(wait(event(0)), seq(atom(2), seq(both, atom(3)))));
+    assert_eq!(
+        explained(&Records::new(3, &install).bytes(), b"\n0\n1\n1\n1 2\n"),
+        "1 2 STOP - 1\nwaits at node 3 in Jr.Await(0) for event 0\n\
+         2 2 STOP 0 2\nwaits at node 7 in Jr.Await((1 and 2)) for event 1\n\
+         3 2 STOP 1 -\nwaits at node 7 in Jr.Await((1 and 2)) for event 2\n\
+         4 2 STOP 1 -\nwaits at node 7 in Jr.Await((1 and 2)) for event 2\n\
+         5 1 TERM 1,2 3\n"
+    );
+}
+
+// Each form that can wait, and the test of the request's own example.
+#[test]
+fn forms_that_wait() {
+    let of = |program: Draft| explained(&Records::new(9, &program).bytes(), b"0\n");
+    assert_eq!(
+        of(wait(and(event(0), not(event(5))))),
+        "1 2 STOP 0 -\nwaits at node 0 in Jr.Await((0 and (not 5))) for event 5\n"
+    );
+    assert_eq!(
+        of(when(or(event(3), event(4)), stop(), stop())),
+        "1 2 STOP 0 -\nwaits at node 0 in Jr.When((3 or 4), ..) for event 3\n"
+    );
+    assert_eq!(of(until(event(8), stop(), atom(1))), "1 2 STOP 0 -\nwaits at node 0 in Jr.Until(8, ..) for event 8\n");
+    assert_eq!(of(control(7, stop())), "1 2 STOP 0 -\nwaits at node 0 in Jr.Control(7, ..) for event 7\n");
+}
+
+// Nothing is added where the end wasn't declared, to a bad or a refused line, or to a refused table.
+#[test]
+fn nothing_to_explain() {
+    assert_eq!(explained(&p(), b"0\n2\nx\n"), "1 1 TERM 0,1 7\n2 refused 11 2\n3 bad-line\n");
+    assert_eq!(explained(&[], b"0\n"), "table refused 1 0\n");
 }

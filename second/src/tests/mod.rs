@@ -11,10 +11,11 @@ mod readings;
 mod rules;
 mod text_laws;
 mod texts;
+mod waits;
 
 use crate::env::Events;
 use crate::figures::Figures;
-use crate::instant::{self, Report};
+use crate::instant::{self, Report, Wait};
 use crate::make::draft::{Draft, Records};
 use crate::table::Refusal;
 
@@ -23,6 +24,8 @@ struct Play {
     table: Vec<u8>,
     state: Vec<u8>,
     atoms: Vec<u16>,
+    /// What the last instant waited for.
+    waits: Option<Wait>,
 }
 
 impl Play {
@@ -35,7 +38,7 @@ impl Play {
         let table = records.bytes();
         let mut state = vec![0xee; 4 * records.nodes.len()];
         assert_eq!(instant::start(&table, &mut state), Ok(()));
-        Play { table, state, atoms: vec![] }
+        Play { table, state, atoms: vec![], waits: None }
     }
 
     /// Goes on from a state in which each of these bytes stands.
@@ -51,6 +54,7 @@ impl Play {
         let mut row = vec![0; 4096];
         let answer = instant::instant(&self.table, &mut self.state, set(events), &mut row);
         self.atoms = row[..answer.as_ref().map_or(0, |report| report.atoms)].to_vec();
+        self.waits = answer.as_ref().map_or(None, |report| report.waits);
         answer
     }
 

@@ -8,17 +8,20 @@ use crate::words::{event as number, read_hex};
 /// What no order may change: event set, finished answer, end state, and the atoms, however ordered.
 type Outcome = (Vec<u8>, bool, Vec<u8>, Vec<u16>);
 
-/// The outcome of an instant and its passes, each Par with two suspended branches asking which one runs first.
-fn outcome(table: &[u8], state: &[u8], handed: Events, second_first: &mut dyn FnMut() -> bool) -> (Outcome, usize) {
+/// How an instant went: its passes, and what it waited for.
+type Way = (usize, Option<Wait>);
+
+/// The outcome of an instant and how it went, each Par with two suspended branches asking which one runs first.
+fn outcome(table: &[u8], state: &[u8], handed: Events, second_first: &mut dyn FnMut() -> bool) -> (Outcome, Way) {
     let (mut state, mut row) = (state.to_vec(), vec![0; 4_096]);
     let report = instant::in_any_order(table, &mut state, handed, &mut row, second_first).expect("no refusal");
     row.truncate(report.atoms);
     row.sort();
-    ((report.events.rising().collect(), report.finished, state, row), report.passes)
+    ((report.events.rising().collect(), report.finished, state, row), (report.passes, report.waits))
 }
 
-/// The outcomes and passes of every order, or of the first so many: each sequence of choices in its turn.
-fn orders_of(table: &[u8], state: &[u8], handed: Events, most: usize) -> Vec<(Outcome, usize)> {
+/// The outcome of every order and how it went, or of the first so many: each sequence of choices in its turn.
+fn orders_of(table: &[u8], state: &[u8], handed: Events, most: usize) -> Vec<(Outcome, Way)> {
     let mut found = vec![];
     let mut choices: Vec<bool> = vec![];
     while found.len() < most {
@@ -50,7 +53,7 @@ fn any_order(events: u16, program: Draft, handed: &[u8], wanted: (&[u8], bool, &
     for (outcome, _) in &orders {
         assert_eq!(*outcome, (present.to_vec(), finished, state.to_vec(), atoms.to_vec()));
     }
-    assert_eq!(orders.iter().map(|(_, passes)| *passes).collect::<Vec<_>>(), passes);
+    assert_eq!(orders.iter().map(|(_, (passes, _))| *passes).collect::<Vec<_>>(), passes);
 }
 
 /// A finished program of this many nodes.
@@ -142,7 +145,9 @@ fn one_outcome() {
         assert!(orders.iter().all(|(outcome, _)| *outcome == orders[0].0), "{line}");
         instants += 1;
         many += usize::from(orders.len() > 1);
-        unlike += usize::from(orders.iter().any(|(_, passes)| *passes != orders[0].1));
+        unlike += usize::from(orders.iter().any(|(_, (passes, _))| *passes != orders[0].1 .0));
+        // More than L6 asks: no order was found that waits for something else.
+        assert!(orders.iter().all(|(_, (_, waits))| *waits == orders[0].1 .1), "{line}");
     }
     assert!(instants > 2_500 && many > 1_000 && unlike > 200, "{instants} {many} {unlike}");
 }

@@ -26,9 +26,9 @@ returns c =
     let start = c .before .before .before .before .before .before .before .before in
     let put-places = c .before .before .before .before .before .put-places in
     let put-places2 = c .before .put-places2 in
-    let m : length (start .args .t1) ≡ 7 = search needs in
+    let m : length (start .args .t1) ≡ 9 = search needs in
     let n : length (start .args .t2) ≡ places / 64 = search needs in
-    filled (start .args .t1) (start .args .t2) (replicate instant-length 0) _ _ 7 m (omega arith) (put-places .ensures) (put-places2 .ensures)
+    filled (start .args .t1) (start .args .t2) (replicate instant-length 0) _ _ 9 m (omega arith) (put-places .ensures) (put-places2 .ensures)
 
 pub places-of-spec : {M : Type 1} → statement M
 places-of-spec =

@@ -15,19 +15,20 @@ use Rattle.table.specs.Reading.{event-words}
 use Rattle.steps.specs.Numbers.{wordsOf, tallyOf, Numbers}
 use Rattle.steps.proofs.FlagNumbers.{is-stop, is-term}
 use Rattle.kernel.specs.Passes.{Startable}
-use Rattle.kernel.proofs.Passing.{Underway, few-passes, handed-words, begins-by, can-pass, ran-by, row-holds, goes-by}
+use Rattle.kernel.proofs.Passing.{Underway, few-passes, handed-words, begins-by, can-pass, ran-by, row-holds, can-look, goes-by, Names}
 use Rattle.kernel.proofs.Passing.{next-row-holds, marked-ended, some-bytes, run-of}
 
 abbrev Inv-loop : tie.InvT-loop
-Inv-loop t1 state₀ atoms₀ table nodes numbers₀ passes₀ state atoms numbers passes =
+Inv-loop t1 state₀ atoms₀ table nodes numbers₀ passes₀ waits₀ state atoms numbers passes waits =
     (b : Startable t1 (state₀ .now) (atoms₀ .now))
-    × Underway t1 (b .term) (marks (wordsOf numbers₀)) (atoms₀ .now) (state .now) (wordsOf numbers) (atoms .now) (tallyOf numbers) passes
+    × (u : Underway t1 (b .term) (marks (wordsOf numbers₀)) (atoms₀ .now) (state .now) (wordsOf numbers) (atoms .now) (tallyOf numbers) passes)
     × Numbers t1 numbers
     × (state .name ≡ state₀ .name)
     × (atoms .name ≡ atoms₀ .name)
+    × Names waits (u .named)
 
 abbrev μ-loop : tie.MeasureT-loop
-μ-loop t1 state₀ atoms₀ table nodes numbers₀ passes₀ state atoms numbers passes = G (treeOf t1) + 2 - passes
+μ-loop t1 state₀ atoms₀ table nodes numbers₀ passes₀ waits₀ state atoms numbers passes waits = G (treeOf t1) + 2 - passes
 
 -- let nodes = word_at(table, table.len() - 10);
 sub-word-at : tie.Need-sub-word-at Inv-loop μ-loop
@@ -40,7 +41,7 @@ word-at-requires c κs =
     let start = c .before in
     omega (arith, start .pre .placed .loaded .framed .long)
 
--- let mut numbers = first_numbers(events, 6 * nodes);
+-- let mut row = first_numbers(events, 6 * nodes);
 mul-first-numbers : tie.Need-mul-first-numbers Inv-loop μ-loop
 mul-first-numbers c =
     let word-at = c .word-at in
@@ -49,12 +50,13 @@ mul-first-numbers c =
 -- loop {
 loop-holds : tie.Need-loop-holds Inv-loop μ-loop
 loop-holds c =
-    let start = c .before .before .before in
-    let word-at = c .before .word-at in
-    let first-numbers = c .first-numbers in
+    let start = c .before .before .before .before in
+    let word-at = c .before .before .word-at in
+    let first-numbers = c .before .first-numbers in
+    let no-wait = c .no-wait in
     let long : length (start .args .events .words) ≡ event-words = search needs in
-    let (underway, holds) = begins-by (start .args .events .words) (start .pre) long (rw (word-at .ensures .0) at (first-numbers .ensures)) in
-    (start .pre, underway, holds, refl, refl)
+    let (underway, holds, unnamed) = begins-by (start .args .events .words) (start .pre) long (rw (word-at .ensures .0) at (first-numbers .ensures)) in
+    (start .pre, underway, holds, refl, refl, rw unnamed (record { node-is = no-wait .ensures .0; event-is = no-wait .ensures .1 }))
 
 -- passes += 1;
 add-passes : tie.Need-add-passes Inv-loop μ-loop
@@ -62,13 +64,13 @@ add-passes c =
     let loop = c .loop in
     omega (arith, few-passes (loop .inv .1), loop .inv .0 .few)
 
--- let flag = run_child(&table, 0, state, &mut numbers, atoms);
+-- let flag = run_child(&table, 0, state, &mut row, atoms);
 run-child-requires : tie.Need-run-child-requires Inv-loop μ-loop
 run-child-requires c κs =
     let loop = c .before .before .before .before .loop in
     can-pass (loop .inv .1) (loop .inv .2)
 
--- return report(events_of(&numbers), numbers[ATOMS] as usize, false, passes);
+-- return report(events_of(&row), row[ATOMS] as usize, false, passes, waits);
 events-of-requires : tie.Need-events-of-requires Inv-loop μ-loop
 events-of-requires c κs =
     let loop = c .before .before .before .before .before .before .before .loop in
@@ -84,8 +86,8 @@ array-read-report c =
 
 returns : tie.Need-returns Inv-loop μ-loop
 returns c =
-    let start = c .before .before .before .before .before .before .before .before .before .before .before .before .before in
-    let first-numbers = c .before .before .before .before .before .before .before .before .before .before .first-numbers in
+    let start = c .before .before .before .before .before .before .before .before .before .before .before .before .before .before in
+    let first-numbers = c .before .before .before .before .before .before .before .before .before .before .before .first-numbers in
     let loop = c .before .before .before .before .before .before .before .before .before .loop in
     let run-child = c .before .before .before .before .run-child in
     let if1 = c .before .before .before .if1 in
@@ -97,7 +99,7 @@ returns c =
     let handed = handed-words (start .args .t1 .now) (start .args .events .words) long _ (first-numbers .ensures) in
     record {
       outcome-is = report .ensures .outcome-is;
-      run = rw handed at (run-of (loop .inv .0) u ran STOP≢SUSP (ran .bytes) (events-of .ensures) (report .ensures));
+      run = rw handed at (run-of (loop .inv .0) u ran STOP≢SUSP (ran .bytes) (events-of .ensures) (loop .inv .5) (report .ensures));
       same-state = search needs;
       same-row = search needs;
     }
@@ -110,7 +112,7 @@ index-1-state c =
     let if2 = c .if2 in
     some-bytes (loop .inv .1) (ran-by (loop .inv .1) (loop .inv .2) (run-child .ensures .0) (is-term (if2 .taken)))
 
--- return report(events_of(&numbers), numbers[ATOMS] as usize, true, passes);
+-- return report(events_of(&row), row[ATOMS] as usize, true, passes, waits);
 events-of-requires-2 : tie.Need-events-of-requires-2 Inv-loop μ-loop
 events-of-requires-2 c κs =
     let loop = c .before .before .before .before .before .before .before .before .loop in
@@ -126,8 +128,8 @@ array-read-report-2 c =
 
 returns-2 : tie.Need-returns-2 Inv-loop μ-loop
 returns-2 c =
-    let start = c .before .before .before .before .before .before .before .before .before .before .before .before .before .before in
-    let first-numbers = c .before .before .before .before .before .before .before .before .before .before .before .first-numbers in
+    let start = c .before .before .before .before .before .before .before .before .before .before .before .before .before .before .before in
+    let first-numbers = c .before .before .before .before .before .before .before .before .before .before .before .before .first-numbers in
     let loop = c .before .before .before .before .before .before .before .before .before .before .loop in
     let run-child = c .before .before .before .before .before .run-child in
     let if2 = c .before .before .before .if2 in
@@ -139,38 +141,51 @@ returns-2 c =
     let handed = handed-words (start .args .t1 .now) (start .args .events .words) long _ (first-numbers .ensures) in
     record {
       outcome-is = report2 .ensures .outcome-is;
-      run = rw handed at (run-of (loop .inv .0) u ran TERM≢SUSP (marked-ended u ran) (events-of2 .ensures) (report2 .ensures));
+      run = rw handed at (run-of (loop .inv .0) u ran TERM≢SUSP (marked-ended u ran) (events-of2 .ensures) (loop .inv .5) (report2 .ensures));
       same-state = search needs;
       same-row = search needs;
     }
 
--- next_pass(&mut numbers);
+-- waits = waits_after(table, state, &row, waits);
+waits-after-requires : tie.Need-waits-after-requires Inv-loop μ-loop
+waits-after-requires c κs =
+    let loop = c .before .before .before .before .before .before .before .before .before .loop in
+    let run-child = c .before .before .before .before .run-child in
+    let if1 = c .before .before .before .if1 in
+    let if2 = c .before .before .if2 in
+    can-look (loop .inv .1) (loop .inv .2) (run-child .ensures .0) (if1 .left) (if2 .left)
+
+-- next_pass(&mut row);
 next-pass-requires : tie.Need-next-pass-requires Inv-loop μ-loop
 next-pass-requires c κs =
-    let loop = c .before .before .before .before .before .before .before .before .loop in
-    let run-child = c .before .before .before .run-child in
+    let loop = c .before .before .before .before .before .before .before .before .before .before .before .loop in
+    let run-child = c .before .before .before .before .before .before .run-child in
     row-holds (loop .inv .1) (loop .inv .2) (run-child .ensures .0) .long
 
 -- loop {
 loop-less : tie.Need-loop-less Inv-loop μ-loop
 loop-less c =
-    let loop = c .before .before .before .before .before .before .before .before .before .loop in
+    let loop = c .before .before .before .before .before .before .before .before .before .before .before .before .loop in
     let few = rw (loop .inv .0 .program) at (few-passes (loop .inv .1)) in
     omega arith
 
 loop-again : tie.Need-loop-again Inv-loop μ-loop
 loop-again c =
-    let loop = c .before .before .before .before .before .before .before .before .before .loop in
-    let run-child = c .before .before .before .before .run-child in
-    let if1 = c .before .before .before .if1 in
-    let if2 = c .before .before .if2 in
+    let loop = c .before .before .before .before .before .before .before .before .before .before .before .before .loop in
+    let run-child = c .before .before .before .before .before .before .before .run-child in
+    let if1 = c .before .before .before .before .before .before .if1 in
+    let if2 = c .before .before .before .before .before .if2 in
+    let waits-after = c .before .before .waits-after in
     let next-pass = c .next-pass in
-    let run = run-child .ensures .0 in (
+    let run = run-child .ensures .0 in
+    let (underway, names) = goes-by (loop .inv .1) (loop .inv .2) run (if1 .left) (if2 .left) in
+    rw (next-pass .ensures, waits-after .ensures .0) (
       loop .inv .0,
-      rw (next-pass .ensures) (goes-by (loop .inv .1) (loop .inv .2) run (if1 .left) (if2 .left)),
-      rw (next-pass .ensures) (next-row-holds (loop .inv .1) (loop .inv .2) run),
+      underway,
+      next-row-holds (loop .inv .1) (loop .inv .2) run,
       search needs,
       search needs,
+      names _ _ (loop .inv .5) (waits-after .ensures .1),
     )
 
 pub run-from-spec : {M : Type 1} → statement M
@@ -182,6 +197,7 @@ run-from-spec =
     word-at-requires
     mul-first-numbers
     (λ c κs. search needs)  -- first-numbers-requires
+    (λ c κs. search needs)  -- no-wait-requires: let mut waits = no_wait();
     loop-holds
     add-passes
     run-child-requires
@@ -194,6 +210,8 @@ run-from-spec =
     array-read-report-2
     (λ c κs. search needs)  -- report-requires-2
     returns-2
+    (λ c. search needs)  -- slice-aggregate-waits-after: waits = waits_after(table, state, &row, waits);
+    waits-after-requires
     next-pass-requires
     loop-less
     loop-again)

@@ -1,0 +1,70 @@
+-- A line that was read and listed is answered.
+use mathlib.Core.Path.{_≡_, sym, ap, _∙_}
+use mathlib.Core.Bool.{Bool, true, false, not}
+use mathlib.Core.List.{List, _++_}
+use Prim.Native.Nat.{ℕ, _≤_}
+use native.Mathlib.Nat.{zero-add}
+use native.Mathlib.Omega.{arith}
+use lib.ListN.{length, drop, length-append}
+use borrow.Author.Tests.{le-leb}
+use Rattle.events.specs.Events.{Events, none}
+use Rattle.junior.specs.Trace.{atoms}
+use Rattle.listing.specs.Input.{Reading}
+use Rattle.listing.specs.Output.{Written}
+use Rattle.kernel.specs.declared.Answer.{Answer}
+use Rattle.kernel.specs.Answer.{Run}
+use Rattle.waiting.specs.declared.Wait.{Wait}
+use Rattle.letters.specs.Rooms.{Puts}
+use Rattle.letters.proofs.Rooms.{sets-front}
+use Rattle.letters.proofs.Puts.{puts-then}
+use Rattle.player.specs.Answering.{Lists, Answers}
+use Rattle.player.specs.Inside.{PutsUnder}
+
+pub read-bad : {line : List ℕ} {good : Bool} {X : Events} → not good ≡ true → Reading line good X → Reading line false none
+read-bad e (Reading.good-line l n) = absurd (let z : _≡_ {A = ℕ} 0 1 = cc in omega arith)
+read-bad e (Reading.bad-line never) = Reading.bad-line never
+
+pub read-good : {line : List ℕ} {good : Bool} {X : Events} → not good ≡ false → Reading line good X → Reading line true X
+read-good e (Reading.good-line l n) = Reading.good-line l n
+read-good e (Reading.bad-line never) = absurd (let z : _≡_ {A = ℕ} 0 1 = cc in omega arith)
+
+-- the atoms done are in the row
+pub atoms-within : {t s : List ℕ} {X : Events} {row s′ row′ : List ℕ} {r : Answer} → Run t s X row s′ row′ r → r .atoms ≤ length row′
+atoms-within {row = row} {row′ = row′} {r = r} run =
+    let long : length row′ ≡ _ = ap length (run .row-is) ∙ length-append (atoms (run .result .acts)) (drop (r .atoms) row) in
+    omega (arith, run .atoms-are, long)
+
+pub answers : {why : Bool} {t s row line : List ℕ} {number : ℕ} {s′ row′ text old new : List ℕ} {least r : ℕ} → least ≤ length old
+    → Lists why t s row line number s′ row′ text → Written least text old new r → Answers why t s row line number s′ row′ old new r
+answers {text = text} {old = old} {least = least} h l w =
+    let enough = le-leb least (length old) h in
+    record { text = text; lists = l; answer = simp enough at (w .answer); room = simp enough at (w .room); within = w .within }
+
+-- where a line ends that has its room, and what is behind it
+pub line-end : {text old new : List ℕ} {least r : ℕ} → least ≤ length old → Written least text old new r → r ≡ length text
+line-end {old = old} {least = least} h w = simp (le-leb least (length old) h) at (w .answer)
+
+-- the line of an instant that ran, with what was put under it
+module _ {why : Bool} {t s row line : List ℕ} {number : ℕ} {s′ row′ text old mid new : List ℕ} {least x r : ℕ} {w : Wait} where
+  pub answers-under : least ≤ length old
+      → Written least text old mid x
+      → (u : PutsUnder why t w mid new x r)
+      → length mid ≡ length old
+      → Lists why t s row line number s′ row′ (text ++ u .more)
+      → Answers why t s row line number s′ row′ old new r
+  answers-under h l u long lists =
+      let enough = le-leb least (length old) h in
+      let room = simp enough at (l .room) in
+      let few : length text ≤ length old = omega (arith, line-end h l, l .within) in
+      let first : Puts old mid 0 text x =
+      record { next = line-end h l ∙ sym (zero-add (length text)); room = room ∙ sym (sets-front old text few) } in
+      let all = puts-then first (u .puts) in
+      let whole : r ≡ length (text ++ u .more) = all .next ∙ zero-add (length (text ++ u .more)) in
+      let inside : r ≤ length old = rw (← long) (u .within) in
+      record {
+        text = text ++ u .more;
+        lists = lists;
+        answer = whole;
+        room = all .room ∙ sets-front old (text ++ u .more) (omega arith);
+        within = inside;
+      }

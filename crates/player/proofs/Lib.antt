@@ -1,0 +1,6 @@
+pub mod Named
+pub mod WaitLine
+pub mod StandsUnder
+pub mod Answering
+pub mod Examples
+pub mod L1

@@ -1,0 +1,5 @@
+pub mod Waiting
+pub mod Answering
+pub mod Examples
+pub mod L1
+pub mod Inside

@@ -1,0 +1,133 @@
+-- `waiting::own_wait` meets its contract: a test's event, a Control's own, or none.
+use Rattle.waiting.proofs.own_wait.Statement.{statement}
+use Rattle.waiting.proofs.own_wait.Tie as tie
+use borrow.Author.Needs.{needs}
+use mathlib.Core.Path.{refl, sym, _∙_}
+use native.Mathlib.Omega.{arith}
+use Rattle.events.specs.Members.{members}
+use Rattle.waiting.proofs.Standing.{own-bytes, own-record, frame-of}
+use Rattle.waiting.proofs.OneStep.{test-waits, test-there, control-waits, no-own, control-tells, control-holds, tells-not}
+
+-- let kind = kind_at(table, i);
+kind-at-requires : tie.Need-kind-at-requires
+kind-at-requires c κs = omega (arith, own-record (c .before .before .pre .1 .stands) .0)
+
+-- if is_test(kind, state[4 * i]) {
+mul-is-test : tie.Need-mul-is-test
+mul-is-test c = omega (arith, own-record (c .before .before .before .pre .1 .stands) .1)
+
+shared-slice-read-is-test : tie.Need-shared-slice-read-is-test
+shared-slice-read-is-test c = let l = own-bytes (c .before .before .before .before .pre .1 .stands) in omega arith
+
+-- let nodes = word_at(table, table.len() - 10);
+sub-word-at : tie.Need-sub-word-at
+sub-word-at c =
+    let start = c .before .before .before .before .before .before in
+    omega (arith, own-record (start .pre .1 .stands) .0, frame-of (start .pre .1 .stands) .long)
+
+word-at-requires : tie.Need-word-at-requires
+word-at-requires c κs = omega (arith, frame-of (c .before .before .before .before .before .before .pre .1 .stands) .long)
+
+-- return lacking_event(table, 6 * nodes + 4 * argument_at(table, i), &present.words);
+mul-lacking-event : tie.Need-mul-lacking-event
+mul-lacking-event c = omega (arith, c .word-at .ensures .1)
+
+argument-at-requires : tie.Need-argument-at-requires
+argument-at-requires c κs = omega (arith, own-record (c .before .before .before .before .before .before .before .pre .1 .stands) .0)
+
+mul-lacking-event-2 : tie.Need-mul-lacking-event-2
+mul-lacking-event-2 c = omega (arith, c .argument-at .ensures .1)
+
+add-lacking-event : tie.Need-add-lacking-event
+add-lacking-event c = omega (arith, c .argument-at .ensures .1, c .before .word-at .ensures .1)
+
+lacking-event-requires : tie.Need-lacking-event-requires
+lacking-event-requires c κs =
+    let start = c .before .before .before .before .before .before .before .before .before .before in
+    let kind-at = c .before .before .before .before .before .before .before .kind-at in
+    let is-test = c .before .before .before .before .before .is-test in
+    let if1 = c .before .before .before .before .if1 in
+    let word-at = c .before .before .before .word-at in
+    let argument-at = c .before .before .argument-at in
+    let (w, l) = start .pre in
+    rw (word-at .ensures .0, argument-at .ensures .0)
+    (test-there (l .stands) (members (start .args .t4)) (l .leads) (kind-at .ensures .0) refl (sym (is-test .ensures) ∙ if1 .taken))
+
+returns : tie.Need-returns
+returns c =
+    let start = c .before .before .before .before .before .before .before .before .before .before .before in
+    let kind-at = c .before .before .before .before .before .before .before .before .kind-at in
+    let is-test = c .before .before .before .before .before .before .is-test in
+    let if1 = c .before .before .before .before .before .if1 in
+    let word-at = c .before .before .before .before .word-at in
+    let argument-at = c .before .before .before .argument-at in
+    let lacking-event = c .lacking-event in
+    let read = rw (word-at .ensures .0, argument-at .ensures .0) at (lacking-event .ensures) in
+    λ x w h e. test-waits h (members (start .args .t4)) e (kind-at .ensures .0) refl (sym (is-test .ensures) ∙ if1 .taken) _ read
+
+-- let event = argument_at(table, i);
+argument-at-requires-2 : tie.Need-argument-at-requires-2
+argument-at-requires-2 c κs = omega (arith, own-record (c .before .before .before .before .before .before .before .pre .1 .stands) .0)
+
+-- return EventSet::PLACES;
+returns-2 : tie.Need-returns-2
+returns-2 c =
+    let start = c .before .before .before .before .before .before .before .before .before .before in
+    let kind-at = c .before .before .before .before .before .before .before .kind-at in
+    let is-test = c .before .before .before .before .before .is-test in
+    let if1 = c .before .before .before .before .if1 in
+    let if2 = c .before .before .before .if2 in
+    let argument-at2 = c .before .before .argument-at2 in
+    let holds = c .before .holds in
+    let if3 = c .if3 in
+    λ x w h e.
+    let X = members (start .args .t4) in
+    control-holds X (control-waits h X e (kind-at .ensures .0) refl (sym (is-test .ensures) ∙ if1 .left) (if2 .taken))
+    (rw (argument-at2 .ensures .0) at (sym (holds .ensures) ∙ if3 .taken))
+
+-- return event;
+returns-3 : tie.Need-returns-3
+returns-3 c =
+    let start = c .before .before .before .before .before .before .before .before .before .before in
+    let kind-at = c .before .before .before .before .before .before .before .kind-at in
+    let is-test = c .before .before .before .before .before .is-test in
+    let if1 = c .before .before .before .before .if1 in
+    let if2 = c .before .before .before .if2 in
+    let argument-at2 = c .before .before .argument-at2 in
+    let holds = c .before .holds in
+    let if3 = c .if3 in
+    λ x w h e.
+    control-tells h (kind-at .ensures .0) (if2 .taken) (argument-at2 .ensures .0) (members (start .args .t4))
+    (control-waits h (members (start .args .t4)) e (kind-at .ensures .0) refl (sym (is-test .ensures) ∙ if1 .left) (if2 .taken))
+    (rw (argument-at2 .ensures .0) at (sym (holds .ensures) ∙ if3 .left))
+
+-- fn own_wait
+returns-4 : tie.Need-returns-4
+returns-4 c =
+    let start = c .before .before .before .before .before .before .before in
+    let kind-at = c .before .before .before .before .kind-at in
+    let is-test = c .before .before .is-test in
+    let if1 = c .before .if1 in
+    let if2 = c .if2 in
+    λ x w h e. tells-not (no-own h (members (start .args .t4)) e (kind-at .ensures .0) refl (sym (is-test .ensures) ∙ if1 .left) (if2 .left))
+
+pub own-wait-spec : {M : Type 1} → statement M
+own-wait-spec =
+    tie.close (tie.spec
+    kind-at-requires
+    mul-is-test
+    shared-slice-read-is-test
+    (λ c κs. search needs)  -- is-test-requires
+    sub-word-at
+    word-at-requires
+    mul-lacking-event
+    argument-at-requires
+    mul-lacking-event-2
+    add-lacking-event
+    lacking-event-requires
+    returns
+    argument-at-requires-2
+    (λ c κs. search needs)  -- holds-requires: if present.holds(event) {
+    returns-2
+    returns-3
+    returns-4)

@@ -1,0 +1,124 @@
+// What an instant waits for (request L1): found once, when the end is declared, by one way down from node 0. The state shows which parts are
+// suspended, and a Local's sign whether its event is present.
+ghost use mathlib.Core.Path.{_≡_};
+ghost use Rattle.events.specs.Members.{places, members};
+ghost use Rattle.waiting.specs.Down.{SomeStands, SomeLeads, LeadsTo, isTest, OwnWait, goesSecond, nextOf, insideOf};
+use events::EventSet;
+use lacking::lacking_event;
+use steps::kinds;
+use steps::phases::FLAGS;
+use steps::phases::PLUS;
+use steps::phases::SECOND;
+use steps::phases::STARRED;
+use table::records::argument_at;
+use table::records::kind_at;
+use table::records::second_at;
+use table::records::word_at;
+
+mod lacking;
+
+// A test that waits, by its node, and the event that it waits for.
+pub struct Wait {
+    pub node: usize,
+    pub event: usize,
+}
+
+// No node has this number: the limit of a table's nodes.
+pub const NO_NODE: usize = 4096;
+
+// No test waits.
+pub fn no_wait() -> Wait
+    ensures { λ r. ⌜ (r .node ≡ 4096) × (r .event ≡ places) ⌝ }
+{
+    Wait {
+        node: NO_NODE,
+        event: EventSet::PLACES,
+    }
+}
+
+// The first test that waits, in what a pass that suspended and moved nothing left.
+pub fn waiting(table: &[u8], state: &[u8], events: EventSet) -> Wait
+    requires { ⌜ SomeLeads (now table) (now state) 0 (members events) ⌝ }
+    ensures { λ r. ⌜ LeadsTo (now (table .entry)) (now (state .entry)) (members events) r ⌝ }
+{
+    let mut present = events;
+    let mut i = 0;
+    loop {
+        let event = own_wait(table, state, i, present);
+        if event < EventSet::PLACES {
+            return Wait { node: i, event };
+        }
+        present = inside(table, state, i, present);
+        i = next_node(table, state, i);
+    }
+}
+
+// The event that node i itself waits for; `PLACES` if it doesn't.
+fn own_wait(table: &[u8], state: &[u8], i: usize, present: EventSet) -> usize
+    requires { ⌜ SomeLeads (now table) (now state) i (members present) ⌝ }
+    ensures { λ r. ⌜ OwnWait (now (table .entry)) (now (state .entry)) i (members present) r ⌝ }
+{
+    let kind = kind_at(table, i);
+    if is_test(kind, state[4 * i]) {
+        let nodes = word_at(table, table.len() - 10);
+        return lacking_event(table, 6 * nodes + 4 * argument_at(table, i), &present.words);
+    }
+    if kind == kinds::CONTROL {
+        let event = argument_at(table, i);
+        if present.holds(event) {
+            return EventSet::PLACES;
+        }
+        return event;
+    }
+    EventSet::PLACES
+}
+
+fn is_test(kind: usize, phase: u8) -> bool
+    ensures { λ r. ⌜ r ≡ isTest kind phase ⌝ }
+{
+    if phase == 0 {
+        if kind == kinds::AWAIT {
+            return true;
+        }
+        return kind == kinds::WHEN;
+    }
+    if phase == STARRED {
+        return kind == kinds::UNTIL;
+    }
+    false
+}
+
+// The events that are present below node i.
+fn inside(table: &[u8], state: &[u8], i: usize, present: EventSet) -> EventSet
+    requires { ⌜ SomeStands (now table) (now state) i ⌝ }
+    ensures { λ r. ⌜ members r ≡ insideOf (now (table .entry)) (now (state .entry)) i (members present) ⌝ }
+{
+    if kind_at(table, i) == kinds::LOCAL {
+        let event = argument_at(table, i);
+        if state[4 * i] == PLUS {
+            return present.with(event);
+        }
+        return present.without(event);
+    }
+    present
+}
+
+// The child of node i that waits.
+fn next_node(table: &[u8], state: &[u8], i: usize) -> usize
+    requires { ⌜ SomeStands (now table) (now state) i ⌝ }
+    ensures { λ r. ⌜ r ≡ nextOf (now (table .entry)) (now (state .entry)) i ⌝ }
+{
+    if goes_second(kind_at(table, i), state[4 * i], state[4 * i + FLAGS]) {
+        return second_at(table, i);
+    }
+    i + 1
+}
+
+fn goes_second(kind: usize, phase: u8, flags: u8) -> bool
+    ensures { λ r. ⌜ r ≡ goesSecond kind phase flags ⌝ }
+{
+    if kind == kinds::PAR {
+        return flags % 4 != 0;
+    }
+    phase == SECOND
+}
