@@ -1,5 +1,5 @@
 -- Building the table of a whole text.
-use Prim.Native.Nat.{ℕ, suc, _+_, _-_, _*_, _%_, _≤_, _<_}
+use Prim.Native.Nat.{ℕ, zero, suc, _+_, _-_, _*_, _%_, _≤_, _<_}
 use mathlib.Core.Bool.{Bool, true, false, _||_, false≢true}
 use mathlib.Core.Path.{_≡_, refl, sym, ap, subst, _∙_}
 use mathlib.Core.List.{List, [], _∷_, _++_, append-nil}
@@ -11,11 +11,12 @@ use lib.ListN.{length, take, drop, length-append, length-drop, take-append-drop}
 use lib.Seq.{sets, length-take-le, take-all, take-at, drop-cons, drop-length, getD-drop}
 use Rattle.junior.specs.Program.{Program, size}
 use Rattle.table.specs.Records.{byte}
+use Rattle.table.proofs.Little.{below-or}
 use Rattle.builder.specs.declared.build.Front.{Front}
 use Rattle.form.specs.Form.{Says, whole}
 use Rattle.form.specs.Made.{big, tests, nodesFrom, testsOf, trailer, tableOf}
 use Rattle.form.proofs.MadeLength.{nodes-length, tests-length}
-use Rattle.builder.specs.Building.{SoFar, acting, place, relevel, levels, placed, Region, Holds, Room, CanPlace}
+use Rattle.builder.specs.Building.{SoFar, acting, Idle, place, relevel, levels, placed, Region, Holds, Room, CanPlace}
 use Rattle.builder.specs.Building.{Places, Stacked}
 use Rattle.builder.specs.Building.{LevelReady, Levels, Measured}
 use Rattle.builder.proofs.PlacedByConfigurations.{made, small-mod}
@@ -56,6 +57,16 @@ pub record Under (text : List ℕ) (n m : ℕ) (t lv : List ℕ) (f : Front) (d 
 empty-region : (t : List ℕ) (a : ℕ) → a ≤ length t → Region t a a []
 empty-region t a h =
     record { before = take a t; behind = drop a t; parts = sym (take-append-drop a t); begins = length-take-le a t h; ends = add-zero a }
+
+-- bytes that do nothing: none yet; one more
+pub idle-none : (text : List ℕ) (i : ℕ) → Idle text i i
+idle-none text i = record { rising = omega arith; none = λ k h l. absurd (omega arith) }
+
+pub idle-more : {text : List ℕ} {i j : ℕ} → Idle text i j → 0 < i → acting (byte text (i - 1)) ≡ false → Idle text (i - 1) j
+idle-more {text} {i} e h f = record { rising = omega (arith, e .rising); none = λ k l m. below-or k i (λ b. here k l b) (λ b. e .none k b m) }
+  where
+    here : (k : ℕ) → i - 1 ≤ k → k < i → acting (byte text k) ≡ false
+    here k l b = let same : k ≡ i - 1 = omega arith in rw same f
 
 -- a byte that does not act stands behind the comma, and is no `J`
 acts-not : (b : ℕ) → acting b ≡ false → (45 ≤ b) × (b ≡ 74 → ⊥)
@@ -179,13 +190,24 @@ module _ {text : List ℕ} {n m v room : ℕ} {p : Program} (g : Measured text n
         }
 
     -- a byte that does not act leaves all as it was
-    pub under-same : acting (byte text (k - 1)) ≡ false → Under text n m t lv f d (k - 1)
+    under-same : acting (byte text (k - 1)) ≡ false → Under text n m t lv f d (k - 1)
     under-same e =
         let (a, b) = acts-not (byte text (k - 1)) e in
         let same : (s : SoFar) → placing s ≡ s =
         λ s. place-none (byte text (k - 1)) _ _ s (λ z. omega arith) (λ z. omega arith) (λ z. omega arith) b in
         under-on (λ n m s h r. subst (λ (x : SoFar). Holds n m t f x) (sym (same s)) h)
         (level-other (byte text (k - 1)) _ lv d (λ z. omega arith) (λ z. omega arith) (λ z. omega arith) (λ z. omega arith)) refl refl
+
+  -- nor do several change anything
+  pub under-back : {t lv : List ℕ} {f : Front} {d r k : ℕ} → Under text n m t lv f d k → Idle text r k → Under text n m t lv f d r
+  under-back {t} {lv} {f} {d} {r} {k} u e = go (k - r) k u (e .rising) (omega (arith, e .rising)) (e .none)
+    where
+      go : (j i : ℕ) → Under text n m t lv f d i → r ≤ i → i ≡ r + j → ((a : ℕ) → r ≤ a → a < i → acting (byte text a) ≡ false)
+          → Under text n m t lv f d r
+      go zero i u l e h = let same : i ≡ r = omega arith in subst (λ (x : ℕ). Under text n m t lv f d x) same u
+      go (suc j) i u l e h =
+          go j (i - 1) (under-same u (omega arith) (h (i - 1) (omega arith) (omega arith))) (omega arith) (omega arith)
+          (λ a b c. h a b (omega arith))
 
   -- behind the last step
   module _ {t lv : List ℕ} {f : Front} {d : ℕ} (u : Under text n m t lv f d 0) where

@@ -1,7 +1,7 @@
 -- Building the table of a text in the form, from its last byte to its first: what is placed once an end of the text is read. A record's
 -- parts are placed before it, so its size is read off theirs.
-use Prim.Native.Nat.{ℕ, zero, suc, _+_, _-_, _*_, _%_, _≤_}
-use mathlib.Core.Bool.{Bool, cond, _||_}
+use Prim.Native.Nat.{ℕ, zero, suc, _+_, _-_, _*_, _%_, _≤_, _<_}
+use mathlib.Core.Bool.{Bool, false, cond, _||_}
 use mathlib.Core.Path.{_≡_}
 use mathlib.Core.List.{List, [], _∷_, _++_}
 use lib.Dec.{eqb, ltb}
@@ -148,6 +148,11 @@ comma level s =
 -- a byte that can place something or change a level: any before the digits, and `J`
 unfoldable pub acting : ℕ → Bool
 acting b = ltb b 45 || eqb b 74
+
+-- no byte from place i on and before place j is one
+pub record Idle (text : List ℕ) (i j : ℕ) : Type 0 where
+  pub rising : i ≤ j
+  pub none : (k : ℕ) → i ≤ k → k < j → acting (byte text k) ≡ false
 
 -- byte b at this level, before this text
 unfoldable pub place : ℕ → ℕ → List ℕ → SoFar → SoFar

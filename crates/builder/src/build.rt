@@ -13,7 +13,7 @@ ghost use Rattle.builder.specs.Building.{nodeBytes, testBytes, trailerBy
 ghost use Rattle.form.specs.Inside.Rows.{TheNames, formRow, kinds, long, codeAt, nameEnd, kindOf, pairOf};
 ghost use Rattle.builder.specs.Building.{joint, pair, negation, event, opening, labelled, row, choice, await, single};
 ghost use Rattle.builder.specs.Building.{form, name, comma, acting, place as placing, relevel as leveling};
-ghost use Rattle.builder.specs.Building.{CanPlace, Places, LevelReady, Levels, Buildable, Builds};
+ghost use Rattle.builder.specs.Building.{Idle, CanPlace, Places, LevelReady, Levels, Buildable, Builds};
 use form::is_digit;
 use form::names::FIRST_FORM;
 use form::names::FIRST_WORD;
@@ -55,18 +55,30 @@ pub fn build(text: &[u8], n: usize, m: usize, v: usize, table: &mut [u8])
         end: 6 * n + 4 * m,
         left: m,
     };
-    let mut i = text.len();
+    let mut i = back_to_acting(text, text.len());
     while i > 0 {
-        let rest = i;
-        i -= 1;
-        let b = text[i];
-        if acts(b) {
-            let level = byte_at(&levels, depth);
-            front = place(&names, b, level, &text[rest..], table, front);
-            depth = relevel(&names, b, &text[rest..], &mut levels, depth);
-        }
+        let b = text[i - 1];
+        let level = byte_at(&levels, depth);
+        front = place(&names, b, level, &text[i..], table, front);
+        depth = relevel(&names, b, &text[i..], &mut levels, depth);
+        i = back_to_acting(text, i - 1);
     }
     put_trailer(table, 6 * n + 4 * m, n, m, v);
+}
+
+// Back from a place over the bytes that do nothing: behind the first that can do something, or to the text's beginning.
+fn back_to_acting(text: &[u8], from: usize) -> usize
+    requires { ⌜ from ≤ length (now text) ⌝ }
+    ensures { λ r. ⌜ Idle (now (text .entry)) r from ⌝ }
+{
+    let mut i = from;
+    while i > 0 {
+        if acts(text[i - 1]) {
+            return i;
+        }
+        i -= 1;
+    }
+    i
 }
 
 // Whether a byte can place something or change a level: brackets, comma and blank stand before all others of a text, but for `J`.
