@@ -88,10 +88,6 @@ module _ {text : List ℕ} {n m v room : ℕ} {p : Program} (g : Measured text n
       → Under text n m t lv f 8192 (length text)
   unfolding placed levels
   under-starts t lv f e l is =
-      let a = g .n-is in
-      let b = g .m-is in
-      let c = g .long in
-      let s = g .small in
       let none : drop (length text) text ≡ [] = drop-length text in
       rw is
       (record {
@@ -114,13 +110,10 @@ module _ {text : List ℕ} {n m v room : ℕ} {p : Program} (g : Measured text n
 
   all-placed : placed m text ≡ made (nodesFrom 0 p) (testsOf p) 0
   all-placed =
-      let s = g .small in
       rw (g .m-is) (whole-placed (g .says) (omega arith) (omega arith))
 
   all-room : Room n m (placed m text)
   all-room =
-      let a = g .n-is in
-      let b = g .m-is in
       let c = nodes-length 0 p in
       let d = tests-length p in
       rw all-placed (record { for-nodes = omega arith; for-tests = omega arith })
@@ -128,7 +121,6 @@ module _ {text : List ℕ} {n m v room : ℕ} {p : Program} (g : Measured text n
   module _ {t lv : List ℕ} {f : Front} {d k : ℕ} (u : Under text n m t lv f d k) (some : 0 < k) where
     next : drop (k - 1) text ≡ byte text (k - 1) ∷ drop k text
     next =
-        let w = u .within in
         let e : suc (k - 1) ≡ k = omega arith in
         drop-cons text (k - 1) 0 (omega arith) ∙ ap (λ x. byte text (k - 1) ∷ drop x text) e
 
@@ -160,10 +152,6 @@ module _ {text : List ℕ} {n m v room : ℕ} {p : Program} (g : Measured text n
 
     level-room : length (leveling (levels (drop k text))) ≤ length lv
     level-room =
-        let a = g .n-is in
-        let b = g .m-is in
-        let s = g .small in
-        let l = u .long in
         let e = depth-at (g .says) (k - 1) in
         rw leveling-is (omega arith)
 
@@ -178,7 +166,6 @@ module _ {text : List ℕ} {n m v room : ℕ} {p : Program} (g : Measured text n
         → length t′ ≡ length t
         → Under text n m t′ lv′ f′ d′ (k - 1)
     under-on {t′} {lv′} {f′} {d′} a b l o =
-        let w = u .within in
         record {
           within = omega arith;
           holds =
@@ -216,7 +203,6 @@ module _ {text : List ℕ} {n m v room : ℕ} {p : Program} (g : Measured text n
 
     nodes-first : t ≡ nodesFrom 0 p ++ held .nodes-there .behind
     nodes-first =
-        let a = g .n-is in
         let c = nodes-length 0 p in
         let e = held .nodes-there .ends in
         let b = held .nodes-there .begins in
@@ -226,8 +212,6 @@ module _ {text : List ℕ} {n m v room : ℕ} {p : Program} (g : Measured text n
     -- its records, and what stands behind them
     records : t ≡ nodesFrom 0 p ++ (testsOf p ++ held .tests-there .behind)
     records =
-        let a = g .n-is in
-        let i = g .m-is in
         let c = nodes-length 0 p in
         let o = tests-length p in
         let e = held .tests-there .ends in
@@ -248,7 +232,6 @@ module _ {text : List ℕ} {n m v room : ℕ} {p : Program} (g : Measured text n
         let a = g .n-is in
         let b = g .m-is in
         let c = g .v-is in
-        let s = g .small in
         let k = named-most p (says-in-form (g .says)) in
         let w : List ℕ = big n ++ (big m ++ (big v ++ (big (6 * n + 4 * m) ++ big (4 * m)))) in
         let x : List ℕ = held .tests-there .behind in

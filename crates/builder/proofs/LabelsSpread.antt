@@ -97,4 +97,4 @@ module _ {k : ℕ} {l₀ l : List ℕ} {at : ℕ} (g : Spreading k l₀ l at) wh
       go (suc f) s = rw (ne-eqb (byte l at) 255 e) at s
 
   pub spreading-ends : length l ≤ at → l ≡ labelled k l₀
-  spreading-ends h = spreading-stops (λ e. let z = List·getD-eq-default l 0 h in let y : _≡_ {A = ℕ} 0 255 = sym z ∙ e in omega arith)
+  spreading-ends h = spreading-stops (λ e. let z = List·getD-eq-default l 0 h in omega arith)

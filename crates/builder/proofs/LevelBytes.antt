@@ -42,7 +42,6 @@ module _ (b : ℕ) (w t : List ℕ) (d : ℕ) where
   pub room-to-close : (l : List ℕ) → b ≡ 41 → Stacked t d l → length (relevel b w l) ≤ length t → 1 ≤ d
   unfolding relevel
   room-to-close l e s h =
-      let n = s .within in
       let k : length l ≡ length t - d = sym (ap length (s .there)) ∙ length-drop d t in
       let m : suc (length l) ≤ length t = rw e at h in
       omega arith
@@ -51,7 +50,6 @@ module _ (b : ℕ) (w t : List ℕ) (d : ℕ) where
   unfolding relevel
   level-closes e l s h =
       let o = room-to-close l e s h in
-      let n = s .within in
       let a : d - 1 < length t = omega arith in
       let a′ : d - 1 < length (set t (d - 1) 0) = rw (length-set t (d - 1) 0) a in
       let f : suc (d - 1) ≡ d = omega arith in

@@ -159,7 +159,6 @@ pub joined-more :
     → size r ≤ 65535
     → Joined k r j s (joint (over p j z))
 joined-more {k} {p} {q} {r} o j {s} {z} g h =
-    let n = o .size-is in
     let f = joint-is j (size q) p (g .front) (testsOf p ++ (testsOf q ++ s .tests)) j (g .size-is) (omega arith) in
     record {
       front = 255 ∷ 0 ∷ 0 ∷ 0 ∷ (big (size r) ++ (nodesFrom j p ++ g .front));

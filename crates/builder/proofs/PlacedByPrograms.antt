@@ -156,15 +156,11 @@ module _ (m : ℕ) where
     first-placed : (x : List ℕ) (j : ℕ) → size r ≤ 65535 → j + tests r ≤ 65535 → placed m x .left ≡ j + tests r
         → Joined k q (j + tests p) (placed m x) (placed m (44 ∷ 32 ∷ (v ++ x)))
     first-placed x j a b h =
-        let n = o .size-is in
-        let c = o .count-is in
         g x (j + tests p) (omega arith) (omega arith) (h ∙ omega arith)
 
     starts : (x : List ℕ) (j : ℕ) → size r ≤ 65535 → j + tests r ≤ 65535 → placed m x .left ≡ j + tests r
         → placed m (u ++ (44 ∷ 32 ∷ (v ++ x))) ≡ over p j (placed m (44 ∷ 32 ∷ (v ++ x)))
     starts x j a b h =
-        let n = o .size-is in
-        let c = o .count-is in
         f (44 ∷ 32 ∷ (v ++ x)) j (omega arith) (omega arith) (ap (λ s. s .left) (first-placed x j a b h .placed-is))
 
     -- behind the name of the row

@@ -25,10 +25,6 @@ grows-self s = record { nodes-grow = omega arith; tests-grow = omega arith }
 
 grows-then : {s t u : SoFar} → Grows s t → Grows t u → Grows s u
 grows-then g h =
-    let a = g .nodes-grow in
-    let b = h .nodes-grow in
-    let c = g .tests-grow in
-    let d = h .tests-grow in
     record { nodes-grow = omega arith; tests-grow = omega arith }
 
 grows-either : {s t u : SoFar} (b : Bool) → Grows s t → Grows s u → Grows s (cond b t u)
@@ -149,10 +145,6 @@ grows-text m (b ∷ w) x = grows-then (grows-text m w x) (grows-place b (byte (l
 -- what has room when it has grown has room
 pub room-before : {n m : ℕ} {s t : SoFar} → Grows s t → Room n m t → Room n m s
 room-before g r =
-    let a = g .nodes-grow in
-    let b = g .tests-grow in
-    let c = r .for-nodes in
-    let d = r .for-tests in
     record { for-nodes = omega arith; for-tests = omega arith }
 
 pub room-at : (n m i : ℕ) (text : List ℕ) → Room n m (placed m text) → Room n m (placed m (drop i text))

@@ -34,12 +34,10 @@ module _ {n m : ℕ} {t : List ℕ} {f : Front} {s : SoFar} (h : Holds n m t f s
 -- a node in front
 module _ {n m : ℕ} {t : List ℕ} {f : Front} {s : SoFar} (h : Holds n m t f s) (k a z : ℕ) (r : Room n m (withNode k a z s)) where
   pub node-room : 6 ≤ f .node
-  node-room = let e = h .nodes-there .ends in let b = r .for-nodes in omega arith
+  node-room = omega arith
 
   pub node-fits : f .node - 6 + 5 < length t
   node-fits =
-      let e = node-room in
-      let b = region-start (h .nodes-there) in
       let d = region-end (h .nodes-there) in
       omega arith
 
@@ -50,9 +48,6 @@ module _ {n m : ℕ} {t : List ℕ} {f : Front} {s : SoFar} (h : Holds n m t f s
       → t′ ≡ sets t (f .node - 6) (nodeBytes k a z)
       → Holds n m t′ f′ (withNode k a z s)
   node-placed f′ is t′ w =
-      let e = node-room in
-      let b = region-start (h .nodes-there) in
-      let d = h .counted in
       rw (is, w)
       (record {
         middle-is = h .middle-is;
@@ -67,15 +62,13 @@ module _ {n m : ℕ} {t : List ℕ} {f : Front} {s : SoFar} (h : Holds n m t f s
 -- a configuration in front
 module _ {n m : ℕ} {t : List ℕ} {f : Front} {s : SoFar} (h : Holds n m t f s) (k a z : ℕ) (r : Room n m (withTest k a z s)) where
   pub test-room : 4 ≤ f .part - 6 * n
-  test-room = let e = h .tests-there .ends in let b = r .for-tests in omega arith
+  test-room = omega arith
 
   pub test-left : 1 ≤ f .left
-  test-left = let e = test-room in let b = h .counted in omega arith
+  test-left = omega arith
 
   pub test-fits : f .part - 4 + 3 < length t
   test-fits =
-      let e = test-room in
-      let b = region-start (h .tests-there) in
       let d = region-end (h .tests-there) in
       omega arith
 
@@ -86,9 +79,6 @@ module _ {n m : ℕ} {t : List ℕ} {f : Front} {s : SoFar} (h : Holds n m t f s
       → t′ ≡ sets t (f .part - 4) (testBytes k a z)
       → Holds n m t′ f′ (withTest k a z s)
   test-placed f′ is t′ w =
-      let e = test-room in
-      let d = h .counted in
-      let g = test-left in
       rw (is, w)
       (record {
         middle-is = h .middle-is;
@@ -111,7 +101,6 @@ nodes-anew {n} {m} {t} {f} {s} h w l =
     let c = h .counted in
     let a = nodes-start h in
     let b = nodes-end h in
-    let d = h .nodes-there .ends in
     let i = h .middle-is in
     let e = part-back t w (f .node) (f .middle) a b (omega arith) in
     let inside : Region (sets t (f .node) w) (f .node) (6 * n) (sets (s .nodes) 0 w) = put-inside (h .nodes-there) w (f .node) 0 (omega arith) (omega arith) in
@@ -132,9 +121,7 @@ pub nodes-small :
     → Holds n m t f s
     → length (take (f .middle - f .node) (drop (f .node) t)) ≤ 32778
 nodes-small {f = f} h =
-    let a = h .nodes-there .ends in
     let b = region-end (h .nodes-there) in
-    let c = h .small in
     rw (nodes-part h) (omega arith)
 
 -- nothing is placed

@@ -35,8 +35,6 @@ module _ {t l : List ℕ} {a b : ℕ} (r : Region t a b l) where
   -- in front
   pub put-front : (w : List ℕ) (i : ℕ) → i + length w ≡ a → Region (sets t i w) i b (w ++ l)
   put-front w i e =
-      let f = r .begins in
-      let g = r .ends in
       let h : i + length w ≡ length (r .before) = omega arith in
       record {
         before = take i (r .before);
@@ -95,16 +93,15 @@ module _ {t l : List ℕ} {a b : ℕ} (r : Region t a b l) where
       }
 
   pub region-start : a ≤ b
-  region-start = let e = r .ends in omega arith
+  region-start = omega arith
 
   pub region-end : b ≤ length t
-  region-end = let e = r .ends in let f = r .begins in rw (r .parts) (simp length-append (omega arith))
+  region-end = rw (r .parts) (simp length-append (omega arith))
 
   -- its bytes as a part of the slice
   pub region-is : take (b - a) (drop a t) ≡ l
   region-is =
       let f = r .begins in
-      let g = r .ends in
       let e : length l ≡ b - a = omega arith in
       rw (r .parts, drop-at (r .before) (l ++ r .behind) a f) (take-at l (r .behind) (b - a) e)
 

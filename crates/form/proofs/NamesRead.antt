@@ -187,8 +187,6 @@ pub record Found (r n p b q : ℕ) : Type 0 where
 
 later : {r n p b q : ℕ} → Found (suc r) n p b q → Found r (suc n) p b q
 later o =
-    let i = o .from in
-    let j = o .below in
     record { row = o .row; from = omega arith; below = omega arith; place-is = o .place-is; code-is = o .code-is; alike = o .alike }
 
 pub found : (n r p b : ℕ) → (placeFrom n r p b ≡ 0 → ⊥) → Found r n p b (placeFrom n r p b)
@@ -233,8 +231,6 @@ pub read-other : (p b q : ℕ) → inName p ≡ true → Found (formRow 0) kinds
 unfolding letters
 read-other p b q h o =
     let k : ℕ = p % 20 in
-    let f = o .from in
-    let g = o .below in
     let s : formRow (o .row - 6) ≡ o .row = omega arith in
     let l : o .row - 6 < kinds = omega arith in
     let a : agree k (p - k) (rowAt (formRow (o .row - 6))) ≡ true = rw s (o .alike) in
@@ -307,8 +303,6 @@ sole p b h l e n = go (eqb (placeFrom kinds (formRow 0) p b) 0) refl
 
     other : {q : ℕ} → Found (formRow 0) kinds p b q → ⊥
     other {q} o =
-        let f = o .from in
-        let g = o .below in
         let s : formRow (o .row - 6) ≡ o .row = omega arith in
         let i : agree (p % 20) (p - p % 20) (rowAt (formRow (o .row - 6))) ≡ true = rw s (o .alike) in
         let t : eqb (rowAt (formRow (o .row - 6)) + p % 20) p ≡ true = rw i at (all-at kinds (sole-at p) a (o .row - 6) (omega arith)) in

@@ -31,7 +31,7 @@ empty-line [] e = Reading.good-line [] (record { spelled = refl; below = tt; sho
 empty-line (b ∷ line) e = absurd (omega arith)
 
 pub long-line : (line : List ℕ) → longest < length line → Reading line false none
-long-line line h = Reading.bad-line (λ l n. let short = n .short in omega arith)
+long-line line h = Reading.bad-line (λ l n. omega arith)
 
 pub other-line : (line : List ℕ) → 0 < length line → length line ≤ longest → {good : Bool} {X : Events} → Named space none line good X → Reading line good X
 unfolding joined
@@ -74,7 +74,7 @@ module _ (c : ℕ) (plain : figure c ≡ 10) (line : List ℕ) (at : ℕ) (t : T
 
   module _ (X : Events) where
     pub stops-none : places ≤ t .event → Named c X (drop at line) false none
-    stops-none h = Named.stops (λ e l b s. let same = heads e l b s .0 in let low = b .0 in omega arith)
+    stops-none h = Named.stops (λ e l b s. let same = heads e l b s .0 in omega arith)
 
     pub goes-last : t .event < places → length line ≤ t .next → Named c X (drop at line) true (put (t .event) true X)
     unfolding joined led withAll

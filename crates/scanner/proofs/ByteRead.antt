@@ -128,11 +128,11 @@ module _ (t : List ℕ) (i : ℕ) (at : Place) (opens rests : List ℕ) where
     where
       go : {r : ℕ} → Sits (at .pc) (getD t i 0) (Into r) → at .pc < long
       go (sits-program b c) = in-names (at .pc) (λ z. omega arith)
-      go (sits-test b k) = let l = k .is-symbol in in-names (at .pc) (λ z. omega arith)
+      go (sits-test b k) = in-names (at .pc) (λ z. omega arith)
 
 pub number-low : (p n : ℕ) → Numbered p n → n ≤ 65536
 number-low p zero m = omega arith
-number-low p (suc v) m = let l = m .2 in omega arith
+number-low p (suc v) m = omega arith
 
 pub ringed : (t : List ℕ) (o d l : ℕ) (opens rests : List ℕ) → RingHolds t o d l opens rests → 0 < l → 0 < d
 ringed t o d zero opens rests k h = absurd (omega arith)

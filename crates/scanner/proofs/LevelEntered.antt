@@ -99,7 +99,6 @@ module _ (t : List ℕ) (i : ℕ) (at : Place) (opens rests : List ℕ) (σ : St
       let x : codes (suc (at .pc)) ≡ codes (restAt t q) =
       sym (ap codes (rest-is t q (at .bracket) c a) ∙ same-list (codes (restOf (levelAt t (at .bracket)) c)) (codes (suc (at .pc))) e) in
       let r : 128 ≤ codeAt (suc (at .pc) - 1) = rw (one-back (at .pc)) w in
-      let d = s .deep in
       record {
         before = y;
         deep = omega arith;
@@ -130,7 +129,6 @@ module _ (t : List ℕ) (i : ℕ) (at : Place) (opens rests : List ℕ) (σ : St
       go (in-name k o a) = absurd (u .no-head k)
       go (in-bracket c a f) =
           let m = u .in-body (levelAt t (at .bracket)) c f in
-          let l = s .before in
           let o = in-a-bracket t (at .bracket) (m .0) in
           let z : 0 < i = omega arith in
           let y = test-level t i z (u .following t i (s .follows)) in

@@ -30,8 +30,6 @@ module _ (t : List ℕ) (i : ℕ) (at : Place) (opens rests : List ℕ) (σ : St
 
   pub lies-on : (q n : ℕ) → Goes (at .pc) (getD t i 0) q n → Lies t (suc i) (moved at q n (at .bracket)) opens rests σ
   lies-on q n g =
-      let b = s .before in
-      let d = s .deep in
       record {
         before = omega arith;
         deep = omega arith;
@@ -62,8 +60,6 @@ module _ (t : List ℕ) (i : ℕ) (at : Place) (opens rests : List ℕ) (σ : St
       go : IsIn t i (at .pc) (at .bracket) → Lies t (suc i) (moved at (suc q) 0 i) opens rests σ
       go (in-bracket c a g) = absurd (heads-fits (codes (at .pc)) (levelAt t (at .bracket)) c k g)
       go (in-name h o a) =
-          let l = s .before in
-          let d = s .deep in
           let z : 0 < i = omega arith in
           let y : getD t i 0 ≡ codeAt q = b ∙ sym e in
           record {

@@ -79,8 +79,6 @@ module _ (t : List ℕ) (i : ℕ) (at : Place) (opens rests : List ℕ) (σ : St
   out-at to b z c a e r n d l k τ u =
       let w = around-close t i (at .bracket) c b z a in
       let y = outer-within t (at .bracket) in
-      let x = s .before in
-      let v = s .deep in
       record {
         before = omega arith;
         deep = omega arith;

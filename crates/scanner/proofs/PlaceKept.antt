@@ -188,7 +188,7 @@ sits-as {p} {h} {b} a (sits-on g) =
       numbering = g .numbering;
     })
 sits-as {p} {h} {b} a (sits-opens e f k m) = sits-opens e f (a .heads-here) (λ t i o. m t i (a .following t i o))
-sits-as {p} {h} {b} a (sits-program e f) = let l = a .letter-there in absurd (omega arith)
+sits-as {p} {h} {b} a (sits-program e f) = absurd (omega arith)
 sits-as {p} {h} {b} a (sits-test e u) = absurd (u .no-head (a .heads-there))
 sits-as {p} {h} {b} a (sits-out e u) = absurd (u .no-head (a .heads-there))
 
@@ -208,7 +208,6 @@ module _ (p b q : ℕ) (l : firstName ≤ p) (o : Found (formRow 0) kinds p b q)
           edge (q - 1) (omega arith) ∙ sym (edge (p - 1) (omega arith))
       go false e =
           let z = eqb-false k 0 e in
-          let g = o .place-is in
           let x : p - k + (k - 1) ≡ p - 1 = omega arith in
           let y : rowAt (o .row) + (k - 1) ≡ q - 1 = omega arith in
           sym (rw (x, y) at (agree-at k (p - k) (rowAt (o .row)) (k - 1) (o .alike) (omega arith)))
@@ -224,7 +223,6 @@ module _ (p b q : ℕ) (l : firstName ≤ p) (o : Found (formRow 0) kinds p b q)
           edge (q - 2) (omega arith) ∙ sym (edge (p - 2) (omega arith))
       go false e =
           let z = eqb-false k 1 e in
-          let g = o .place-is in
           let x : p - k + (k - 2) ≡ p - 2 = omega arith in
           let y : rowAt (o .row) + (k - 2) ≡ q - 2 = omega arith in
           sym (rw (x, y) at (agree-at k (p - k) (rowAt (o .row)) (k - 2) (o .alike) (omega arith)))

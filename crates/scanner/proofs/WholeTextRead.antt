@@ -122,8 +122,6 @@ module _ (t : List ℕ) (i : ℕ) (at : Place) (k : Tally) (opens rests : List �
       let g = f σ (r .lies) in
       let c = counts-at (at .pc) (at .number) (getD t i 0) σ k (r .lies .numbered) (at-end t i at opens rests σ (r .lies)) in
       let n = few-more (at .pc) (at .number) (getD t i 0) k in
-      let a = r .few-nodes in
-      let b = r .few-tests in
       record {
         left-over = g .0;
         lies = subst (λ (j : ℕ). Lies t j next opens′ rests′ (g .0)) (sym (add-one i)) (g .1);
@@ -166,7 +164,6 @@ ended-number p (suc v) m e = absurd (end-known (codeAt p) (m .0) .2 e)
 
 at-last : (t : List ℕ) (i : ℕ) (σ : Stack) (c : Counts) → length t ≤ i → ReadTo t i σ c → ReadTo t (length t) σ c
 at-last t i σ c h s =
-    let w = s .within in
     let e : i ≡ length t = omega arith in
     subst (λ (j : ℕ). ReadTo t j σ c) e s
 
@@ -174,7 +171,6 @@ module _ (t : List ℕ) (i : ℕ) (at : Place) (k : Tally) (opens rests : List �
   pub reading-short : length t ≤ i → (codeAt (at .pc) ≡ 0 → ⊥) → Tells t (answered.Fails i)
   reading-short h e =
       let s = some-left (at .pc) (at .number) e in
-      let w = r .stands .within in
       let q : length t ≡ i = omega arith in
       let z = at-last t i (held (at .pc) (at .number) ++ r .left-over) (countsOf k) h (r .stands) in
       subst (λ (j : ℕ). Fails t j) q

@@ -6,7 +6,7 @@ use mathlib.Core.Path.{_≡_, refl, _∙_}
 use Prim.Native.Nat.{_-_, _≤_}
 use native.Mathlib.Omega.{arith}
 use lib.ListN.{length}
-use borrow.Rule.Slice.PartMut.{same-len-mid, mid-len}
+use borrow.Rule.Slice.PartMut.{same-len-mid}
 
 abbrev Inv-loop : tie.InvT-loop
 Inv-loop file room₀ done₀ room done = (done ≤ length room₀) × (length room ≡ length room₀)
@@ -24,25 +24,19 @@ same-length c =
 -- done += got.count;
 add-done : tie.Need-add-done Inv-loop μ-loop
 add-done c =
-    let loop = c .before .before .before .before .before .before .before .before .before .loop in
     let read-some = c .before .before .before .before .before .before .read-some in
-    let long = mid-len (loop .done) (length (loop .room)) (loop .room) (omega arith) in
     omega (arith, read-some .kept .1 .0, read-some .ensures)
 
 -- while done < room.len() {
 loop-less : tie.Need-loop-less Inv-loop μ-loop
 loop-less c =
-    let loop = c .before .before .before .before .before .before .before .before .before .loop in
     let read-some = c .before .before .before .before .before .before .read-some in
-    let long = mid-len (loop .done) (length (loop .room)) (loop .room) (omega arith) in
-    let same = same-len-mid (loop .done) (length (loop .room) - loop .done) (loop .room) (read-some .last .1 .0) (read-some .kept .1 .0) in
     omega (arith, read-some .kept .1 .0, read-some .ensures)
 
 loop-again : tie.Need-loop-again Inv-loop μ-loop
 loop-again c =
     let loop = c .before .before .before .before .before .before .before .before .before .loop in
-    let read-some = c .before .before .before .before .before .before .read-some in
-    let long = mid-len (loop .done) (length (loop .room)) (loop .room) (omega arith) in (
+    let read-some = c .before .before .before .before .before .before .read-some in (
       omega (arith, read-some .kept .1 .0, read-some .ensures, loop .inv .1),
       same-len-mid (loop .done) (length (loop .room) - loop .done) (loop .room) (read-some .last .1 .0) (read-some .kept .1 .0) ∙ loop .inv .1,
     )

@@ -52,8 +52,9 @@ put-flag-requires c κs =
 -- let d = put_events(room, c, events);
 put-events-requires : tie.Need-put-events-requires
 put-events-requires c κs =
-    let start = c .before .before .before .before .before .before .before .before .before .before .before .before .before .before .before .before in
-    let put-number = c .before .before .before .before .before .before .before .before .before .before .before .put-number in
+    let c8 = c .before .before .before .before .before .before .before .before in
+    let start = c8 .before .before .before .before .before .before .before .before in
+    let put-number = c8 .before .before .before .put-number in
     let put-number2 = c .before .before .before .before .before .before .before .put-number2 in
     let put-flag = c .before .before .before .put-flag in
     omega (

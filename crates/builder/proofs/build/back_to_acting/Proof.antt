@@ -15,7 +15,6 @@ abbrev μ-loop : tie.MeasureT-loop
 -- if acts(text[i - 1]) {
 shared-slice-read-acts : tie.Need-shared-slice-read-acts Inv-loop μ-loop
 shared-slice-read-acts c =
-    let rising = c .before .before .loop .inv .rising in
     search needs
 
 -- while i > 0 {

@@ -25,8 +25,9 @@ loop-holds c =
 -- front = place(&names, b, level, &text[i..], table, front);
 place-requires : tie.Need-place-requires Inv-loop μ-loop
 place-requires c κs =
-    let start = c .before .before .before .before .before .before .before .before .before .before .before .before in
-    let table-of-names = c .before .before .before .before .before .before .before .before .before .table-of-names in
+    let c8 = c .before .before .before .before .before .before .before .before in
+    let start = c8 .before .before .before .before in
+    let table-of-names = c8 .before .table-of-names in
     let loop = c .before .before .before .before .before .before .before .loop in
     let loop-test = c .before .before .before .before .before .before .loop-test in
     let byte-at = c .before .before .before .byte-at in
@@ -67,17 +68,14 @@ loop-again c =
 -- put_trailer(table, 6 * n + 4 * m, n, m, v);
 put-trailer-requires : tie.Need-put-trailer-requires Inv-loop μ-loop
 put-trailer-requires c κs =
-    let loop = c .before .before .loop in
-    let r = loop .inv .room-is in
     (search needs, search needs)
 
 -- pub fn build
 returns : tie.Need-returns Inv-loop μ-loop
 returns c p g =
     let loop = c .before .before .before .before .before .loop in
-    let loop-test = c .before .before .before .before .loop-test in
     let put-trailer = c .before .before .put-trailer in
-    let e : loop .i ≡ 0 = let l = loop-test .left in omega arith in
+    let e : loop .i ≡ 0 = omega arith in
     table-built g (rw e at (loop .inv)) _ (put-trailer .ensures)
 
 pub build-spec : {M : Type 1} → statement M

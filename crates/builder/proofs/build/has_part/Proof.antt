@@ -2,7 +2,6 @@
 use Rattle.builder.proofs.build.has_part.Statement.{statement}
 use Rattle.builder.proofs.build.has_part.Tie as tie
 use borrow.Author.Needs.{needs}
-use Prim.Native.Nat.{_+_}
 use mathlib.Core.Path.{refl, sym, _∙_}
 use borrow.Author.Tests.{eq-eqb, ne-eqb}
 use Rattle.form.specs.Inside.Rows.{codeAt}

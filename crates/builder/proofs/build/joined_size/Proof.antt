@@ -11,7 +11,6 @@ mul-word-in c =
     let start = c .before .before in
     let word-in = c .word-in in
     let b = product-small (start .args .long) (word-in .result) (start .pre .0) (word-in .ensures .1) in
-    let a = start .pre .1 in
     search needs
 
 add-word-in : tie.Need-add-word-in
@@ -19,7 +18,6 @@ add-word-in c =
     let start = c .before .before in
     let word-in = c .word-in in
     let b = product-small (start .args .long) (word-in .result) (start .pre .0) (word-in .ensures .1) in
-    let a = start .pre .1 in
     search needs
 
 word-in-requires-2 : tie.Need-word-in-requires-2
@@ -27,7 +25,6 @@ word-in-requires-2 c κs =
     let start = c .before .before in
     let word-in = c .word-in in
     let b = product-small (start .args .long) (word-in .result) (start .pre .0) (word-in .ensures .1) in
-    let a = start .pre .1 in
     search needs
 
 -- fn joined_size

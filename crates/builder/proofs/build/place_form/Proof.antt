@@ -40,9 +40,10 @@ place-choice-requires c κs =
 
 returns-2 : tie.Need-returns-2
 returns-2 c =
-    let start = c .before .before .before .before .before .before .before .before .before .before .before .before in
-    let code = c .before .before .before .before .before .before .before .before .before .code in
-    let if1 = c .before .before .before .before .before .before .before .before .if1 in
+    let c8 = c .before .before .before .before .before .before .before .before in
+    let start = c8 .before .before .before .before in
+    let code = c8 .before .code in
+    let if1 = c8 .if1 in
     let code2 = c .before .before .before .before .before .before .before .code2 in
     let if2 = c .before .before .before .before .before .before .if2 in
     let code3 = c .before .before .before .before .before .code3 in
@@ -66,9 +67,10 @@ place-await-requires c κs =
 
 returns-3 : tie.Need-returns-3
 returns-3 c =
-    let start = c .before .before .before .before .before .before .before .before .before .before .before .before in
-    let code = c .before .before .before .before .before .before .before .before .before .code in
-    let if1 = c .before .before .before .before .before .before .before .before .if1 in
+    let c8 = c .before .before .before .before .before .before .before .before in
+    let start = c8 .before .before .before .before in
+    let code = c8 .before .code in
+    let if1 = c8 .if1 in
     let code2 = c .before .before .before .before .before .before .before .code2 in
     let if2 = c .before .before .before .before .before .before .if2 in
     let code3 = c .before .before .before .before .before .code3 in

@@ -12,9 +12,7 @@ use Rattle.builder.proofs.PlacedByFunctions.{name-here, behind-is}
 name-end-requires : tie.Need-name-end-requires
 name-end-requires c κs =
     let start = c .before .before .before .before in
-    let kind-of = c .before .kind-of in
     let wide = c .wide in
-    let k = kind-of .ensures .1 in
     (start .pre .0, omega (arith, wide .ensures .0))
 
 -- place_form(names, kind, end, text, 2 + (end - ROW * row), table, front)

@@ -20,7 +20,6 @@ slice-write-levels c =
     let match = c .match in
     let o = room-to-close (start .args .b) (start .args .text .now) (start .args .levels .now) (start .args .depth) (start .pre .1 .0) (match .keys3)
     (start .pre .1 .1) (start .pre .1 .2) in
-    let h = start .pre .1 .1 .within in
     omega arith
 
 -- fn relevel

@@ -22,8 +22,7 @@ loop-holds c =
 -- let first = word_in(nodes, at + 10);
 word-in-requires : tie.Need-word-in-requires Inv-loop μ-loop
 word-in-requires c κs =
-    let loop = c .before .before .before .before .loop in
-    let n = loop .inv .near in search needs
+    search needs
 
 -- nodes[at] = kind;
 slice-write-nodes : tie.Need-slice-write-nodes Inv-loop μ-loop
@@ -37,13 +36,10 @@ loop-less c =
 
 loop-again : tie.Need-loop-again Inv-loop μ-loop
 loop-again c =
-    let start = c .before .before .before .before .before .before .before in
     let loop = c .before .before .before .before .before .loop in
     let loop-test = c .before .before .before .before .loop-test in
     let if1 = c .before .before .if1 in
     let word-in = c .word-in in
-    let l = loop .inv .long in
-    let p = start .pre in
     spreading-on (loop .inv) (word-in .result) (loop-test .taken) (omega arith) (if1 .taken) (word-in .ensures .0) (word-in .ensures .1)
 
 -- return;
@@ -67,12 +63,12 @@ spread-spec =
     μ-loop
     loop-holds
     (λ c. search needs)  -- slice-read-if1: if nodes[at] == 255 {
-    (λ c. let n = c .before .before .before .before .loop .inv .near in search needs)  -- add-word-in: let first = word_in(nodes, at + 10);
+    (λ c. search needs)  -- add-word-in: let first = word_in(nodes, at + 10);
     word-in-requires
     slice-write-nodes
     (λ c. search needs)  -- add-at: at = at + 6 + 6 * first;
     (λ c. search needs)  -- mul-at
-    (λ c. let n = c .before .before .before .before .before .loop .inv .near in search needs)  -- add-at-2
+    (λ c. search needs)  -- add-at-2
     loop-less
     loop-again
     (λ c. c .before .before .before .loop .inv .long)  -- same-length: return;

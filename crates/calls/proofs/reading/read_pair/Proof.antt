@@ -31,9 +31,10 @@ slice-aggregate-read-bytes c =
 -- return unread_pair();
 returns-2 : tie.Need-returns-2
 returns-2 c =
-    let start = c .before .before .before .before .before .before .before .before .before .before .before .before .before in
-    let find = c .before .before .before .before .before .before .before .before .before .find in
-    let if1 = c .before .before .before .before .before .before .before .before .if1 in
+    let c8 = c .before .before .before .before .before .before .before .before in
+    let start = c8 .before .before .before .before .before in
+    let find = c8 .before .find in
+    let if1 = c8 .if1 in
     let read-bytes = c .before .before .before .before .before .read-bytes in
     let if2 = c .before .if2 in
     let unread-pair2 = c .unread-pair2 in

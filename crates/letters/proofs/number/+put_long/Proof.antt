@@ -1,3 +1,4 @@
+-- `put_long` meets its contract, by the measure of its call of itself.
 mod Measures
 mod PutLong
 use Rattle.letters.proofs.number.+put_long.{statement}

@@ -1,7 +1,6 @@
 -- `put_number` meets its contract: the digits, and a byte more.
 use mathlib.Core.Path.{refl}
 use mathlib.Core.List.{[], _∷_}
-use native.Mathlib.Omega.{arith}
 use borrow.Author.Needs.{needs}
 use Rattle.letters.proofs.Puts.{puts-more}
 use Rattle.letters.proofs.number.put_number.Statement.{statement}

@@ -2,7 +2,7 @@
 use Rattle.listing.proofs.input.read_events.Statement.{statement}
 use Rattle.listing.proofs.input.read_events.Tie as tie
 use borrow.Author.Needs.{needs}
-use mathlib.Core.Path.{_≡_, _∙_}
+use mathlib.Core.Path.{_≡_}
 use mathlib.Core.Bool.{Bool, true, false}
 use Prim.Native.Nat.{_*_, _-_}
 use lib.ListN.{length, drop}
@@ -49,9 +49,10 @@ returns-2 c =
 
 returns-3 : tie.Need-returns-3 Inv-loop μ-loop
 returns-3 c =
-    let start = c .before .before .before .before .before .before .before .before .before .before .before .before in
-    let loop = c .before .before .before .before .before .before .before .before .before .before .loop in
-    let event-at = c .before .before .before .before .before .before .before .before .event-at in
+    let c8 = c .before .before .before .before .before .before .before .before in
+    let start = c8 .before .before .before .before in
+    let loop = c8 .before .before .loop in
+    let event-at = c8 .event-at in
     let if2 = c .before .before .before .if2 in
     let if3 = c .before .if3 in
     let bad-line2 = c .bad-line2 in
@@ -62,17 +63,19 @@ returns-3 c =
 
 loop-less : tie.Need-loop-less Inv-loop μ-loop
 loop-less c =
-    let start = c .before .before .before .before .before .before .before .before .before .before .before in
-    let loop = c .before .before .before .before .before .before .before .before .before .loop in
-    let loop-test = c .before .before .before .before .before .before .before .before .loop-test in
+    let c8 = c .before .before .before .before .before .before .before .before in
+    let start = c8 .before .before .before in
+    let loop = c8 .before .loop in
+    let loop-test = c8 .loop-test in
     let event-at = c .before .before .before .before .before .before .before .event-at in
     let if1 = c .before .before .before .before .before .before .if1 in
     shorter (start .args .separator) (start .pre) (start .args .line .now) (loop .at) (event-at .result) (event-at .ensures) (loop-test .taken) (if1 .left)
 
 loop-again : tie.Need-loop-again Inv-loop μ-loop
 loop-again c =
-    let start = c .before .before .before .before .before .before .before .before .before .before .before in
-    let loop = c .before .before .before .before .before .before .before .before .before .loop in
+    let c8 = c .before .before .before .before .before .before .before .before in
+    let start = c8 .before .before .before in
+    let loop = c8 .before .loop in
     let event-at = c .before .before .before .before .before .before .before .event-at in
     let if1 = c .before .before .before .before .before .before .if1 in
     let mark = c .before .before .before .before .mark in

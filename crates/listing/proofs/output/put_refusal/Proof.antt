@@ -43,8 +43,9 @@ same-length c =
 
 returns : tie.Need-returns
 returns c =
-    let start = c .before .before .before .before .before .before .before .before .before .before .before .before .before .before in
-    let put-text = c .before .before .before .before .before .before .before .before .before .before .put-text in
+    let c8 = c .before .before .before .before .before .before .before .before in
+    let start = c8 .before .before .before .before .before .before in
+    let put-text = c8 .before .before .put-text in
     let put-number = c .before .before .before .before .before .before .put-number in
     let put-number2 = c .before .before .put-number2 in
     let refusal = start .args .refusal in

@@ -1,3 +1,4 @@
+-- `put_node` meets its contract, by the measure of its calls of itself.
 mod Measures
 mod PutNode
 use Rattle.printer.proofs.spelled.+put_node.{statement}

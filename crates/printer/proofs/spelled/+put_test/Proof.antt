@@ -1,3 +1,4 @@
+-- `put_test` meets its contract, by the measure of its calls of itself.
 mod Measures
 mod PutTest
 use Rattle.printer.proofs.spelled.+put_test.{statement}

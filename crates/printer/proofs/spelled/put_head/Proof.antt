@@ -39,9 +39,7 @@ element-copy-out-put-argument c =
     let start = c .before .before .before .before .before .before .before .before in
     let kind-at = c .before .before .before .before .before .kind-at in
     let name-end = c .before .before .before .before .name-end in
-    let l = name-low (kind-at .result) (kind-few (kind-at .ensures .0) (start .pre .1)) in
-    let e = name-end .ensures .0 in
-    omega arith
+    omega (arith, name-low (kind-at .result) (kind-few (kind-at .ensures .0) (start .pre .1)), name-end .ensures .0)
 
 put-argument-requires : tie.Need-put-argument-requires
 put-argument-requires c κs =
@@ -55,28 +53,27 @@ put-argument-requires c κs =
 -- put_link(room, argued, names[inside], names[inside + 1])
 element-copy-out-put-link : tie.Need-element-copy-out-put-link
 element-copy-out-put-link c =
-    let start = c .before .before .before .before .before .before .before .before .before .before .before .before .before .before in
-    let kind-at = c .before .before .before .before .before .before .before .before .before .before .before .kind-at in
-    let name-end = c .before .before .before .before .before .before .before .before .before .before .name-end in
-    let l = name-low (kind-at .result) (kind-few (kind-at .ensures .0) (start .pre .1)) in
-    let e = name-end .ensures .0 in
-    omega arith
+    let c8 = c .before .before .before .before .before .before .before .before in
+    let start = c8 .before .before .before .before .before .before in
+    let kind-at = c8 .before .before .before .kind-at in
+    let name-end = c8 .before .before .name-end in
+    omega (arith, name-low (kind-at .result) (kind-few (kind-at .ensures .0) (start .pre .1)), name-end .ensures .0)
 
 element-copy-out-put-link-2 : tie.Need-element-copy-out-put-link-2
 element-copy-out-put-link-2 c =
-    let start = c .before .before .before .before .before .before .before .before .before .before .before .before .before .before .before in
-    let kind-at = c .before .before .before .before .before .before .before .before .before .before .before .before .kind-at in
-    let name-end = c .before .before .before .before .before .before .before .before .before .before .before .name-end in
-    let l = name-low (kind-at .result) (kind-few (kind-at .ensures .0) (start .pre .1)) in
-    let e = name-end .ensures .0 in
-    omega arith
+    let c8 = c .before .before .before .before .before .before .before .before in
+    let start = c8 .before .before .before .before .before .before .before in
+    let kind-at = c8 .before .before .before .before .kind-at in
+    let name-end = c8 .before .before .before .name-end in
+    omega (arith, name-low (kind-at .result) (kind-few (kind-at .ensures .0) (start .pre .1)), name-end .ensures .0)
 
 put-link-requires : tie.Need-put-link-requires
 put-link-requires c κs =
-    let start = c .before .before .before .before .before .before .before .before .before .before .before .before .before .before .before .before in
-    let kind-at = c .before .before .before .before .before .before .before .before .before .before .before .before .before .kind-at in
-    let name-end = c .before .before .before .before .before .before .before .before .before .before .before .before .name-end in
-    let put-opening = c .before .before .before .before .before .before .before .before .before .before .put-opening in
+    let c8 = c .before .before .before .before .before .before .before .before in
+    let start = c8 .before .before .before .before .before .before .before .before in
+    let kind-at = c8 .before .before .before .before .before .kind-at in
+    let name-end = c8 .before .before .before .before .name-end in
+    let put-opening = c8 .before .before .put-opening in
     let put-argument = c .before .before .before .before .before .put-argument in
     let l = link-is (start .args .names .now) (kind-at .result) (name-end .result) (start .pre .0) (name-end .ensures .0) in
     rw l (link-fits (kind-at .ensures .0) (start .pre .1) (put-opening .ensures) (put-argument .ensures))

@@ -2,7 +2,7 @@
 use Rattle.scanner.proofs.levels.level_behind.Statement.{statement}
 use Rattle.scanner.proofs.levels.level_behind.Tie as tie
 use borrow.Author.Needs.{needs}
-use Prim.Native.Nat.{_+_, _-_, _≤_}
+use Prim.Native.Nat.{_-_, _≤_}
 use mathlib.Core.Path.{_≡_, refl, sym, _∙_}
 use native.Mathlib.Numerals.{add-one}
 use native.Mathlib.Omega.{arith}

@@ -12,8 +12,6 @@ use Rattle.form.specs.Inside.Rows.{rowAt, codeAt}
 same-codes-requires : tie.Need-same-codes-requires
 same-codes-requires c κs =
     let start = c .before .before in
-    let l = start .pre .1 .0 in
-    let m = start .pre .1 .1 in
     (start .pre .0, (omega arith, omega arith))
 
 returns : tie.Need-returns

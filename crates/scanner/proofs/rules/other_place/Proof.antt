@@ -24,7 +24,6 @@ returns c =
     let loop-test = c .before .before .loop-test in
     let goes-on = c .before .goes-on in
     let if1 = c .if1 in
-    let l = start .pre .1 in
     let h = loop-test .taken in
     let e = loop .inv .0 ∙ place-here (start .args .pc) (start .args .b) (loop .row) h (sym (goes-on .ensures) ∙ if1 .taken) in
     (sym e, omega arith)

@@ -18,8 +18,7 @@ enter-requires c κs =
     let start = c .before .before .before .before .before .before .before .before .before .before .before in
     let turn-at = c .before .before .before .before .before .before .turn-at in
     let turn3 = c .before .before .before .before .turn3 in
-    let lies = start .pre .1 .1 .0 .1 in
-    let deep = lies .deep in (
+    let lies = start .pre .1 .1 .0 .1 in (
       into-in-names (start .args .text .now) (start .args .i) (start .args .at) (start .args .opens .now)
           (start .args .rests .now) (start .pre .1 .1 .0 .0) _ lies (sym (turn3 .given .1) ∙ turn-at .ensures),
       (
@@ -31,8 +30,7 @@ enter-requires c κs =
 leave-requires : tie.Need-leave-requires
 leave-requires c κs =
     let start = c .before .before .before .before .before .before .before .before .before in
-    let lies = start .pre .1 .1 .0 .1 in
-    let low = lies .before in (
+    let lies = start .pre .1 .1 .0 .1 in (
       start .pre .0,
       (
         search needs,
@@ -70,9 +68,10 @@ returns-3 c =
 
 returns-4 : tie.Need-returns-4
 returns-4 c =
-    let start = c .before .before .before .before .before .before .before .before .before .before .before .before .before .before .before .before in
-    let turn-at = c .before .before .before .before .before .before .before .before .before .before .before .turn-at in
-    let turn3 = c .before .before .before .before .before .before .before .before .before .turn3 in
+    let c8 = c .before .before .before .before .before .before .before .before in
+    let start = c8 .before .before .before .before .before .before .before .before in
+    let turn-at = c8 .before .before .before .turn-at in
+    let turn3 = c8 .before .turn3 in
     let opened = c .before .before .before .before .before .before .before .opened in
     let enter = c .before .before .before .before .enter in
     taken-entered (start .args .text .now) (start .args .i) (start .args .at) (start .args .opens .now)

@@ -31,9 +31,10 @@ read-byte-requires c κs =
 -- Took::Not => return Scanned::Fails(i),
 returns : tie.Need-returns Inv-loop μ-loop
 returns c =
-    let start = c .before .before .before .before .before .before .before .before .before .before .before .before .before in
-    let loop = c .before .before .before .before .before .before .before .before .before .before .loop in
-    let loop-test = c .before .before .before .before .before .before .before .before .before .loop-test in
+    let c8 = c .before .before .before .before .before .before .before .before in
+    let start = c8 .before .before .before .before .before in
+    let loop = c8 .before .before .loop in
+    let loop-test = c8 .before .loop-test in
     let read-byte = c .before .before .before .before .read-byte in
     let enum-told = c .enum-told in
     reading-stops (start .args .text .now) (loop .i) (loop .at) (loop .k) (loop .opens) (loop .rests)
@@ -42,17 +43,16 @@ returns c =
 -- k = counted(&names, k, at.pc, at.number, b);
 counted-requires : tie.Need-counted-requires Inv-loop μ-loop
 counted-requires c κs =
-    let table-of-names = c .before .before .before .before .before .before .before .before .before .before .before .before .before .table-of-names in
-    let loop = c .before .before .before .before .before .before .before .before .before .before .before .before .loop in
-    let n = loop .inv .2 .few-nodes in
-    let m = loop .inv .2 .few-tests in
+    let c8 = c .before .before .before .before .before .before .before .before in
+    let table-of-names = c8 .before .before .before .before .before .table-of-names in
     (table-of-names .ensures, (search needs, search needs))
 
 loop-again : tie.Need-loop-again Inv-loop μ-loop
 loop-again c =
-    let start = c .before .before .before .before .before .before .before .before .before .before .before .before .before .before .before .before in
-    let loop = c .before .before .before .before .before .before .before .before .before .before .before .before .before .loop in
-    let loop-test = c .before .before .before .before .before .before .before .before .before .before .before .before .loop-test in
+    let c8 = c .before .before .before .before .before .before .before .before in
+    let start = c8 .before .before .before .before .before .before .before .before in
+    let loop = c8 .before .before .before .before .before .loop in
+    let loop-test = c8 .before .before .before .before .loop-test in
     let read-byte = c .before .before .before .before .before .before .before .read-byte in
     let took = c .before .before .before .took in
     let counted = c .counted in (

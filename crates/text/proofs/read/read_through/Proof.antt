@@ -17,8 +17,9 @@ build-requires c κs =
 returns : tie.Need-returns
 unfolding numberOf
 returns c =
-    let start = c .before .before .before .before .before .before .before .before .before .before .before .before .before .before .before .before in
-    let build = c .before .before .before .before .before .before .before .before .before .before .before .build in
+    let c8 = c .before .before .before .before .before .before .before .before in
+    let start = c8 .before .before .before .before .before .before .before .before in
+    let build = c8 .before .before .before .build in
     let check = c .before .before .before .before .before .before .before .check in
     let enum-told = c .before .before .before .before .before .enum-told in
     let copy = c .before .before .copy in

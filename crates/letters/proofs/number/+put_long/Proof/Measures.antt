@@ -1,3 +1,4 @@
+-- What falls with the call of `put_long` in itself: the number that is written.
 use mathlib.Core.List.{List}
 use Prim.Native.Nat.{ℕ, _<_}
 use borrow.Fn.Kinds.{In, PK}

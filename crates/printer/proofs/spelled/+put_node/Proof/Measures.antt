@@ -1,3 +1,4 @@
+-- What falls with each call of `put_node` in itself: the nodes of the subtree.
 use Rattle.printer.proofs as proofs
 use borrow.Fn.Kinds.{In, PK}
 use borrow.Fn.PlainCycle.{Measures, is, falls, and}

@@ -91,10 +91,11 @@ module _ (t : ℕ) where
   -- return put(room, first, b")");
   put-requires-2 : Of lts.Need-put-requires-2
   put-requires-2 c κs =
-      let start = c .before .before .before .before .before .before .before .before .before .before .before .before .before .before .before .before in
-      let put-head = c .before .before .before .before .before .before .before .before .before .before .before .before .put-head in
-      let kind-at = c .before .before .before .before .before .before .before .before .before .kind-at in
-      let children-of = c .before .before .before .before .before .before .before .before .children-of in
+      let c8 = c .before .before .before .before .before .before .before .before in
+      let start = c8 .before .before .before .before .before .before .before .before in
+      let put-head = c8 .before .before .before .before .put-head in
+      let kind-at = c8 .before .kind-at in
+      let children-of = c8 .children-of in
       let put-node = c .before .before .before .before .before .put-node in
       let if2 = c .before .before .if2 in
       let count = ap children (sym (kind-at .ensures .0)) ∙ children-of .ensures in
@@ -102,10 +103,11 @@ module _ (t : ℕ) where
 
   returns-2 : Of lts.Need-returns-2
   returns-2 c =
-      let put-head = c .before .before .before .before .before .before .before .before .before .before .before .before .before .before .before .put-head in
-      let kind-at = c .before .before .before .before .before .before .before .before .before .before .before .before .kind-at in
-      let children-of = c .before .before .before .before .before .before .before .before .before .before .before .children-of in
-      let put-node = c .before .before .before .before .before .before .before .before .put-node in
+      let c8 = c .before .before .before .before .before .before .before .before in
+      let put-head = c8 .before .before .before .before .before .before .before .put-head in
+      let kind-at = c8 .before .before .before .before .kind-at in
+      let children-of = c8 .before .before .before .children-of in
+      let put-node = c8 .put-node in
       let if2 = c .before .before .before .before .before .if2 in
       let put2 = c .before .before .put2 in
       let count = ap children (sym (kind-at .ensures .0)) ∙ children-of .ensures in
@@ -114,10 +116,11 @@ module _ (t : ℕ) where
   -- let between = put(room, first, b", ");
   put-requires-3 : Of lts.Need-put-requires-3
   put-requires-3 c κs =
-      let start = c .before .before .before .before .before .before .before .before .before .before .before .before .before .before .before .before in
-      let put-head = c .before .before .before .before .before .before .before .before .before .before .before .before .put-head in
-      let kind-at = c .before .before .before .before .before .before .before .before .before .kind-at in
-      let children-of = c .before .before .before .before .before .before .before .before .children-of in
+      let c8 = c .before .before .before .before .before .before .before .before in
+      let start = c8 .before .before .before .before .before .before .before .before in
+      let put-head = c8 .before .before .before .before .put-head in
+      let kind-at = c8 .before .kind-at in
+      let children-of = c8 .children-of in
       let if1 = c .before .before .before .before .before .before .before .if1 in
       let put-node = c .before .before .before .before .before .put-node in
       let if2 = c .before .before .if2 in

@@ -1,3 +1,4 @@
+-- What falls with each call of `put_test` in itself: the records of the configuration.
 use Rattle.printer.proofs as proofs
 use borrow.Fn.Kinds.{In, PK}
 use borrow.Fn.PlainCycle.{Measures, is, falls, and}

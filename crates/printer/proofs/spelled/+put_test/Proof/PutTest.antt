@@ -86,10 +86,11 @@ module _ (t : ℕ) where
   -- return put(room, only, b")");
   put-requires-2 : Of lts.Need-put-requires-2
   put-requires-2 c κs =
-      let start = c .before .before .before .before .before .before .before .before .before .before .before .before .before .before .before .before in
-      let part-kind = c .before .before .before .before .before .before .before .before .before .before .before .before .before .part-kind in
-      let if2 = c .before .before .before .before .before .before .before .before .before .before .before .if2 in
-      let put = c .before .before .before .before .before .before .before .before .put in
+      let c8 = c .before .before .before .before .before .before .before .before in
+      let start = c8 .before .before .before .before .before .before .before .before in
+      let part-kind = c8 .before .before .before .before .before .part-kind in
+      let if2 = c8 .before .before .before .if2 in
+      let put = c8 .put in
       let put-test = c .before .before .before .before .put-test in
       not-closes (sym (part-kind .ensures .0) ∙ if2 .taken) (start .pre .1) (put .ensures) (put-test .ensures)
 
@@ -128,10 +129,11 @@ module _ (t : ℕ) where
   -- let between = put_joint(room, first, k);
   put-joint-requires : Of lts.Need-put-joint-requires
   put-joint-requires c κs =
-      let start = c .before .before .before .before .before .before .before .before .before .before .before .before .before .before .before in
-      let part-kind = c .before .before .before .before .before .before .before .before .before .before .before .before .part-kind in
-      let if1 = c .before .before .before .before .before .before .before .before .before .before .before .if1 in
-      let if2 = c .before .before .before .before .before .before .before .before .before .before .if2 in
+      let c8 = c .before .before .before .before .before .before .before .before in
+      let start = c8 .before .before .before .before .before .before .before in
+      let part-kind = c8 .before .before .before .before .part-kind in
+      let if1 = c8 .before .before .before .if1 in
+      let if2 = c8 .before .before .if2 in
       let put3 = c .before .before .before .before .before .before .before .put3 in
       let put-test2 = c .before .before .before .put-test2 in
       let no-event = unlike (part-kind .ensures .0) (if1 .left) in
