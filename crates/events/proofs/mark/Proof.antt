@@ -34,7 +34,6 @@ returns-2 c =
 returns-3 : tie.Need-returns-3
 returns-3 c =
     let start = c .before in
-    let if1 = c .if1 in
     let l = start .args .words .now in
     let e = start .args .event in
     rw (le-ltb e (64 * length l) (omega arith), and-false (start .args .present)) (sym (put-same e false (marks l) (marks-past l e (omega arith))))
