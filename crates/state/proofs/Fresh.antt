@@ -78,7 +78,7 @@ zero-rests {t} s l i h j g z k a b =
 
 module _ {t s : List ℕ} {i near : ℕ} (j : Judged t s i near) (at : ℕ) (a : i ≤ at) (b : at < near) where
   pub at-in : at < nodes t
-  at-in = let w = j .nearest .within in omega arith
+  at-in = omega arith
 
   -- the nodes up to `at` rest, and so do those of the all-zero subtree there
   pub on-past : (m : ℕ) → m ≡ sizeAt t at → at + m ≤ near → Hold (rests t s) i at → Hold (rests t s) i (at + m)

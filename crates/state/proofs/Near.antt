@@ -59,12 +59,12 @@ judging {t} {s} {i} {near} j k a b =
 -- what a node's parts being zero comes to
 pub body-below : {t : List ℕ} (s : List ℕ) {i : ℕ} → Body t i → belowZero t s i ≡ firstZero t s i
 body-below {t} s {i} b =
-    let e : sizeAt t i - 1 ≡ sizeAt t (i + 1) = (let z = b .sized in omega arith) in
+    let e : sizeAt t i - 1 ≡ sizeAt t (i + 1) = omega arith in
     ap (zeroNodes s (i + 1)) e
 
 pub pair-below : {t : List ℕ} (s : List ℕ) {i : ℕ} → Pair t i → belowZero t s i ≡ (firstZero t s i && secondZero t s i)
 pair-below {t} s {i} b =
-    let e : sizeAt t i - 1 ≡ sizeAt t (i + 1) + sizeAt t (secondAt t i) = (let z = b .sized in omega arith) in
+    let e : sizeAt t i - 1 ≡ sizeAt t (i + 1) + sizeAt t (secondAt t i) = omega arith in
     ap (zeroNodes s (i + 1)) e ∙ zero-split s (i + 1) (sizeAt t (i + 1)) (sizeAt t (secondAt t i))
 
 module _ {t s : List ℕ} {i near : ℕ} (j : Judging t s i near) where
@@ -81,13 +81,12 @@ module _ {t s : List ℕ} {i near : ℕ} (j : Judging t s i near) where
   -- the part from the second child on, up to the end of node i
   pub second-tells : Pair t i → Tells s near (secondAt t i) (i + sizeAt t i - secondAt t i)
   second-tells b =
-      let z = b .sized in
       let e = ends (j .behind .loaded) i (j .inside) in
       tells s (j .behind .nearest) (j .behind .room) (secondAt t i) _ (omega arith) (omega arith)
 
   pub second-is : Pair t i → zeroNodes s (secondAt t i) (i + sizeAt t i - secondAt t i) ≡ secondZero t s i
   second-is b =
-      let e : i + sizeAt t i - secondAt t i ≡ sizeAt t (secondAt t i) = (let z = b .sized in omega arith) in
+      let e : i + sizeAt t i - secondAt t i ≡ sizeAt t (secondAt t i) = omega arith in
       ap (zeroNodes s (secondAt t i)) e
 
   pub second-near : Pair t i → i + sizeAt t i ≤ near → secondZero t s i ≡ true

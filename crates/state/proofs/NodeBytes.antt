@@ -48,7 +48,6 @@ both-parts s i m n =
 pub node-bytes : (s : List ℕ) → ((i : ℕ) → byte s i < 256) → (i n : ℕ) → Within s i → (o : Own) → Owns s i o
     → bytesAt s i (1 + n) ≡ before o (bytesAt s (i + 1) n)
 node-bytes s small i n w o (e, f, g) =
-    let x = small (4 * i + 2) in
     let y = small (4 * i + 2 + 1) in
     let high : byte s (4 * i + 2) ≡ o .count / 256 = omega arith in
     let low : byte s (4 * i + 2 + 1) ≡ o .count % 256 = omega arith in

@@ -26,7 +26,6 @@ returns-2 c =
     let rests-at = c .before .rests-at in
     let if1 = c .if1 in
     let A = start .args in
-    let h = start .pre .0 .inside in
     first-here (rests (A .table .now) (A .state .now)) (A .i) (nodes (A .table .now)) (omega arith) (λ z. sym (rests-at .ensures) ∙ if1 .left)
 
 pub begun-low-spec : {M : Type 1} → statement M

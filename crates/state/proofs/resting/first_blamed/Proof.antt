@@ -1,5 +1,5 @@
 -- `near` has a byte other than zero or is the end, and `low` is the lowest blamed from there on.
-use Prim.Native.Nat.{_+_, _-_, _<_}
+use Prim.Native.Nat.{_+_, _-_}
 use mathlib.Core.Path.{_≡_}
 use native.Mathlib.Omega.{arith}
 use borrow.Author.Needs.{needs}
@@ -21,7 +21,6 @@ abbrev μ-loop : tie.MeasureT-loop
 loop-holds : tie.Need-loop-holds Inv-loop μ-loop
 loop-holds c =
     let start = c .before .before in
-    let e = start .pre .1 .0 in
     let A = start .args in
     let N = nodes (A .table .now) in (
       first-here (zeroNode (A .state .now)) (A .n) N (omega arith) (λ h. absurd (omega arith)),
@@ -51,9 +50,7 @@ begun-low-requires c κs =
     let loop = c .before .before .before .before .loop in
     let zero-from = c .before .before .zero-from in
     let fresh-low = c .before .fresh-low in
-    let if1 = c .if1 in
     let z = zero-from .ensures in
-    let w = loop .inv .0 .within in
     let e : zero-from .result - 1 + 1 ≡ zero-from .result = omega arith in
     let j = judged (start .args .state .now) (start .pre .0) (rw (start .pre .1 .0) at (start .pre .1 .1)) (loop .inv .0) z in
     (record { inside = omega (arith, z .within); behind = rw e j }, rw e (fresh-low .ensures))
@@ -62,12 +59,9 @@ begun-low-requires c κs =
 loop-again : tie.Need-loop-again Inv-loop μ-loop
 loop-again c =
     let start = c .before .before .before .before .before .before .before .before in
-    let loop = c .before .before .before .before .before .loop in
     let zero-from = c .before .before .before .zero-from in
-    let if1 = c .before .if1 in
     let begun-low = c .begun-low in
     let z = zero-from .ensures in
-    let w = loop .inv .0 .within in
     (first-here (zeroNode (start .args .state .now)) (zero-from .result - 1) _ (omega (arith, z .within)) (λ h. z .first (omega arith)), begun-low .ensures)
 
 -- low

@@ -42,11 +42,8 @@ unfolding children
 mul-result-2 c =
     let start = c .before .before .before .before .before .before in
     let if2 = c .before .before .if2 in
-    let second-at = c .second-at in
     let p = start .pre in
     let b = pair (p .0) _ (p .1 .1 .0) (rw (sym (p .1 .1 .1), if2 .left)) in
-    let e = second-at .ensures in
-    let h = b .second-in in
     search needs
 
 shared-slice-read-result-2 : tie.Need-shared-slice-read-result-2

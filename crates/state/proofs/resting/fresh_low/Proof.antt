@@ -64,7 +64,6 @@ returns c =
     let if2 = c .if2 in
     let j = start .pre .0 in
     let e = at-rests j (loop .at) (loop .inv .0) (search needs) _ (kind-at .ensures .0) in
-    let h = at-in j (loop .at) (loop .inv .0) (search needs) in
     record { from = loop .inv .0; within = omega arith; before = loop .inv .2; there = λ z. e ∙ sym (phase-rests .ensures) ∙ if2 .left }
 
 -- low
