@@ -10,8 +10,7 @@ use Rattle.junior.specs.Program.{kind}
 use Rattle.table.specs.Records.{kindAt}
 use Rattle.table.specs.Good.{last-kind}
 use Rattle.table.proofs.Parts.{by-kind as its-kind}
-use Rattle.table.proofs.Tree.{size-pos}
-use Rattle.table.proofs.Loaded.{kind-of, in-table, own-node}
+use Rattle.table.proofs.Loaded.{kind-of, own-node}
 use Rattle.state.specs.Kinds.{seq-kind, par-kind, await-kind, local-kind}
 use Rattle.state.specs.StateBytes.{head}
 use Rattle.steps.specs.Running.{Ready}
@@ -32,8 +31,6 @@ module _ {skip : ℕ} {W : Term → Type 0} {table : List ℕ} {i : ℕ} {state 
   -- a node's own record and its own bytes can be read
   pub record-in : 6 * i + 5 < length table
   record-in =
-      let t = o .3 .live .0 in
-      let l : 6 * (i + 0) + 5 < length table = in-table (o .3 .live .2 .placed) 0 (size-pos (prog t)) in
       omega arith
 
   pub kind-reads : 6 * i < length table

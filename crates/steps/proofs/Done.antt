@@ -79,8 +79,6 @@ pub room-after : {skip : ℕ} {table : List ℕ} {i : ℕ} {state words row tall
     → length (atoms (g .acts)) + pot (per 2) t′ ≤ pot (per 2) t
     → atoms-done tally′ + pot (per 2) t′ ≤ length row′
 room-after h g t′ e =
-    let r = h .room in
-    let n = g .wrote .done-is in
     let l = wrote-long (g .wrote) (omega arith) in
     omega arith
 

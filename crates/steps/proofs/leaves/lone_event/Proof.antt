@@ -22,7 +22,6 @@ add-part-kind : tie.Need-add-part-kind
 add-part-kind c =
     let start = c .before .before .before .before in
     let if1 = c .before .before .if1 in
-    let argument-at = c .argument-at in
     let can = start .pre (if1 .left) in
     search needs
 
@@ -30,7 +29,6 @@ part-kind-requires : tie.Need-part-kind-requires
 part-kind-requires c κs =
     let start = c .before .before .before .before in
     let if1 = c .before .before .if1 in
-    let argument-at = c .argument-at in
     let can = start .pre (if1 .left) in
     search needs
 

@@ -11,7 +11,6 @@ use Rattle.steps.proofs.Awaits.{await-tests, lone-is, lone-run, lone-me
 part-event-requires : tie.Need-part-event-requires
 part-event-requires c κs =
     let start = c .before .before .before .before .before .before in
-    let argument-at = c .before .before .before .argument-at in
     let (on, k) = lone-is (start .args .table .now .now) (start .args .i) _ (start .pre .1) in
     let can = await-tests on (start .pre .0) in
     search needs
