@@ -90,11 +90,13 @@ module _ (t : ℕ) where
   -- begin_turn(*state, 4 * i, left);
   begin-turn-requires : Of lts.Need-begin-turn-requires
   begin-turn-requires c κs =
-      let start = c .before .before .before .before .before .before .before .before .before .before .before .before .before .before .before .before .before in
-      let if1 = c .before .before .before .before .before .before .before .before .before .before .before .before .before .before .before .if1 in
-      let argument-at = c .before .before .before .before .before .before .before .before .before .before .before .before .before .argument-at in
-      let turns-of = c .before .before .before .before .before .before .before .before .before .before .turns-of in
-      let if2 = c .before .before .before .before .before .before .before .before .before .if2 in
+      let c8 = c .before .before .before .before .before .before .before .before in
+      let c16 = c8 .before .before .before .before .before .before .before .before in
+      let start = c16 .before in
+      let if1 = c8 .before .before .before .before .before .before .before .if1 in
+      let argument-at = c8 .before .before .before .before .before .argument-at in
+      let turns-of = c8 .before .before .turns-of in
+      let if2 = c8 .before .if2 in
       let kind-at = c .before .before .before .before .before .before .before .kind-at in
       let if3 = c .before .before .before .before .before .before .if3 in
       let run-repeat = c .before .before .run-repeat in
@@ -107,12 +109,14 @@ module _ (t : ℕ) where
   -- return f;
   returns-3 : Of lts.Need-returns-3
   returns-3 c =
-      let start = c .before .before .before .before .before .before .before .before .before .before .before .before .before .before .before .before .before .before in
-      let if1 = c .before .before .before .before .before .before .before .before .before .before .before .before .before .before .before .before .if1 in
-      let argument-at = c .before .before .before .before .before .before .before .before .before .before .before .before .before .before .argument-at in
-      let turns-of = c .before .before .before .before .before .before .before .before .before .before .before .turns-of in
-      let if2 = c .before .before .before .before .before .before .before .before .before .before .if2 in
-      let kind-at = c .before .before .before .before .before .before .before .before .kind-at in
+      let c8 = c .before .before .before .before .before .before .before .before in
+      let c16 = c8 .before .before .before .before .before .before .before .before in
+      let start = c16 .before .before in
+      let if1 = c16 .if1 in
+      let argument-at = c8 .before .before .before .before .before .before .argument-at in
+      let turns-of = c8 .before .before .before .turns-of in
+      let if2 = c8 .before .before .if2 in
+      let kind-at = c8 .kind-at in
       let if3 = c .before .before .before .before .before .before .before .if3 in
       let run-repeat = c .before .before .before .run-repeat in
       let if4 = c .before .before .if4 in
@@ -126,12 +130,14 @@ module _ (t : ℕ) where
   -- end_turns(*state, 4 * i);
   end-turns-requires : Of lts.Need-end-turns-requires
   end-turns-requires c κs =
-      let start = c .before .before .before .before .before .before .before .before .before .before .before .before .before .before .before .before .before .before in
-      let if1 = c .before .before .before .before .before .before .before .before .before .before .before .before .before .before .before .before .if1 in
-      let argument-at = c .before .before .before .before .before .before .before .before .before .before .before .before .before .before .argument-at in
-      let turns-of = c .before .before .before .before .before .before .before .before .before .before .before .turns-of in
-      let if2 = c .before .before .before .before .before .before .before .before .before .before .if2 in
-      let kind-at = c .before .before .before .before .before .before .before .before .kind-at in
+      let c8 = c .before .before .before .before .before .before .before .before in
+      let c16 = c8 .before .before .before .before .before .before .before .before in
+      let start = c16 .before .before in
+      let if1 = c16 .if1 in
+      let argument-at = c8 .before .before .before .before .before .before .argument-at in
+      let turns-of = c8 .before .before .before .turns-of in
+      let if2 = c8 .before .before .if2 in
+      let kind-at = c8 .kind-at in
       let if3 = c .before .before .before .before .before .before .before .if3 in
       let run-repeat = c .before .before .before .run-repeat in
       let A = start .args in
@@ -143,13 +149,15 @@ module _ (t : ℕ) where
   -- return TERM;
   returns-4 : Of lts.Need-returns-4
   returns-4 c =
-      let start = c .before .before .before .before .before .before .before .before .before .before .before .before .before .before .before .before .before .before .before in
-      let if1 = c .before .before .before .before .before .before .before .before .before .before .before .before .before .before .before .before .before .if1 in
-      let argument-at = c .before .before .before .before .before .before .before .before .before .before .before .before .before .before .before .argument-at in
-      let turns-of = c .before .before .before .before .before .before .before .before .before .before .before .before .turns-of in
-      let if2 = c .before .before .before .before .before .before .before .before .before .before .before .if2 in
-      let kind-at = c .before .before .before .before .before .before .before .before .before .kind-at in
-      let if3 = c .before .before .before .before .before .before .before .before .if3 in
+      let c8 = c .before .before .before .before .before .before .before .before in
+      let c16 = c8 .before .before .before .before .before .before .before .before in
+      let start = c16 .before .before .before in
+      let if1 = c16 .before .if1 in
+      let argument-at = c8 .before .before .before .before .before .before .before .argument-at in
+      let turns-of = c8 .before .before .before .before .turns-of in
+      let if2 = c8 .before .before .before .if2 in
+      let kind-at = c8 .before .kind-at in
+      let if3 = c8 .if3 in
       let run-repeat = c .before .before .before .before .run-repeat in
       let if4 = c .before .before .before .if4 in
       let if5 = c .before .before .if5 in
@@ -163,13 +171,15 @@ module _ (t : ℕ) where
   -- return run_times(table, i, state, numbers, atoms, left - 1);
   run-times-requires : Of lts.Need-run-times-requires
   run-times-requires c κs =
-      let start = c .before .before .before .before .before .before .before .before .before .before .before .before .before .before .before .before .before .before .before .before in
-      let if1 = c .before .before .before .before .before .before .before .before .before .before .before .before .before .before .before .before .before .before .if1 in
-      let argument-at = c .before .before .before .before .before .before .before .before .before .before .before .before .before .before .before .before .argument-at in
-      let turns-of = c .before .before .before .before .before .before .before .before .before .before .before .before .before .turns-of in
-      let if2 = c .before .before .before .before .before .before .before .before .before .before .before .before .if2 in
-      let kind-at = c .before .before .before .before .before .before .before .before .before .before .kind-at in
-      let if3 = c .before .before .before .before .before .before .before .before .before .if3 in
+      let c8 = c .before .before .before .before .before .before .before .before in
+      let c16 = c8 .before .before .before .before .before .before .before .before in
+      let start = c16 .before .before .before .before in
+      let if1 = c16 .before .before .if1 in
+      let argument-at = c16 .argument-at in
+      let turns-of = c8 .before .before .before .before .before .turns-of in
+      let if2 = c8 .before .before .before .before .if2 in
+      let kind-at = c8 .before .before .kind-at in
+      let if3 = c8 .before .if3 in
       let run-repeat = c .before .before .before .before .before .run-repeat in
       let if4 = c .before .before .before .before .if4 in
       let if5 = c .before .before .before .if5 in
@@ -181,13 +191,15 @@ module _ (t : ℕ) where
 
   returns-5 : Of lts.Need-returns-5
   returns-5 c =
-      let start = c .before .before .before .before .before .before .before .before .before .before .before .before .before .before .before .before .before .before .before .before .before in
-      let if1 = c .before .before .before .before .before .before .before .before .before .before .before .before .before .before .before .before .before .before .before .if1 in
-      let argument-at = c .before .before .before .before .before .before .before .before .before .before .before .before .before .before .before .before .before .argument-at in
-      let turns-of = c .before .before .before .before .before .before .before .before .before .before .before .before .before .before .turns-of in
-      let if2 = c .before .before .before .before .before .before .before .before .before .before .before .before .before .if2 in
-      let kind-at = c .before .before .before .before .before .before .before .before .before .before .before .kind-at in
-      let if3 = c .before .before .before .before .before .before .before .before .before .before .if3 in
+      let c8 = c .before .before .before .before .before .before .before .before in
+      let c16 = c8 .before .before .before .before .before .before .before .before in
+      let start = c16 .before .before .before .before .before in
+      let if1 = c16 .before .before .before .if1 in
+      let argument-at = c16 .before .argument-at in
+      let turns-of = c8 .before .before .before .before .before .before .turns-of in
+      let if2 = c8 .before .before .before .before .before .if2 in
+      let kind-at = c8 .before .before .before .kind-at in
+      let if3 = c8 .before .before .if3 in
       let run-repeat = c .before .before .before .before .before .before .run-repeat in
       let if4 = c .before .before .before .before .before .if4 in
       let if5 = c .before .before .before .before .if5 in

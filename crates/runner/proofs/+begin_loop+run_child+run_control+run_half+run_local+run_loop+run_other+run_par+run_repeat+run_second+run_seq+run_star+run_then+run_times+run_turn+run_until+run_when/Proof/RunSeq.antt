@@ -90,11 +90,12 @@ module _ (t : ℕ) where
   -- let g = run_seq(table, second, state, numbers, atoms);
   run-seq-requires : Of lts.Need-run-seq-requires
   run-seq-requires c κs =
-      let start = c .before .before .before .before .before .before .before .before .before .before .before .before .before .before .before .before in
-      let if1 = c .before .before .before .before .before .before .before .before .before .before .before .before .before .before .if1 in
-      let if2 = c .before .before .before .before .before .before .before .before .before .before .before .before .before .if2 in
-      let run-child = c .before .before .before .before .before .before .before .before .before .run-child in
-      let if3 = c .before .before .before .before .before .before .before .before .if3 in
+      let c8 = c .before .before .before .before .before .before .before .before in
+      let start = c8 .before .before .before .before .before .before .before .before in
+      let if1 = c8 .before .before .before .before .before .before .if1 in
+      let if2 = c8 .before .before .before .before .before .if2 in
+      let run-child = c8 .before .run-child in
+      let if3 = c8 .if3 in
       let second-at = c .before .before .before .before .before .before .second-at in
       let kind-at = c .before .before .before .before .kind-at in
       let if4 = c .before .before .before .if4 in
@@ -105,11 +106,13 @@ module _ (t : ℕ) where
   -- state[4 * i] = phase_after(g, SECOND);
   phase-after-requires : Of lts.Need-phase-after-requires
   phase-after-requires c κs =
-      let start = c .before .before .before .before .before .before .before .before .before .before .before .before .before .before .before .before .before in
-      let if1 = c .before .before .before .before .before .before .before .before .before .before .before .before .before .before .before .if1 in
-      let if2 = c .before .before .before .before .before .before .before .before .before .before .before .before .before .before .if2 in
-      let run-child = c .before .before .before .before .before .before .before .before .before .before .run-child in
-      let if3 = c .before .before .before .before .before .before .before .before .before .if3 in
+      let c8 = c .before .before .before .before .before .before .before .before in
+      let c16 = c8 .before .before .before .before .before .before .before .before in
+      let start = c16 .before in
+      let if1 = c8 .before .before .before .before .before .before .before .if1 in
+      let if2 = c8 .before .before .before .before .before .before .if2 in
+      let run-child = c8 .before .before .run-child in
+      let if3 = c8 .before .if3 in
       let second-at = c .before .before .before .before .before .before .before .second-at in
       let kind-at = c .before .before .before .before .before .kind-at in
       let if4 = c .before .before .before .before .if4 in
@@ -120,17 +123,20 @@ module _ (t : ℕ) where
 
   mul-state-2 : Of lts.Need-mul-state-2
   mul-state-2 c =
-      let start = c .before .before .before .before .before .before .before .before .before .before .before .before .before .before .before .before .before .before in
+      let c8 = c .before .before .before .before .before .before .before .before in
+      let start = c8 .before .before .before .before .before .before .before .before .before .before in
       omega (arith, few-nodes (start .pre .1))
 
   index-1-state-2 : Of lts.Need-index-1-state-2
   index-1-state-2 c =
-      let start = c .before .before .before .before .before .before .before .before .before .before .before .before .before .before .before .before .before .before in
-      let if1 = c .before .before .before .before .before .before .before .before .before .before .before .before .before .before .before .before .if1 in
-      let if2 = c .before .before .before .before .before .before .before .before .before .before .before .before .before .before .before .if2 in
-      let run-child = c .before .before .before .before .before .before .before .before .before .before .before .run-child in
-      let if3 = c .before .before .before .before .before .before .before .before .before .before .if3 in
-      let second-at = c .before .before .before .before .before .before .before .before .second-at in
+      let c8 = c .before .before .before .before .before .before .before .before in
+      let c16 = c8 .before .before .before .before .before .before .before .before in
+      let start = c16 .before .before in
+      let if1 = c16 .if1 in
+      let if2 = c8 .before .before .before .before .before .before .before .if2 in
+      let run-child = c8 .before .before .before .run-child in
+      let if3 = c8 .before .before .if3 in
+      let second-at = c8 .second-at in
       let kind-at = c .before .before .before .before .before .before .kind-at in
       let if4 = c .before .before .before .before .before .if4 in
       let run-seq = c .before .run-seq in
@@ -141,11 +147,12 @@ module _ (t : ℕ) where
   -- return g;
   returns-4 : Of lts.Need-returns-4
   returns-4 c =
-      let if1 = c .before .before .before .before .before .before .before .before .before .before .before .before .before .before .before .before .if1 in
-      let if2 = c .before .before .before .before .before .before .before .before .before .before .before .before .before .before .before .if2 in
-      let run-child = c .before .before .before .before .before .before .before .before .before .before .before .run-child in
-      let if3 = c .before .before .before .before .before .before .before .before .before .before .if3 in
-      let second-at = c .before .before .before .before .before .before .before .before .second-at in
+      let c8 = c .before .before .before .before .before .before .before .before in
+      let if1 = c8 .before .before .before .before .before .before .before .before .if1 in
+      let if2 = c8 .before .before .before .before .before .before .before .if2 in
+      let run-child = c8 .before .before .before .run-child in
+      let if3 = c8 .before .before .if3 in
+      let second-at = c8 .second-at in
       let kind-at = c .before .before .before .before .before .before .kind-at in
       let if4 = c .before .before .before .before .before .if4 in
       let run-seq = c .before .run-seq in
@@ -157,11 +164,12 @@ module _ (t : ℕ) where
   -- let g = run_child(table, second, state, numbers, atoms);
   run-child-requires-2 : Of lts.Need-run-child-requires-2
   run-child-requires-2 c κs =
-      let start = c .before .before .before .before .before .before .before .before .before .before .before .before .before .before .before .before in
-      let if1 = c .before .before .before .before .before .before .before .before .before .before .before .before .before .before .if1 in
-      let if2 = c .before .before .before .before .before .before .before .before .before .before .before .before .before .if2 in
-      let run-child = c .before .before .before .before .before .before .before .before .before .run-child in
-      let if3 = c .before .before .before .before .before .before .before .before .if3 in
+      let c8 = c .before .before .before .before .before .before .before .before in
+      let start = c8 .before .before .before .before .before .before .before .before in
+      let if1 = c8 .before .before .before .before .before .before .if1 in
+      let if2 = c8 .before .before .before .before .before .if2 in
+      let run-child = c8 .before .run-child in
+      let if3 = c8 .if3 in
       let second-at = c .before .before .before .before .before .before .second-at in
       let over = seq-over (if1 .left) (if2 .left) (run-child .ensures .0) (start .pre .1) (if3 .left) in
       let (l, s) = goes-into (second-at .ensures) over in
@@ -170,11 +178,13 @@ module _ (t : ℕ) where
   -- state[4 * i] = phase_after(g, SECOND);
   phase-after-requires-2 : Of lts.Need-phase-after-requires-2
   phase-after-requires-2 c κs =
-      let start = c .before .before .before .before .before .before .before .before .before .before .before .before .before .before .before .before .before in
-      let if1 = c .before .before .before .before .before .before .before .before .before .before .before .before .before .before .before .if1 in
-      let if2 = c .before .before .before .before .before .before .before .before .before .before .before .before .before .before .if2 in
-      let run-child = c .before .before .before .before .before .before .before .before .before .before .run-child in
-      let if3 = c .before .before .before .before .before .before .before .before .before .if3 in
+      let c8 = c .before .before .before .before .before .before .before .before in
+      let c16 = c8 .before .before .before .before .before .before .before .before in
+      let start = c16 .before in
+      let if1 = c8 .before .before .before .before .before .before .before .if1 in
+      let if2 = c8 .before .before .before .before .before .before .if2 in
+      let run-child = c8 .before .before .run-child in
+      let if3 = c8 .before .if3 in
       let second-at = c .before .before .before .before .before .before .before .second-at in
       let run-child2 = c .run-child2 in
       let over = seq-over (if1 .left) (if2 .left) (run-child .ensures .0) (start .pre .1) (if3 .left) in
@@ -182,17 +192,20 @@ module _ (t : ℕ) where
 
   mul-state-3 : Of lts.Need-mul-state-3
   mul-state-3 c =
-      let start = c .before .before .before .before .before .before .before .before .before .before .before .before .before .before .before .before .before .before in
+      let c8 = c .before .before .before .before .before .before .before .before in
+      let start = c8 .before .before .before .before .before .before .before .before .before .before in
       omega (arith, few-nodes (start .pre .1))
 
   index-1-state-3 : Of lts.Need-index-1-state-3
   index-1-state-3 c =
-      let start = c .before .before .before .before .before .before .before .before .before .before .before .before .before .before .before .before .before .before in
-      let if1 = c .before .before .before .before .before .before .before .before .before .before .before .before .before .before .before .before .if1 in
-      let if2 = c .before .before .before .before .before .before .before .before .before .before .before .before .before .before .before .if2 in
-      let run-child = c .before .before .before .before .before .before .before .before .before .before .before .run-child in
-      let if3 = c .before .before .before .before .before .before .before .before .before .before .if3 in
-      let second-at = c .before .before .before .before .before .before .before .before .second-at in
+      let c8 = c .before .before .before .before .before .before .before .before in
+      let c16 = c8 .before .before .before .before .before .before .before .before in
+      let start = c16 .before .before in
+      let if1 = c16 .if1 in
+      let if2 = c8 .before .before .before .before .before .before .before .if2 in
+      let run-child = c8 .before .before .before .run-child in
+      let if3 = c8 .before .before .if3 in
+      let second-at = c8 .second-at in
       let run-child2 = c .before .run-child2 in
       let over = seq-over (if1 .left) (if2 .left) (run-child .ensures .0) (start .pre .1) (if3 .left) in
       second-writes-in (second-at .ensures) (run-child2 .ensures .0) over
@@ -200,11 +213,12 @@ module _ (t : ℕ) where
   -- fn run_seq
   returns-5 : Of lts.Need-returns-5
   returns-5 c =
-      let if1 = c .before .before .before .before .before .before .before .before .before .before .before .before .before .before .before .before .if1 in
-      let if2 = c .before .before .before .before .before .before .before .before .before .before .before .before .before .before .before .if2 in
-      let run-child = c .before .before .before .before .before .before .before .before .before .before .before .run-child in
-      let if3 = c .before .before .before .before .before .before .before .before .before .before .if3 in
-      let second-at = c .before .before .before .before .before .before .before .before .second-at in
+      let c8 = c .before .before .before .before .before .before .before .before in
+      let if1 = c8 .before .before .before .before .before .before .before .before .if1 in
+      let if2 = c8 .before .before .before .before .before .before .before .if2 in
+      let run-child = c8 .before .before .before .run-child in
+      let if3 = c8 .before .before .if3 in
+      let second-at = c8 .second-at in
       let run-child2 = c .before .run-child2 in
       let phase-after2 = c .phase-after2 in
       let then = second-done (second-at .ensures) (run-child2 .ensures .0) (phase-after2 .ensures) in
