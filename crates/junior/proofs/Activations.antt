@@ -64,7 +64,7 @@ module _ (around : ℕ → ℕ → Type 0) where
       go (did-generate s ∷ l) b = go l b
       go (decided P c x E ∷ l) b = inr (go l b)
       go (waits P c E ∷ l) b = go l b
-      go (scope-answered m α x ∷ l) b = let (lo, hi) = b .0 in ((λ e. o (omega arith) (omega arith)), go l (b .1))
+      go (scope-answered m α x ∷ l) b = ((λ e. o (omega arith) (omega arith)), go l (b .1))
 
   -- no Local at the nodes from i up to j answers in k
   abbrev Hushed : ℕ → ℕ → List Act → Type 0

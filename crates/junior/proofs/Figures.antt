@@ -5,7 +5,7 @@ use mathlib.Core.Bool.{Bool, true, false, false≢true}
 use mathlib.Core.Path.{_≡_, refl, _∙_, subst}
 use mathlib.Core.List.{List, [], _∷_, _++_}
 use native.Mathlib.Omega.{arith}
-use native.Mathlib.Nat.{le-trans, mul-le-mul-right, zero-mul, suc-mul}
+use native.Mathlib.Nat.{le-trans, mul-le-mul-right, zero-mul}
 use lib.ListN.{length, length-append}
 use Rattle.events.specs.Events.{Events, none, put}
 use Rattle.junior.specs.declared.Flag.{Flag}
@@ -62,7 +62,7 @@ rest-joined TERM TERM x y = omega arith
 
 -- one run more
 one-more : (m n x f : ℕ) → m < n → x ≤ f → x + m * f ≤ n * f
-one-more m n x f h k = let a : suc m * f ≤ n * f = mul-le-mul-right f h in let b = suc-mul m f in omega arith
+one-more m n x f h k = let a : suc m * f ≤ n * f = mul-le-mul-right f h in omega arith
 
 pub due-times : (n j : ℕ) (h b : Bool) → j < n → due j h b < times n b
 due-times n j true true k = omega arith

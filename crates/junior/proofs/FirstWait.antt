@@ -57,7 +57,7 @@ wait-from m n [] h a = tt
 wait-from m n (did-atom x ∷ l) h a = wait-from m n l h a
 wait-from m n (did-generate s ∷ l) h a = wait-from m n l h a
 wait-from m n (decided P c b E ∷ l) h a = wait-from m n l h a
-wait-from m n (waits P c E ∷ l) h a = let o = a .0 in (omega arith, wait-from m n l h (a .1))
+wait-from m n (waits P c E ∷ l) h a = (omega arith, wait-from m n l h (a .1))
 wait-from m n (scope-answered x α b ∷ l) h a = wait-from m n l h a
 
 -- none waits, or this one is the first

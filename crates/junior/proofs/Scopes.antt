@@ -61,7 +61,7 @@ widen {i} {i′} {j} {j′} {l} h b = record { inside = go l (b .inside) }
     go (did-generate s ∷ l) b = go l b
     go (decided P c x E ∷ l) b = go l b
     go (waits P c E ∷ l) b = go l b
-    go (scope-answered n α x ∷ l) b = let (lo, hi) = b .0 in ((omega arith, omega arith), go l (b .1))
+    go (scope-answered n α x ∷ l) b = ((omega arith, omega arith), go l (b .1))
 
 chain : {i j : ℕ} {l m : List Act} → Between i j l → Between i j m → Between i j (l ++ m)
 unfolding Inside
@@ -88,7 +88,6 @@ elsewhere {i} {j} {l} a k n o = go l (a .inside)
     go (decided P c x E ∷ l) a = go l a
     go (waits P c E ∷ l) a = go l a
     go (scope-answered m α x ∷ l) a =
-        let (lo, hi) = a .0 in
         let apart : (n ≢ m) = λ e. o (omega arith) (omega arith) in
         status-elsewhere α m n x (last-answers (l ++ k)) apart ∙ go l (a .1)
 

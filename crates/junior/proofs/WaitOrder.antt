@@ -44,7 +44,6 @@ rise-wider : (i i′ j j′ : ℕ) (l : List ℕ) → i ≤ i′ → j′ ≤ j 
 unfolding Rise
 rise-wider i i′ j j′ [] h k a = tt
 rise-wider i i′ j j′ (n ∷ l) h k a =
-    let (lo, hi) = a .0 in
     ((omega arith, omega arith), rise-wider (suc n) (suc n) j j′ l (omega arith) k (a .1))
 
 rise-++ : (i j k : ℕ) (l m : List ℕ) → i ≤ j → j ≤ k → Rise i j l → Rise j k m → Rise i k (l ++ m)
