@@ -80,7 +80,7 @@ module _ {p : Program} {w : List ℕ} (d : Says (whole p) w) (room : List ℕ) w
   refuses f c e n = rw (← e) (Reads.refused p d f (rw e n))
 
   short : length room < needed p → Reads w room room answered.NoRoom
-  short l = Reads.no-room p d (λ f. let h = f .0 in omega arith)
+  short l = Reads.no-room p d (λ f. omega arith)
 
   reads : Fits (needed p) room → numberOf (verdictOf (tableOf p)) ≡ 0 → Reads w room (beginning (tableOf p) room) (answered.Read (needed p))
   reads f e = Reads.read p d f e

@@ -26,12 +26,12 @@ module _ {text : List ℕ} {s : Scanned} (o : Tells text s) where
     pub too-long : 32778 < long → Reads text room room answered.NoRoom
     too-long h =
         let (p, d, a, b, c) = subst (Tells text) e o in
-        no-room p d (λ f. let g = f .1 in omega arith)
+        no-room p d (λ f. omega arith)
 
     pub room-short : long ≤ 32778 → length room < long → Reads text room room answered.NoRoom
     room-short g h =
         let (p, d, a, b, c) = subst (Tells text) e o in
-        no-room p d (λ f. let i = f .0 in omega arith)
+        no-room p d (λ f. omega arith)
 
     pub counted : long ≤ 32778 → Buildable text n m v long
     counted h =
