@@ -43,10 +43,6 @@ root-answer t n e l z =
 
 pub all-good : {t : List ℕ} {n m v : ℕ} → SizedWhole t n m v → NodesGood t → AllGood t
 all-good P g =
-    let F = P .framed in
-    let e = F .long in
-    let n = F .n-is in
-    let h = F .n-most in
     record { long = omega arith; few = omega arith; configurations-good = P .configurations-good; good = g }
 
 -- a figure and what stands for it are on the same side of a limit below the cap, and the same if within it
@@ -70,7 +66,7 @@ accepted false b c e f g = refl
 
 module _ {t : List ℕ} {n m v : ℕ} (P : SizedWhole t n m v) (g : AllGood t) where
   l : 0 < nodes t
-  l = let e = P .framed .n-is in let h = P .framed .n-least in omega arith
+  l = omega arith
 
   good-answer : nodesVerdict t ≡ programVerdict (treeOf t)
   unfolding nodesVerdict

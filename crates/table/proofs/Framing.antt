@@ -90,7 +90,6 @@ frame-counts t n m v e = go (lengthGood t) refl (countsGood t) refl (distancesGo
   where
     go : (l : Bool) → lengthGood t ≡ l → (c : Bool) → countsGood t ≡ c → (d : Bool) → distancesGood t ≡ d → Framed t n m v
     go true f true g true h =
-        let same = rw (f, g, h) at e in
         let n-is : nodes t ≡ n = cc in
         let m-is : configurations t ≡ m = cc in
         let v-is : events t ≡ v = cc in

@@ -63,7 +63,6 @@ module _ (written : ℕ → ℕ) (n i count : ℕ) where
 pub within-of : {t : List ℕ} {n m v : ℕ} → SizedWhole t n m v → (i : ℕ) → i < n → Within t n i
 within-of P i l =
     let F = P .framed in
-    let e = F .long in
     record { long = omega arith; n-is = F .n-is; n-most = F .n-most; whole = P .whole; here = l }
 
 pub as-kind : {t : List ℕ} {i r : ℕ} → r ≡ kindAt t i → (k : ℕ) → r ≡ k → leb k last-kind ≡ true → {limit count : ℕ}

@@ -53,7 +53,6 @@ event-early s = record { most = omega arith; true-is = refl; false-is = refl }
 pub not-early : (e : ℕ) (d : Config) → Earliness e d → Earliness (2 - e) (Not d)
 unfolding early-true early-false
 not-early e d h =
-    let m = h .most in
     record {
       most = omega arith;
       true-is = h .false-is ∙ alike e 1 1 (2 - e) (λ l. omega arith) (λ l. omega arith);
@@ -63,7 +62,6 @@ not-early e d h =
 pub and-early : (e f : ℕ) (c d : Config) → Earliness e c → Earliness f d → Earliness (min e f) (And c d)
 unfolding early-true early-false
 and-early e f c d h k =
-    let m = h .most in
     record {
       most = omega arith;
       true-is =
@@ -75,8 +73,6 @@ and-early e f c d h k =
 pub or-early : (e f : ℕ) (c d : Config) → Earliness e c → Earliness f d → Earliness (max e f) (Or c d)
 unfolding early-true early-false
 or-early e f c d h k =
-    let m = h .most in
-    let n = k .most in
     record {
       most = omega arith;
       true-is =
@@ -173,11 +169,10 @@ module _ {t row : List ℕ} {c j : ℕ} (B : Behind t row c j) where
 -- the loop over the configurations, from the last to the first
 module _ {t : List ℕ} {n m : ℕ} (f : SomeFramed t n m) (row : List ℕ) (room : m ≤ length row) where
   pub none-known : KnownFrom t row m
-  none-known k l h = let e = f .1 .m-is in absurd (omega arith)
+  none-known k l h = absurd (omega arith)
 
   pub behind : {j : ℕ} → 0 < j → j ≤ m → KnownFrom t row j → Behind t row (6 * n + 4 * (j - 1)) (j - 1)
   behind {j} l h known =
-      let e = f .1 .m-is in
       let one : j - 1 + 1 ≡ j = omega arith in
       record { begins = framed-begins (f .1) (omega arith); good = f .2; room = omega arith; known = rw one known }
 

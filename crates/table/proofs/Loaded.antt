@@ -27,8 +27,6 @@ module _ {t : List ℕ} (l : Loaded t) where
   pub limit-few : (k : ℕ) → argumentLimit t k ≤ 65536
   unfolding argumentLimit
   limit-few k =
-      let v = l .framed .v-most in
-      let m = l .framed .m-most in
       most-at 65536 (argumentLimits (events t) (configurations t)) 0 (omega arith) (omega arith) k
 
   pub node-placed : (i : ℕ) → i < nodes t → Placed t i (treeAt t i)

@@ -64,7 +64,6 @@ first-lowest so none (x ∷ l) = go (so x) refl (first-lowest so none l)
         → Lowest (λ k. so (getD (x ∷ l) k none)) (suc (length l)) (cond b 0 (suc (firstSuch so l)))
     go true e w = record { within = omega arith; before = λ k h. absurd (omega arith); there = λ h. e }
     go false e w =
-        let a = w .within in
         record { within = omega arith; before = before e (w .before); there = λ h. w .there (omega arith) }
       where
         before : so x ≡ false → ((k : ℕ) → k < firstSuch so l → so (getD l k none) ≡ false) → (k : ℕ)

@@ -75,9 +75,6 @@ same-test a b x y f g = go (ltb a b) refl
 
 pub framed-begins : {t : List ℕ} {n m v j : ℕ} → Framed t n m v → j < m → Begins t (6 * n + 4 * j) j
 framed-begins f l =
-    let n = f .n-is in
-    let m = f .m-is in
-    let e = f .long in
     record { at = omega arith; among = omega arith; long = omega arith }
 
 -- where the parts of configuration j begin
@@ -91,7 +88,6 @@ module _ (t : List ℕ) (c j : ℕ) (e : c ≡ configurationAt t j) where
 module _ (t : List ℕ) (c j : ℕ) (b : Begins t c j) where
   within : (k d : ℕ) → d ≡ configurationAt t k → ltb k (configurations t) ≡ ltb d (length t - 10)
   within k d e =
-      let l = b .long in
       same-test k (configurations t) d (length t - 10) (λ h. omega arith) (λ h. omega arith)
 
   laid-at : (p : ℕ) → laidOut (sizeOf t) (configurations t) j p ≡ laidAt t c p
@@ -100,8 +96,6 @@ module _ (t : List ℕ) (c j : ℕ) (b : Begins t c j) where
   laid-at (suc zero) =
       let f = first-at t c j (b .at) in
       let one = within _ _ f in
-      let own = ap (partSize t) (b .at) in
-      let first = ap (partSize t) f in
       cc
   laid-at (suc (suc more)) =
       let f = first-at t c j (b .at) in

@@ -106,25 +106,17 @@ module _ {t : List ℕ} {n m v : ℕ} (f : Framed t n m v) where
   pub reached-first : Reached t (6 * n) 1 0 []
   unfolding numbered
   reached-first =
-      let a = f .n-is in
       record { at = omega arith; within = omega arith; number = refl; short = omega arith; passed = none-passed t }
 
   pub reached-last : {c way : ℕ} → SomeReached t c way → 6 * n + 4 * m ≤ c → ConfigurationsGood t
   reached-last (j, w, r) l =
-      let a = f .n-is in
-      let b = f .m-is in
-      let d = r .at in
-      let e = r .within in
       let last : j ≡ configurations t = omega arith in
       all-passed t w (rw last at (r .passed))
 
   module _ {c way j : ℕ} {w : Way} (r : Reached t c way j w) (l : c < 6 * n + 4 * m) where
     pub begins : Begins t c j
     begins =
-        let a = f .n-is in
-        let b = f .m-is in
         let d = r .at in
-        let e = f .long in
         record { at = d; among = omega arith; long = omega arith }
 
     -- the record has p parts
@@ -132,7 +124,6 @@ module _ {t : List ℕ} {n m v : ℕ} (f : Framed t n m v) where
         → Reached t (c + 4) u (j + 1) (onward p w)
     reach p u g e h s =
         let steps = numbered-short 16 w (rw (r .number) at (r .short)) in
-        let a = r .at in
         let b = begins .among in
         record {
           at = omega arith;
@@ -148,8 +139,6 @@ module _ {t : List ℕ} {n m v : ℕ} (f : Framed t n m v) where
     reach-lone u g h =
         let k = both {a = eqb (partKind t c) 0} g in
         let lone : parts (kindOf t j) ≡ 0 = ap parts (rw (r .at) at (eqb-true (partKind t c) 0 (k .0))) in
-        let a = r .number in
-        let b = r .short in
         reach 0 u (k .1) lone h (omega (arith, outward-less w))
 
     pub reach-outermost : (eqb (partKind t c) 0 && goodButHeight t j) ≡ true → way ≤ 1
@@ -163,8 +152,8 @@ module _ {t : List ℕ} {n m v : ℕ} (f : Framed t n m v) where
       where
         number : (p : ℕ) → (p ≡ 0 → ⊥) → p ≤ 2 → 2 * way + (p - 1) ≡ numbered (onward p w)
         number zero h k = absurd (h refl)
-        number (suc zero) h k = let a = r .number in omega arith
-        number (suc (suc zero)) h k = let a = r .number in omega arith
+        number (suc zero) h k = omega arith
+        number (suc (suc zero)) h k = omega arith
         number (suc (suc (suc p))) h k = absurd (omega arith)
 
         go : (g : Bool) → goodButHeight t j ≡ g → Reached t (c + 4) (2 * way + (p - 1)) (j + 1) (onward p w)

@@ -77,9 +77,6 @@ module _ {t w : List ℕ} {n i k limit count top : ℕ} (R : ToPlace t w n i top
   small-here : (x : Weight) (j : ℕ) → i ≤ j → j < nodes t → Weighs x (treeAt t j) → Small x
   small-here x j h l y =
       let G = spells-from t (R .configurations-good) i good-from j h l in
-      let e = G .ends in
-      let m = R .within .n-most in
-      let q = n-is in
       record {
         generations-small = omega (arith, y .generations-are .small);
         atoms-small = omega (arith, y .atoms-are .small);
@@ -157,8 +154,6 @@ module _ {t w : List ℕ} {n i k limit count top : ℕ} (R : ToPlace t w n i top
       go (two-parts m m′ s v) =
           let a = first-taken (λ e. omega arith) in
           let b = second-taken c in
-          let u = two-wait c in
-          let o = R .room in
           let g : secondAt t i + sizeAt t (secondAt t i) ≡ i + sizeAt t i = omega arith in
           record {
             good = good;
@@ -181,7 +176,6 @@ module _ {t w : List ℕ} {n i k limit count top : ℕ} (R : ToPlace t w n i top
       go (one-part m s v) =
           let a = first-taken (λ e. omega arith) in
           let y = kept w w′ (eqb k 5 && eqb (weightAt w (top - 1) .stops) 0) i (R .long-row) d in
-          let u = a .some in
           let o = R .room in
           let e : top - 1 + 1 ≡ top = omega arith in
           let g : i + 1 + sizeAt t (i + 1) ≡ i + sizeAt t i = omega arith in

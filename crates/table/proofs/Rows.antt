@@ -81,7 +81,7 @@ row-more t k i l r = (l, r)
 none-left : (t : List ℕ) (k e : ℕ) → nodes t ≤ e → Row t k e → k ≡ 0
 unfolding Row
 none-left t zero e l r = refl
-none-left t (suc k) e l r = let h = r .0 in absurd (omega arith)
+none-left t (suc k) e l r = absurd (omega arith)
 
 -- from a node on there are at most as many as the whole tree has levels
 pub row-within : {t : List ℕ} {c : ℕ} {p : Program} → Tree t 0 c p → size p ≡ nodes t → (k i : ℕ) → i < nodes t

@@ -39,13 +39,9 @@ both-found t h c j p e (two i m s) low below =
     let k = both {a = heightAtMost t h (j + 1)} low in
     let f = below (c + 4) (j + 1) (first-at t c j e) i (k .0) in
     let g = below (secondPart t c) (j + 1 + sizeOf t (j + 1)) (second-at t c j e) m (k .1) in
-    let own = ap (partSize t) e in
     let one = ap (partSize t) (first-at t c j e) in
     let two = ap (partSize t) (second-at t c j e) in
     let all : partSize t c ≡ 1 + partSize t (c + 4) + partSize t (secondPart t c) = cc in
-    let a = f .weighs in
-    let b = g .weighs in
-    let z = g .ends in
     record { first = f .configured; second = g .configured; size = omega arith; ends = omega arith }
 
 found-at : (t : List ℕ) (h c j k : ℕ) → c ≡ configurationAt t j → j < configurations t → partKind t c ≡ k → Kind k
@@ -60,8 +56,6 @@ found-at t h c j k e l d negation (one i s) low below =
     let f = first-at t c j e in
     let first = below (c + 4) (j + 1) f i low in
     let size : partSize t c ≡ 1 + partSize t (c + 4) = ap (partSize t) e ∙ (s ∙ ap (λ (x : ℕ). 1 + partSize t x) (sym f)) in
-    let a = first .weighs in
-    let b = first .ends in
     record { configured = rw d (d, omega arith, first .configured); weighs = rw d (omega arith); ends = omega arith }
 found-at t h c j k e l d conjunction parts low below =
     let o = both-found t h c j 0 e parts low below in
@@ -90,11 +84,6 @@ module _ (t : List ℕ) (good : ConfigurationsGood t) where
   pub configuration-there : {n m v : ℕ} → Framed t n m v → (j : ℕ) → j < configurations t → ConfigurationAt t (configurationAt t j)
   configuration-there f j l =
       let g = found 16 (configurationAt t j) j refl l (own-good j l .1) in
-      let w = g .weighs in
-      let e = g .ends in
-      let n = f .n-is in
-      let m = f .m-is in
-      let a = f .long in
       (_, g .configured, omega arith)
 
 -- what is spelled at byte c is what is found there, with as many levels as records and any more

@@ -26,11 +26,8 @@ pub record Least (t : List ℕ) (n i e : ℕ) : Type 0 where
 least-more : {t : List ℕ} {n i e : ℕ} → Least t n i e → 0 < i → (b : Bool) → endlessLoop (treeAt t (i - 1)) ≡ b
     → Least t n (i - 1) (cond b (i - 1) e)
 least-more s h true e =
-    let l = s .from-i in
-    let m = s .most in
     record { from-i = omega arith; most = omega arith; before = λ k f g. absurd (omega arith); there = λ f. e }
 least-more {i = i} s h false e =
-    let l = s .from-i in
     record {
       from-i = omega arith;
       most = s .most;
@@ -71,7 +68,6 @@ module _ {t w : List ℕ} {n i top : ℕ} (s : Swept t w n i top) (h : 0 < i) wh
 
   pub ready : {m v : ℕ} → SizedWhole t n m v → ToPlace t w n (i - 1) top
   ready P =
-      let l = s .within in
       record {
         within = within-of P (i - 1) (omega arith);
         configurations-good = P .configurations-good;
@@ -83,7 +79,6 @@ module _ {t w : List ℕ} {n i top : ℕ} (s : Swept t w n i top) (h : 0 < i) wh
 
   pub swept-more : {w′ : List ℕ} {r : ℕ} → NowPlaced t w w′ (i - 1) r → Swept t w′ n (i - 1) r
   swept-more p =
-      let l = s .within in
       record {
         within = omega arith;
         good = λ j f g. below-or j i (λ k. let d : j ≡ i - 1 = omega arith in rw d (p .good)) (λ k. s .good j k g);
@@ -108,13 +103,10 @@ module _ {t w : List ℕ} {n m v i top : ℕ} (P : SizedWhole t n m v) (s : Swep
   some = P .framed .n-least
 
   pub all-seen : AllGood t
-  all-seen = let e = n-is in all-good P (λ j k. s .good j (omega arith) (omega arith))
+  all-seen = all-good P (λ j k. s .good j (omega arith) (omega arith))
 
   pub whole-weighs : Weighs (weightAt w 0) (treeAt t 0)
   whole-weighs =
-      let e = n-is in
-      let l = some in
-      let z = P .whole in
       let i-is : i ≡ 0 = omega arith in
       let a = topmost t w top 0 (omega arith) (rw i-is at (s .waits)) in
       let k-is = none-behind t w (top - 1) (0 + sizeAt t 0) (omega arith) (a .rest) in
@@ -122,8 +114,6 @@ module _ {t w : List ℕ} {n m v i top : ℕ} (P : SizedWhole t n m v) (s : Swep
 
   pub lowest-endless : Lowest (λ k. endlessLoop (treeAt t k)) (nodes t) (getD w 320 0)
   lowest-endless =
-      let e = n-is in
-      let m = s .endless .most in
       record {
         within = omega arith;
         before = λ k f. s .endless .before k (omega arith) f;

@@ -44,8 +44,6 @@ module _ {k : Program → ℕ} where
       → k p ≤ 1 → z ≡ x + k p → Figure k q x → Figure k p z
   under u v o x z l e f =
       let s = of-one u .size-is in
-      let g = f .exact in
-      let h = f .small in
       record { exact = rw (v .figure-is k, o) (omega arith); small = omega arith }
 
   pub over : {a : ℕ} {p q : Program} → One p q → FiguresOfOne a p q → (c : ℕ) → often (kind p) a (stops q) ≡ c
@@ -59,10 +57,6 @@ module _ {k : Program → ℕ} where
       → Figure k q x → Figure k r y → Figure k p z
   added v o x y z l e f g =
       let s = of-two v .size-is in
-      let a = f .exact in
-      let a′ = f .small in
-      let b = g .exact in
-      let b′ = g .small in
       record { exact = rw (figures-of-two {e = 0} v .figure-is k, o) (omega arith); small = omega arith }
 
   pub larger : {p q r : Program} → Two p q r → eqb (kind p) 9 ≡ true → (x y z : ℕ) → k p ≤ 1 → z ≡ max x y + k p
@@ -126,10 +120,7 @@ module _ {x : Weight} {a : ℕ} {p q : Program} (v : One p q) (n : Counts a p) w
       → Weighs (repeatedly c x s) p
   repeats c s m e w =
       let o = figures-of-one v n in
-      let g = o .no-generation in
-      let b = o .no-atom in
       let h = of-one v .height-is in
-      let i = w .height-is in
       record {
         generations-are = over v o c m (x .generations) _ (omega arith) (omega arith) (w .generations-are);
         atoms-are = over v o c m (x .atoms) _ (omega arith) (omega arith) (w .atoms-are);
@@ -167,10 +158,7 @@ module _ {x : Weight} {a : ℕ} {p q : Program} (v : One p q) (n : Counts a p) w
   under-weighs e f w =
       let o = figures-of-one v n in
       let m : often (kind p) a (stops q) ≡ 1 = rw (ne-eqb (kind p) 5 e, ne-eqb (kind p) 6 f) in
-      let g = o .no-generation in
-      let b = o .no-atom in
       let h = of-one v .height-is in
-      let i = w .height-is in
       record {
         generations-are = under v o m (x .generations) _ (omega arith) (omega arith) (w .generations-are);
         atoms-are = under v o m (x .atoms) _ (omega arith) (omega arith) (w .atoms-are);
@@ -200,8 +188,6 @@ module _ {x y : Weight} {p q r : Program} where
   larger-weighs {e} v k t w u =
       let o = figures-of-two {e = e} v in
       let n = eq-eqb (kind p) 9 k in
-      let g = o .no-generation in
-      let b = o .no-atom in
       let h = of-two v .height-is in
       let i = w .height-is in
       let j = u .height-is in
@@ -220,11 +206,7 @@ module _ {x y : Weight} {p q r : Program} where
   together-weighs v k s t w u =
       let o = figures-of-two {e = 0} v in
       let n = ne-eqb (kind p) 9 k in
-      let g = o .no-generation in
-      let b = o .no-atom in
       let h = of-two v .height-is in
-      let i = w .height-is in
-      let j = u .height-is in
       record {
         generations-are =
             added v n (x .generations) (y .generations) _ (omega arith) (omega arith)

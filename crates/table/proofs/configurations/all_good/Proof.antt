@@ -36,8 +36,7 @@ parts-good-requires c κs =
 -- way = 2 * way + (parts - 1);
 mul-way : tie.Need-mul-way Inv-loop μ-loop
 mul-way c =
-    let loop = c .before .before .before .before .before .loop in
-    let s = loop .inv .2 .short in record { fits = omega arith }
+    record { fits = omega arith }
 
 add-way : tie.Need-add-way Inv-loop μ-loop
 add-way c =
@@ -45,7 +44,6 @@ add-way c =
     let loop = c .before .before .before .before .before .loop in
     let loop-test = c .before .before .before .before .loop-test in
     let parts-good = c .before .parts-good in
-    let s = loop .inv .2 .short in
     let b = begins (start .pre) (loop .inv .2) (loop-test .taken) in
     let f = few-parts b (parts-good .ensures _ b) in
     record { fits = omega arith }

@@ -8,10 +8,8 @@ use Rattle.table.proofs.Lowest.{lowest-bad}
 -- return m;
 returns : tie.Need-returns
 returns c =
-    let start = c .before .before .before in
     let all-good = c .before .all-good in
     let if1 = c .if1 in
-    let m = start .pre .m-is in
     lowest-bad _ _ _ (omega arith) (λ k h. all-good .ensures (if1 .taken) k (omega arith)) (λ h. absurd (omega arith))
 
 pub first-bad-spec : {M : Type 1} → statement M

@@ -44,15 +44,12 @@ returns c =
     let good2 = c .before .good2 in
     let if1 = c .if1 in
     let b = framed-begins (start .pre) (loop-test .taken) in
-    let m = start .pre .m-is in
     lowest-bad _ _ _ (omega arith) (loop .inv .1) (λ h. sym (good2 .ensures _ b) ∙ if1 .left)
 
 -- fn lowest_bad
 returns-2 : tie.Need-returns-2 Inv-loop μ-loop
 returns-2 c =
-    let start = c .before .before .before in
     let loop = c .before .loop in
-    let m = start .pre .m-is in
     lowest-bad _ _ _ (omega arith) (λ k h. loop .inv .1 k (omega arith)) (λ h. absurd (omega arith))
 
 pub lowest-bad-spec : {M : Type 1} → statement M

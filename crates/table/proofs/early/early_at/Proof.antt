@@ -19,7 +19,6 @@ shared-slice-read-wide c =
     let part-kind = c .before .before .part-kind in
     let if1 = c .before .if1 in
     let f = first-behind (start .pre) (λ e. if1 .left (part-kind .ensures .0 ∙ e)) .0 in
-    let r = start .pre .room in
     search needs
 
 -- return 2 - first;
@@ -49,7 +48,6 @@ shared-slice-read-wide-2 c =
     let part-size = c .before .part-size in
     let kind = part-kind .ensures .0 in
     let f = second-behind (start .pre) (λ e. if1 .left (kind ∙ e)) (λ e. if2 .left (kind ∙ e)) in
-    let r = start .pre .room in
     let s = part-size .ensures .0 ∙ second-there (start .pre) in
     search needs
 

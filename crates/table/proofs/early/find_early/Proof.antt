@@ -23,19 +23,10 @@ loop-holds c =
 -- let e = early_at(table, 6 * n + 4 * j, j, early);
 mul-early-at-2 : tie.Need-mul-early-at-2 Inv-loop μ-loop
 mul-early-at-2 c =
-    let start = c .before .before .before .before in
-    let loop = c .before .loop in
-    let l = loop .inv .0 in
-    let m = start .pre .0 .1 .m-most in
     search needs
 
 add-early-at : tie.Need-add-early-at Inv-loop μ-loop
 add-early-at c =
-    let start = c .before .before .before .before in
-    let loop = c .before .loop in
-    let l = loop .inv .0 in
-    let n = start .pre .0 .1 .n-most in
-    let m = start .pre .0 .1 .m-most in
     search needs
 
 early-at-requires : tie.Need-early-at-requires Inv-loop μ-loop
@@ -58,13 +49,6 @@ cast-early c =
 
 slice-write-early : tie.Need-slice-write-early Inv-loop μ-loop
 slice-write-early c =
-    let start = c .before .before .before .before .before .before in
-    let loop = c .before .before .before .loop in
-    let loop-test = c .before .before .loop-test in
-    let l = loop .inv .0 in
-    let e = loop .inv .1 in
-    let t = loop-test .taken in
-    let r = start .pre .1 in
     omega arith
 
 loop-again : tie.Need-loop-again Inv-loop μ-loop
@@ -72,8 +56,7 @@ loop-again c =
     let start = c .before .before .before .before .before .before in
     let loop = c .before .before .before .loop in
     let loop-test = c .before .before .loop-test in
-    let early-at = c .early-at in
-    let l = loop .inv .0 in (
+    let early-at = c .early-at in (
       omega arith,
       simp length-set (loop .inv .1),
       more-known (start .pre .0) (loop .early) (rw (loop .inv .1) (start .pre .1)) (loop-test .taken) (loop .inv .0) (loop .inv .2) (early-at .ensures),
@@ -88,8 +71,6 @@ same-length c =
 returns : tie.Need-returns Inv-loop μ-loop
 returns c =
     let loop = c .before .loop in
-    let loop-test = c .loop-test in
-    let l = loop-test .left in
     λ k a b. loop .inv .2 k (omega arith) b
 
 pub find-early-spec : {M : Type 1} → statement M

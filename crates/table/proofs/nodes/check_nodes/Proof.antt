@@ -25,7 +25,7 @@ returns-2 c =
 pub check-nodes-spec : {M : Type 1} → statement M
 check-nodes-spec =
     tie.close (tie.spec
-    (λ c κs. let l = c .before .pre .0 .long in omega arith)  -- size-at-requires: if size_at(tabl..
+    (λ c κs. omega arith)  -- size-at-requires: if size_at(tabl..
     check-whole-requires
     (λ c. c .check-whole .ensures)  -- returns
     returns-2)

@@ -24,13 +24,8 @@ place-requires c κs =
 refused-requires : tie.Need-refused-requires Inv-loop μ-loop
 refused-requires c κs =
     let start = c .before .before .before .before .before .before .before in
-    let loop = c .before .before .before .before .loop in
-    let loop-test = c .before .before .before .loop-test in
     let place = c .before .place in
     let if1 = c .if1 in
-    let n = start .pre .0 .framed .n-is in
-    let l = loop .inv .within in
-    let k = loop-test .taken in
     let row = place .ensures .1 (if1 .taken) in
     (start .pre .0, λ g. row-deep (start .pre .0) g _ (omega arith) (row (g .good _ (omega arith))))
 
@@ -40,8 +35,7 @@ loop-again c =
     let loop = c .before .before .before .before .loop in
     let loop-test = c .before .before .before .loop-test in
     let place = c .before .place in
-    let if1 = c .if1 in
-    let k = if1 .left in swept-more (loop .inv) (loop-test .taken) (place .ensures .0 (omega arith))
+    swept-more (loop .inv) (loop-test .taken) (place .ensures .0 (omega arith))
 
 -- return refused(table, n, m, v);
 refused-requires-2 : tie.Need-refused-requires-2 Inv-loop μ-loop
@@ -58,10 +52,6 @@ refused-requires-2 c κs =
 -- let endless = waiting[320] as usize;
 cast-endless : tie.Need-cast-endless Inv-loop μ-loop
 cast-endless c =
-    let start = c .before .before .before .before .before .before .before .before in
-    let loop = c .before .before .before .before .before .loop in
-    let l = loop .inv .endless .most in
-    let m = start .pre .0 .framed .n-most in
     search needs
 
 -- return Checked::EndlessLoop(endless);
@@ -74,7 +64,6 @@ returns-3 c =
     let if2 = c .before .if2 in
     let if3 = c .if3 in
     let P = start .pre .0 in
-    let n = P .framed .n-is in
     let x = whole-weighs P (loop .inv) (loop-test .left) .height-is in
     let k = rw (weight-at .ensures) at (if2 .left) in
     let l = if3 .taken in
@@ -92,9 +81,7 @@ returns-4 c =
     let if3 = c .before .if3 in
     let weighed = c .weighed in
     let P = start .pre .0 in
-    let n = P .framed .n-is in
     let x = whole-weighs P (loop .inv) (loop-test .left) in
-    let h = x .height-is in
     let k = rw (weight-at .ensures) at (if2 .left) in
     let l = if3 .left in
     let low = lowest-endless P (loop .inv) (loop-test .left) in
@@ -106,7 +93,7 @@ check-tests-known-spec =
     tie.close (tie.spec
     Inv-loop
     μ-loop
-    (λ c. let l = c .before .before .pre .0 .framed .n-most in search needs)  -- cast-waiting: waiting[320] =..
+    (λ c. search needs)  -- cast-waiting: waiting[320] =..
     (λ c. search needs)  -- array-write-waiting
     (λ c. swept-none _ _ _ (c .before .before .pre .0 .framed .n-is) refl refl)  -- loop-holds: while i > 0 {
     (λ c. search needs)  -- sub-i: i -= 1;

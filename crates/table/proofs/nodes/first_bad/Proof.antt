@@ -20,8 +20,6 @@ abbrev μ-loop : tie.MeasureT-loop
 good-node-requires : tie.Need-good-node-requires Inv-loop μ-loop
 good-node-requires c κs =
     let start = c .before .before .before in
-    let loop-test = c .loop-test in
-    let l = loop-test .taken in
     (start .pre .framed, within-of (start .pre) _ (omega arith))
 
 -- while i < n {
@@ -49,8 +47,6 @@ returns-2 : tie.Need-returns-2 Inv-loop μ-loop
 returns-2 c =
     let start = c .before .before .before in
     let loop = c .before .loop in
-    let loop-test = c .loop-test in
-    let l = loop-test .left in
     let good = goodNode (start .args .table .now) in
     rw
     (← start .pre .framed .n-is)

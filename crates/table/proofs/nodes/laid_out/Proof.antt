@@ -21,11 +21,7 @@ returns-4 : tie.Need-returns-4
 returns-4 c =
     let if1 = c .before .before .before .before .if1 in
     let if2 = c .before .before .before .if2 in
-    let size-at2 = c .before .before .size-at2 in
     let if3 = c .before .if3 in
-    let if4 = c .if4 in
-    let e = size-at2 .ensures .0 in
-    let l = if4 .taken in
     bad-second _ _ _ _ (if1 .left) (if3 .left) (if2 .left) (omega arith)
 
 -- fn laid_out
@@ -36,12 +32,10 @@ returns-5 c =
     let if2 = c .before .before .before .before .before .if2 in
     let size-at2 = c .before .before .before .before .size-at2 in
     let if3 = c .before .before .before .if3 in
-    let if4 = c .before .before .if4 in
     let size-at4 = c .before .size-at4 in
     let size-at5 = c .size-at5 in
     let A = start .args in
     let e = size-at2 .ensures .0 in
-    let l = if4 .left in
     let s : A .i + (1 + size-at2 .result) ≡ secondAt (A .table .now) (A .i) = omega arith in
     let there : secondAt (A .table .now) (A .i) < A .n = omega arith in
     rw

@@ -26,12 +26,9 @@ returns-2 c =
     let start = c .before .before .before .before .before .before .before in
     let good-as = c .before .before .before .before .before .good-as in
     let if1 = c .before .before .before .before .if1 in
-    let if2 = c .before .before .before .if2 in
     let single = c .before .single in
     let put-weight = c .put-weight in
     let R = start .pre .0 in
-    let h = R .room in
-    let e = if2 .left in
     let good = sym (good-as .ensures) ∙ if1 .taken in
     let placed = leaf-placed R (start .pre .1 .0) good refl (omega arith) _ (start .pre .1 .1) _ (single .ensures) in
     (λ z. rw (put-weight .ensures) placed, λ z g. absurd (omega arith))

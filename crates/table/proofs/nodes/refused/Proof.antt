@@ -10,11 +10,7 @@ use Rattle.table.proofs.Lowest.{none-bad}
 -- return Checked::BadNode(bad);
 returns : tie.Need-returns
 returns c =
-    let start = c .before .before .before in
     let first-bad = c .before .first-bad in
-    let if1 = c .if1 in
-    let n = start .pre .0 .framed .n-is in
-    let l = if1 .taken in
     bad-answer _ _ (first-bad .ensures) (omega arith)
 
 -- Checked::TooDeep(first_deep(table, 0, 1))
@@ -22,10 +18,6 @@ first-deep-requires : tie.Need-first-deep-requires
 first-deep-requires c κs =
     let start = c .before .before .before in
     let first-bad = c .before .first-bad in
-    let if1 = c .if1 in
-    let n = start .pre .0 .framed .n-is in
-    let m = start .pre .0 .framed .n-least in
-    let l = if1 .left in
     let t = start .args .table .now in
     (all-good (start .pre .0) (none-bad (goodNode t) (nodes t) _ (first-bad .ensures) (omega arith)), (omega arith, omega arith))
 
@@ -34,10 +26,7 @@ returns-2 : tie.Need-returns-2
 returns-2 c =
     let start = c .before .before .before .before in
     let first-bad = c .before .before .first-bad in
-    let if1 = c .before .if1 in
     let first-deep = c .first-deep in
-    let n = start .pre .0 .framed .n-is in
-    let l = if1 .left in
     let t = start .args .table .now in
     let g = all-good (start .pre .0) (none-bad (goodNode t) (nodes t) _ (first-bad .ensures) (omega arith)) in
     deep-answer (start .pre .0) g (start .pre .1 g) _ (first-deep .ensures)

@@ -8,8 +8,7 @@ use Rattle.table.proofs.Weighed.{product-fits}
 mul-capped : tie.Need-mul-capped
 mul-capped c =
     let start = c .before in
-    let capped = c .capped in
-    record { fits = product-fits _ _ (start .pre) (let e = capped .ensures in omega arith) }
+    record { fits = product-fits _ _ (start .pre) (omega arith) }
 
 pub count-times-spec : {M : Type 1} → statement M
 count-times-spec =

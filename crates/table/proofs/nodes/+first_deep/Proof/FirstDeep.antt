@@ -35,17 +35,11 @@ module _ (t : ℕ) where
   -- let count = children_of(kind_at(table, i));
   kind-at-requires : Of lts.Need-kind-at-requires
   kind-at-requires c κs =
-      let start = c .before .before in
-      let l = start .pre .1 .0 .long in
-      let i = start .pre .1 .1 .0 in
       omega arith
 
   -- return i + 1;
   add-result : Of lts.Need-add-result
   add-result c =
-      let start = c .before .before .before .before .before in
-      let n = start .pre .1 .0 .few in
-      let i = start .pre .1 .1 .0 in
       search needs
 
   returns-2 : Of lts.Need-returns-2
@@ -61,21 +55,15 @@ module _ (t : ℕ) where
   -- let found = first_deep(table, i + 1, d + 1);
   add-first-deep : Of lts.Need-add-first-deep
   add-first-deep c =
-      let start = c .before .before .before .before .before in
-      let n = start .pre .1 .0 .few in
-      let i = start .pre .1 .1 .0 in
       search needs
 
   first-deep-requires : Of lts.Need-first-deep-requires
   first-deep-requires c κs =
       let start = c .before .before .before .before .before in
-      let if1 = c .before .before .before .if1 in
       let kind-at = c .before .before .kind-at in
       let children-of = c .before .children-of in
       let if2 = c .if2 in
       let P = start .pre .1 in
-      let μ = start .pre .0 in
-      let d = if1 .left in
       let first = has-first (P .0) (P .1 .0) (kind-at .ensures .0) (children-of .ensures) (if2 .left) in
       (omega arith, (P .0, (first, omega arith)))
 
@@ -96,13 +84,6 @@ module _ (t : ℕ) where
   -- let second = second_at(table, i);
   second-at-requires : Of lts.Need-second-at-requires
   second-at-requires c κs =
-      let start = c .before .before .before .before .before .before .before in
-      let kind-at = c .before .before .before .before .kind-at in
-      let children-of = c .before .before .before .children-of in
-      let if2 = c .before .before .if2 in
-      let P = start .pre .1 in
-      let l = P .0 .long in
-      let i = has-first (P .0) (P .1 .0) (kind-at .ensures .0) (children-of .ensures) (if2 .left) in
       omega arith
 
   -- return found;
@@ -126,22 +107,17 @@ module _ (t : ℕ) where
   -- first_deep(table, second, d + 1)
   add-first-deep-3 : Of lts.Need-add-first-deep-3
   add-first-deep-3 c =
-      let if1 = c .before .before .before .before .before .before .before .if1 in
-      let d = if1 .left in
       search needs
 
   first-deep-requires-2 : Of lts.Need-first-deep-requires-2
   first-deep-requires-2 c κs =
       let start = c .before .before .before .before .before .before .before .before .before in
-      let if1 = c .before .before .before .before .before .before .before .if1 in
       let kind-at = c .before .before .before .before .before .before .kind-at in
       let children-of = c .before .before .before .before .before .children-of in
       let if2 = c .before .before .before .before .if2 in
       let if3 = c .before .before .if3 in
       let second-at = c .before .second-at in
       let P = start .pre .1 in
-      let μ = start .pre .0 in
-      let d = if1 .left in
       let second = has-second (P .0) (P .1 .0) (kind-at .ensures .0) (children-of .ensures) (if2 .left) (if3 .left) in
       rw (second-at .ensures) (omega arith, (P .0, (second, omega arith)))
 
@@ -173,7 +149,7 @@ module _ (t : ℕ) where
       add-result
       returns-2
       add-first-deep
-      (λ c. let l = c .before .before .before .if1 .left in search needs)  -- add-first-deep-2
+      (λ c. search needs)  -- add-first-deep-2
       first-deep-requires
       returns-3
       second-at-requires
