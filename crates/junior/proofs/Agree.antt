@@ -25,7 +25,7 @@ use Rattle.junior.proofs.Verdicts.{test-event, present}
 use Rattle.junior.proofs.Grows.{grows, end-kept}
 use Rattle.junior.proofs.Held.{begun}
 use Rattle.junior.proofs.Figures.{loops-fresh}
-use Rattle.junior.proofs.Settle.{Out, plus, bind, around, once-ended, reads, once-stopped, repeated, handled}
+use Rattle.junior.proofs.Settle.{Out, plus, bind, around, once-ended, reads, own-wait, once-stopped, repeated, handled}
 use Rattle.junior.proofs.Settle.{starts, settle, settle-fresh, settle-again, starts-unended, steered-on}
 use Rattle.junior.proofs.Fits.{alike-same, at-or-else, put-else}
 use Rattle.junior.proofs.Meets.{Agrees, comes-to, only-waits, stays, Around, runs-under, runs-in, runs-first}
@@ -57,7 +57,7 @@ unfolding starts collect decides
 does a = record {
   run = λ b w. record {
     below = b;
-    fits = record { flags = refl; terms = refl; events = λ n. refl; counts = λ n. omega arith; told = λ n b. refl };
+    fits = record { flags = refl; terms = refl; events = λ n. refl; counts = λ n. omega arith; told = λ n b. refl; waits = refl };
   };
 }
 
@@ -81,6 +81,7 @@ raises {P} {X} {E} s = record {
               (λ e. ap (λ x. X n || x) (put-else s n true none e));
           counts = λ a. omega arith;
           told = λ n b. refl;
+          waits = refl;
         };
       };
 }
@@ -94,10 +95,10 @@ begins {P} {X} p a = comes-to (λ b. sym (settle-fresh P p X)) a
 around-until : (P : Place) (X : Events) (c : Config) (p q : Program) (α : Flag) (t : Term)
     → α ≢ STOP
     → prog t ≡ p
-    → Around P (first P) X (λ x. until0 c x q) (once-stopped P c q (starts (second P p) q X) (eval c X) (reads c X)) α t
+    → Around P (first P) X (λ x. until0 c x q) (once-stopped P c q (starts (second P p) q X) (own-wait P c X) (eval c X) (reads c X)) α t
 unfolding settle prog
 around-until P X c p q SUSP t n e =
-    λ i. bind (settle (first P) t X) (once-stopped P c q (starts (second P (e i)) q X) (eval c X) (reads c X))
+    λ i. bind (settle (first P) t X) (once-stopped P c q (starts (second P (e i)) q X) (own-wait P c X) (eval c X) (reads c X))
 around-until P X c p q STOP t n e = absurd (n refl)
 around-until P X c p q TERM t n e = refl
 
@@ -153,17 +154,17 @@ agree (r5-repeat {P = P} {n = n} {k = k} {r = r} d h) o e X =
     (agree d o e X)
 agree (r16 {s = s}) o e X = raises s
 agree (r17 {c = c} {p = p} {q = q} v h d) o e X =
-    reads-so c true _ _ _ _ _ v e (runs-in (λ x. when1 c x q) refl (begins p (agree d (loops-fresh p (o .0)) e X)))
+    reads-so c true _ _ _ _ _ _ v e (runs-in (λ x. when1 c x q) refl (begins p (agree d (loops-fresh p (o .0)) e X)))
 agree (r17-on {c = c} {q = q} d) o e X = runs-in (λ x. when1 c x q) refl (agree d (o .0) e X)
 agree (r18 v h) o e X = absurd (false≢true (sym e ∙ h))
 agree (r19 {c = c} {p = p} {q = q} v h d) o e X =
-    reads-so c false _ _ _ _ _ v e (runs-in (when2 c p) refl (begins q (agree d (loops-fresh q (o .1)) e X)))
+    reads-so c false _ _ _ _ _ _ v e (runs-in (when2 c p) refl (begins q (agree d (loops-fresh q (o .1)) e X)))
 agree (r19-on {c = c} {p = p} d) o e X = runs-in (when2 c p) refl (agree d (o .1) e X)
 agree (r20 v h) o e X = absurd (false≢true (sym e ∙ h))
 agree (r21 v) o e X = stays SUSP _ only-waits
-agree (r22 {c = c} v h) o e X = reads-so c true _ _ _ _ _ v e (stays TERM _ alike-same)
+agree (r22 {c = c} v h) o e X = reads-so c true _ _ _ _ _ _ v e (stays TERM _ alike-same)
 agree (r23 v h) o e X = absurd (false≢true (sym e ∙ h))
-agree (r24 {c = c} v) o e X = reads-so c false _ _ _ _ _ v e (stays STOP _ alike-same)
+agree (r24 {c = c} v) o e X = reads-so c false _ _ _ _ _ _ v e (stays STOP _ alike-same)
 agree (r25 v) o e X = stays SUSP _ only-waits
 agree (r26 {P = P} {E = E} {s = s} {t = t} v d) o e X =
     comes-to (λ b. steered-on P X s t (b s (present s E v))) (runs-steered s (present s E v) (agree d o e X))
@@ -174,14 +175,14 @@ agree (r29 {P = P} {c = c} {t = t} {q = q} {r = r} d h) o e X =
 agree (r30 {P = P} {c = c} {t′ = t′} {q = q} d d′) o e X =
     runs-on _ STOP≢SUSP (grows d′) (agree d (o .0) e X) (
     comes-to
-    (λ b. ap (λ p. handled P c q (starts (second P p) q X) (eval c X) (reads c X) t′) (sym (kept d)))
+    (λ b. ap (λ p. handled P c q (starts (second P p) q X) (own-wait P c X) (eval c X) (reads c X) t′) (sym (kept d)))
     (agree d′ (rw (kept d) o) (end-kept d ∙ e) X)
     )
 agree (r31 {c = c} {t = t} {q = q} v h d) o e X =
-    reads-so c true _ _ _ _ _ v e (runs-in (until2 c (prog t)) refl (begins q (agree d (loops-fresh q (o .1)) e X)))
+    reads-so c true _ _ _ _ _ _ v e (runs-in (until2 c (prog t)) refl (begins q (agree d (loops-fresh q (o .1)) e X)))
 agree (r31-on {c = c} {p = p} d) o e X = runs-in (until2 c p) refl (agree d (o .1) e X)
 agree (r32 v h) o e X = absurd (false≢true (sym e ∙ h))
-agree (r33 {c = c} v) o e X = reads-so c false _ _ _ _ _ v e (stays STOP _ alike-same)
+agree (r33 {c = c} v) o e X = reads-so c false _ _ _ _ _ _ v e (stays STOP _ alike-same)
 agree (r34 v) o e X = stays SUSP _ only-waits
 agree (r35-39 {P = P} {E = E} {b = b} {s = s} {t = t} {r = r} d) o e X =
     record { run = λ h w. local-meets X P E b s (settle (inside s P) t) r (grows d) (λ Y. agree d o e Y) h w }

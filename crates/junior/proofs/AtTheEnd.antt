@@ -29,7 +29,7 @@ use Rattle.junior.proofs.Scopes.{status-own}
 use Rattle.junior.proofs.Ahead.{Around, around-root, further, around-body, Ahead, ahead-inside}
 use Rattle.junior.proofs.Ahead.{earlier as ahead-earlier}
 use Rattle.junior.proofs.Lacking.{named}
-use Rattle.junior.proofs.WayDown.{branch-that-waits, waiting-in, control-waits, way-down}
+use Rattle.junior.proofs.WayDown.{second-waits, waiting-in, control-waits, way-down}
 
 behind : {F : Events} {w : Wait} {l : List Act} (m : List Act) → LacksAtTheEnd F w l → LacksAtTheEnd F w (m ++ l)
 behind m x =
@@ -54,11 +54,6 @@ waits-so i none h = let z : _≡_ {A = ℕ} 0 1 = cc in absurd (omega arith)
 waits-so {w} i (some e) h =
     let same : e ≡ w .event = cc in
     (cc, ap some same)
-
-second-waits : (α : Flag) (v w : Option Wait) → α ≢ SUSP → branch-that-waits α v w ≡ w
-second-waits SUSP v w h = absurd (h refl)
-second-waits STOP v w h = refl
-second-waits TERM v w h = refl
 
 module _ (F : Events) (w : Wait) where
   -- a test that is decided at the end is read in its finished events

@@ -16,6 +16,7 @@ use Rattle.junior.specs.Trace.{collect, atoms}
 use Rattle.junior.specs.Course.{_⊆_}
 use Rattle.junior.specs.Order.{often, tells, decides}
 use Rattle.junior.proofs.Little.{collect-++, put-at}
+use Rattle.junior.proofs.WayDown.{branch-that-waits, or-else}
 use Rattle.junior.proofs.Settle.{Out, bind, says, paired, join, hidden}
 
 -- how often acts do an atom
@@ -65,6 +66,7 @@ pub record Fits (X : Events) (l : List Act) (o o′ : Out) : Type 0 where
   pub events : (n : ℕ) → (X n || o .gens n) ≡ (X n || o′ .gens n)
   pub counts : (a : ℕ) → o .hits a ≡ times a l + o′ .hits a
   pub told : (n : ℕ) (b : Bool) → o .tests n b ≡ (decides n b l || o′ .tests n b)
+  pub waits : o .wait ≡ o′ .wait
 
 -- of the events Y, o generates only such as are in X
 abbrev pub Within : Events → Events → Out → Type 0
@@ -78,6 +80,7 @@ fits-same {o = o} h = record {
   events = λ n. refl;
   counts = λ a. omega (arith, h .atoms-alike a);
   told = λ n b. ap (λ x. x || o .tests n b) (h .tests-alike n b);
+  waits = refl;
 }
 
 pub fits-as : {X : Events} {l k : List Act} {o o′ : Out} → Alike l k → Fits X l o o′ → Fits X k o o′
@@ -87,6 +90,7 @@ fits-as {o′ = o′} h f = record {
   events = f .events;
   counts = λ a. omega (arith, h .atoms-alike a, f .counts a);
   told = λ n b. f .told n b ∙ ap (λ x. x || o′ .tests n b) (h .tests-alike n b);
+  waits = f .waits;
 }
 
 pub fits-then : {X : Events} {l k : List Act} {o o′ o″ : Out} → Fits X l o o′ → Fits X k o′ o″ → Fits X (l ++ k) o o″
@@ -99,6 +103,7 @@ fits-then {l = l} {k} {o″ = o″} f g = record {
       f .told n b
       ∙ (ap (λ x. decides n b l || x) (g .told n b)
       ∙ (sym (or-assoc (decides n b l) (decides n b k) (o″ .tests n b)) ∙ ap (λ x. x || o″ .tests n b) (sym (decides-++ n b l k))));
+  waits = f .waits ∙ g .waits;
 }
 
 -- x or more of it
@@ -130,6 +135,7 @@ fits-bind {X} {l} {o} {o′} h f = record {
   told = λ n b.
       (λ i. f .told n b i || h (f .flags i) (f .terms i) .tests n b)
       ∙ or-assoc (decides n b l) (o′ .tests n b) (h (o′ .flag) (o′ .to) .tests n b);
+  waits = λ i. or-else (f .waits i) (h (f .flags i) (f .terms i) .wait);
 }
 
 pub fits-join : {X : Events} {l k : List Act} {o o′ p p′ : Out} → Fits X l o o′ → Fits X k p p′ → Fits X (l ++ k) (join o p) (join o′ p′)
@@ -143,6 +149,7 @@ fits-join {X} {l} {k} {o} {o′} {p} {p′} f g = record {
       (λ i. f .told n b i || g .told n b i)
       ∙ (or-swap (decides n b l) (o′ .tests n b) (decides n b k) (p′ .tests n b)
       ∙ ap (λ x. x || (o′ .tests n b || p′ .tests n b)) (sym (decides-++ n b l k)));
+  waits = λ i. branch-that-waits (f .flags i) (f .waits i) (g .waits i);
 }
 
 -- a test decided in front, where what comes after no longer says so, and where it still does
@@ -158,6 +165,7 @@ fits-says {l = l} {o′ = o′} {P} {v = v} f = record {
   told = λ n b.
       let x = tells P v n b in
       ap (λ y. x || y) (f .told n b) ∙ sym (or-assoc x (decides n b l) (o′ .tests n b));
+  waits = f .waits;
 }
 
 pub fits-says-again : {X : Events} {l : List Act} {o o′ : Out} {P : Place} {c : Config} {v : Bool} {E : Env}
@@ -172,6 +180,7 @@ fits-says-again {l = l} {o′ = o′} {P} {v = v} f = record {
   told = λ n b.
       let x = tells P v n b in
       ap (λ y. x || y) (f .told n b) ∙ or-again x (decides n b l) (o′ .tests n b);
+  waits = f .waits;
 }
 
 -- a set with s put in or out, at s and elsewhere
@@ -207,6 +216,7 @@ fits-hidden {X} {l} {o} {o′} s v f = record {
       ));
   counts = f .counts;
   told = f .told;
+  waits = f .waits;
 }
 
 pub within-fits : {X Y : Events} {l : List Act} {o o′ : Out} → Fits X l o o′ → Within Y X o → Within Y X o′

@@ -3,8 +3,9 @@ use Prim.Native.Nat.{ℕ}
 use mathlib.Core.Bool.{Bool, true, false, cond, _||_, or-false, false≢true}
 use mathlib.Core.Path.{_≡_, refl, ap, sym, _∙_, subst, fun-ext}
 use mathlib.Core.List.{List, [], _∷_, _++_}
+use mathlib.Core.Option.{none}
 use lib.Dec.{eqb}
-use Rattle.events.specs.Events.{Events, none, put}
+use Rattle.events.specs.Events.{Events, none as no-event, put}
 use Rattle.junior.specs.declared.Flag.{Flag}
 use Rattle.junior.specs.declared.Flag.the-variants.{SUSP, STOP, TERM}
 use Rattle.junior.specs.Configuration.{Env, with-event}
@@ -37,7 +38,7 @@ not-so : (b : Bool) → (b ≡ true → false ≡ true) → b ≡ false
 not-so true h = absurd (false≢true (h refl))
 not-so false h = refl
 
-pub put-none : (s : ℕ) → put s false none ≡ none
+pub put-none : (s : ℕ) → put s false no-event ≡ no-event
 unfolding put
 put-none s = fun-ext (λ n. go (eqb n s))
   where
@@ -59,8 +60,8 @@ left-scoped : (P : Place) (X : Events) (s : ℕ) (v b now : Bool) (α : Flag) (t
     ≡ branch α (leave α (local (sign b α now) s t)) (settle P (leave α (local (sign b α now) s t)) X)
 unfolding hidden settle scoped leave
 left-scoped P X s v b now SUSP t h = ap (λ x. hidden s (settle (inside s P) t (put s x X))) (sym (h refl))
-left-scoped P X s v b now STOP t h = λ i. out STOP (local false s t) (put-none s i) (λ a. 0) (λ n b. false)
-left-scoped P X s v b now TERM t h = λ i. out TERM (done (prog (local false s t))) (put-none s i) (λ a. 0) (λ n b. false)
+left-scoped P X s v b now STOP t h = λ i. out STOP (local false s t) (put-none s i) (λ a. 0) (λ n b. false) none
+left-scoped P X s v b now TERM t h = λ i. out TERM (done (prog (local false s t))) (put-none s i) (λ a. 0) (λ n b. false) none
 
 -- a Local of s at P with sign b, F being what comes of its body, which the body's pass, with answer r, agrees with
 module _ (X : Events) (P : Place) (E : Env) (b : Bool) (s : ℕ) (F : Events → Out) (r : Result)

@@ -17,6 +17,11 @@ pub mod Figures
 pub mod Exists
 pub mod Instants
 pub mod Freer
+pub mod Visits
+pub mod Lower
+pub mod Lacking
+pub mod Waits
+pub mod WayDown
 pub mod Settle
 pub mod Fits
 pub mod Meets
@@ -24,11 +29,6 @@ pub mod Hidden
 pub mod Agree
 pub mod Ending
 pub mod Order
-pub mod Visits
-pub mod Lower
-pub mod Lacking
-pub mod Waits
-pub mod WayDown
 pub mod WaitOrder
 pub mod Waited
 pub mod AtTheEnd

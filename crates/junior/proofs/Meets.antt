@@ -5,6 +5,7 @@ use mathlib.Core.Bool.{Bool, true, false, cond, _||_, or-true}
 use mathlib.Core.Path.{_≡_, refl, ap, sym, _∙_, subst}
 use mathlib.Core.Logic.{_≢_}
 use mathlib.Core.List.{List, [], _∷_, _++_}
+use mathlib.Core.Option.{Option}
 use Rattle.events.specs.Events.{Events}
 use Rattle.junior.specs.declared.Flag.{Flag}
 use Rattle.junior.specs.declared.Flag.the-variants.{SUSP, STOP, TERM}
@@ -15,6 +16,7 @@ use Rattle.junior.specs.Term.{Term, done, par, control, prog, leave}
 use Rattle.junior.specs.Trace.{Place, first, second, Act, decided, waits, collect}
 use Rattle.junior.specs.Rules.{Result, answers, under, after, joined}
 use Rattle.junior.specs.Course.{_⊆_}
+use Rattle.junior.specs.Waited.{Wait}
 use Rattle.junior.specs.Order.{decides}
 use Rattle.junior.proofs.Verdicts.{decided-before}
 use Rattle.junior.proofs.Settle.{Out, idle, bind, around, once-ended, tested, reads, branch, join, settle}
@@ -157,15 +159,15 @@ runs-on {X = X} {α = α} {t} {l} {r} {o} h n g a a′ = record {
 }
 
 -- a decided test is so in X
-pub reads-so : {P : Place} {X : Events} {E : Env} {r : Result} (c : Config) (b : Bool) (o p : Out) (x : Bool) (t u : Term)
+pub reads-so : {P : Place} {X : Events} {E : Env} {r : Result} (c : Config) (b : Bool) (o p : Out) (w : Option Wait) (x : Bool) (t u : Term)
     → test c E ≡ verdict true b
     → E .eoi ≡ false
     → Agrees P X E r (cond b o p)
-    → Agrees P X E (after (decided P c b E ∷ []) r) (tested P (reads c X) o p x t u)
-reads-so {P} {X} {E} c b o p x t u v e a =
-    comes-to (λ h. ap (λ y. tested P y o p x t u) (decided-before c E X b v e h) ∙ go b) (told a)
+    → Agrees P X E (after (decided P c b E ∷ []) r) (tested P (reads c X) o p w x t u)
+reads-so {P} {X} {E} c b o p w x t u v e a =
+    comes-to (λ h. ap (λ y. tested P y o p w x t u) (decided-before c E X b v e h) ∙ go b) (told a)
   where
-    go : (b : Bool) → tested P (verdict true b) o p x t u ≡ says P b (cond b o p)
+    go : (b : Bool) → tested P (verdict true b) o p w x t u ≡ says P b (cond b o p)
     go true = refl
     go false = refl
 

@@ -5,6 +5,7 @@ use mathlib.Core.Bool.{Bool, true, false, _||_, or-false}
 use mathlib.Core.Path.{_≡_, refl, ap, sym, _∙_, subst, fun-ext}
 use mathlib.Core.Logic.{_≢_}
 use mathlib.Core.List.{List}
+use mathlib.Core.Option.{Option}
 use native.Mathlib.Omega.{arith}
 use Rattle.events.specs.Events.{Events, put}
 use Rattle.junior.specs.declared.Flag.{Flag}
@@ -17,6 +18,7 @@ use Rattle.junior.specs.Instant.{Instant, r47, r48, r49}
 use Rattle.junior.specs.Course.{_⊆_}
 use Rattle.junior.specs.Figures.{LoopsStop, per}
 use Rattle.junior.specs.AtRest.{AtRest}
+use Rattle.junior.specs.Waited.{Wait, first-wait, before-the-end, waited}
 use Rattle.junior.specs.Order.{decides, SoFar, begun, quiet, moved, often, SameOutcome, OrderFree, PassesDiffer}
 use Rattle.junior.proofs.Little.{STOP≢SUSP, TERM≢SUSP, SUSP≢TERM}
 use Rattle.junior.proofs.Kept.{kept}
@@ -28,17 +30,18 @@ use Rattle.junior.proofs.Figures.{pot-at-rest}
 use Rattle.junior.proofs.Exists.{pass-exists}
 use Rattle.junior.proofs.Instants.{uses-up, passes-left, within-passes, goes-on, ends-within}
 use Rattle.junior.proofs.Freer.{freer-instant}
-use Rattle.junior.proofs.Settle.{Out, idle, branch, at-last, settle}
+use Rattle.junior.proofs.WayDown.{way-down}
+use Rattle.junior.proofs.Settle.{Out, held-by, branch, at-last, settle}
 use Rattle.junior.proofs.Fits.{times, Fits, fits-then, within-fits}
 use Rattle.junior.proofs.Meets.{left, branch-idle}
 use Rattle.junior.proofs.Agree.{agree}
-use Rattle.junior.proofs.Ending.{closing, ends-as, at-last-same}
+use Rattle.junior.proofs.Ending.{closing, EndsAs, ends-as, at-last-same}
 
 -- the pass after the end from a state that waits: it changes no event, does no atom, and decides and leaves what the state settles to
 pub record Closes (t : Term) (E : Env) (r : Result) : Type 0 where
   pub same-events : r .env .now ≡ E .now
   pub stopped : r .flag ≡ STOP
-  pub settled : settle root t (E .now) ≡ closing SUSP (r .to) (r .acts)
+  pub settled : EndsAs root t E r
   pub no-atom : (a : ℕ) → times a (r .acts) ≡ 0
 
 closes : {free : Allowed} {t : Term} {E : Env} {n : ℕ} {r : Result}
@@ -59,15 +62,16 @@ closes (r48 d h m i) e b = absurd (STOP≢SUSP (sym (idles d e b .stops) ∙ h))
 closes (r49 d h m i) e b = absurd (STOP≢SUSP (sym (idles d e b .stops) ∙ h))
 
 -- such a pass is all that was left to do
-fits-closing : {X : Events} (α : Flag) (t : Term) (l : List Act)
+fits-closing : {X : Events} (w : Option Wait) (α : Flag) (t : Term) (l : List Act)
     → ((a : ℕ) → times a l ≡ 0)
-    → Fits X l (closing α t l) (idle α t)
-fits-closing α t l h = record {
+    → Fits X l (closing w α t l) (held-by w α t)
+fits-closing w α t l h = record {
   flags = refl;
   terms = refl;
   events = λ n. refl;
   counts = λ a. omega (arith, h a);
   told = λ n b. sym (or-false (decides n b l));
+  waits = refl;
 }
 
 -- what comes of the term that a suspended pass leaves
@@ -95,17 +99,17 @@ stays-within (r49 {r = r} d h q i) o e X b c =
     let c′ = within-fits {Y = λ n. true} (left-going r h (m .fits)) (λ n y g. c n g) in
     stays-within i (rw (kept d) o) (end-kept d ∙ e) X (m .below) (λ n g. c′ n refl g)
 
--- an instant comes to what its term settles to in the finished events, an answer that waited for the end being STOP
-pub record Comes (t : Term) (r : Result) : Type 0 where
+-- an instant comes to what its term settles to in the finished events, an answer that waited for the end being STOP, and w what it reports
+pub record Comes (t : Term) (r : Result) (w : Option Wait) : Type 0 where
   pub last : Flag
   pub answered : r .flag ≡ at-last last
-  pub comes-to : Fits (r .env .now) (r .acts) (settle root t (r .env .now)) (idle last (r .to))
+  pub comes-to : Fits (r .env .now) (r .acts) (settle root t (r .env .now)) (held-by w last (r .to))
 
-pub comes : {free : Allowed} {t : Term} {E : Env} {n : ℕ} {r : Result}
-    → Instant free t E n r
+pub comes : {free : Allowed} {t : Term} {E : Env} {n : ℕ} {r : Result} (i : Instant free t E n r)
     → LoopsStop (prog t)
     → E .eoi ≡ false
-    → Comes t r
+    → Comes t r (waited i)
+unfolding before-the-end first-wait
 comes {t = t} (r47 {r = r} d h) o e =
     let X = r .env .now in
     let f = agree d o e X .run (grows d) (λ n y g. y) .fits in
@@ -120,11 +124,12 @@ comes (r48 {E = E} {r = r} {s = s} d h q i) o e =
     let c = closes i refl (blocked d h q) in
     let same : r .env .now ≡ X = sym (c .same-events) in
     let f = agree d o e X .run (subst (λ Y. E .now ⊆ Y) same (grows d)) (λ n y g. subst (λ Y. Y n ≡ true) same y) .fits in
-    let rest = subst (λ Y. settle root (r .to) Y ≡ closing SUSP (s .to) (s .acts)) same (c .settled) in
+    let w = first-wait (r .acts) in
+    let rest = subst (λ Y. settle root (r .to) Y ≡ closing w SUSP (s .to) (s .acts)) same (rw (way-down d h q) (c .settled)) in
     record {
       last = SUSP;
       answered = c .stopped;
-      comes-to = fits-then (left-going r h f) (rw rest (fits-closing SUSP (s .to) (s .acts) (c .no-atom)));
+      comes-to = fits-then (left-going r h f) (rw rest (fits-closing w SUSP (s .to) (s .acts) (c .no-atom)));
     }
 comes (r49 {r = r} {s = s} d h q i) o e =
     let X = s .env .now in
@@ -133,7 +138,7 @@ comes (r49 {r = r} {s = s} d h q i) o e =
     record { last = c .last; answered = c .answered; comes-to = fits-then (left-going r h f) (c .comes-to) }
 
 -- so its term generates nothing beyond them
-closed : {t : Term} {r : Result} → Comes t r → settle root t (r .env .now) .gens ⊆ r .env .now
+closed : {t : Term} {r : Result} {w : Option Wait} → Comes t r w → settle root t (r .env .now) .gens ⊆ r .env .now
 closed {t} {r} c n g = go (r .env .now n) (settle root t (r .env .now) .gens n) (c .comes-to .events n) g
   where
     go : (x y : Bool) → (x || y) ≡ (x || false) → y ≡ true → x ≡ true
@@ -149,7 +154,7 @@ both-within {X} {Y} h k = fun-ext (λ n. go (X n) (Y n) (h n) (k n))
     go false false h k = refl
 
 -- with the same finished events all is the same
-same-outcome : {t : Term} {r s : Result} → Comes t r → Comes t s → r .env .now ≡ s .env .now → SameOutcome r s
+same-outcome : {t : Term} {r s : Result} {v w : Option Wait} → Comes t r v → Comes t s w → r .env .now ≡ s .env .now → SameOutcome r s
 same-outcome {t} {r} {s} c d e =
     let o : settle root t (r .env .now) ≡ settle root t (s .env .now) = ap (settle root t) e in
     let flags = sym (c .comes-to .flags) ∙ (ap (λ x. x .flag) o ∙ d .comes-to .flags) in
@@ -165,18 +170,21 @@ same-outcome {t} {r} {s} c d e =
     }
 
 -- any two instants from one state and environment, each by its own rules, wherever the state stands
-pub same-in-any-order : {free free′ : Allowed} {t : Term} {E : Env} {n m : ℕ} {r s : Result}
-    → Instant free t E n r
-    → Instant free′ t E m s
-    → LoopsStop (prog t)
-    → E .eoi ≡ false
-    → SameOutcome r s
-same-in-any-order {r = r} {s} i j o e =
-    let c = comes i o e in
-    let d = comes j o e in
-    let h = stays-within i o e (s .env .now) (reported j) (closed d) in
-    let k = stays-within j o e (r .env .now) (reported i) (closed c) in
-    same-outcome c d (both-within h k)
+module _ {free free′ : Allowed} {t : Term} {E : Env} {n m : ℕ} {r s : Result} (i : Instant free t E n r) (j : Instant free′ t E m s)
+    (o : LoopsStop (prog t)) (e : E .eoi ≡ false) where
+  same-events : r .env .now ≡ s .env .now
+  same-events =
+      both-within
+      (stays-within i o e (s .env .now) (reported j) (closed (comes j o e)))
+      (stays-within j o e (r .env .now) (reported i) (closed (comes i o e)))
+
+  pub same-in-any-order : SameOutcome r s
+  same-in-any-order = same-outcome (comes i o e) (comes j o e) same-events
+
+  -- the same test waits when the end is declared, for the same event, or the end isn't declared in either
+  pub waits-in-any-order : waited i ≡ waited j
+  waits-in-any-order =
+      sym (comes i o e .comes-to .waits) ∙ (ap (λ X. settle root t X .wait) same-events ∙ comes j o e .comes-to .waits)
 
 -- once the end is declared one pass is left
 last-pass : {k : ℕ} {t u : Term} {E F : Env}
@@ -222,6 +230,7 @@ order-free t X o a = record {
   ends = λ p. let (n, r, i, z) = goes-to-end p o (rest-going X t a) refl in (n, r, i, omega (arith, pot-at-rest (per 7) t a));
   soon = λ i. within-passes i o a;
   same = λ i j. same-in-any-order i j o refl;
+  same-wait = λ i j. waits-in-any-order i j o refl;
 }
 
 pub passes-differ : PassesDiffer

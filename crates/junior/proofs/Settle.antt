@@ -5,9 +5,10 @@ use mathlib.Core.Bool.{Bool, true, false, cond, _&&_, _||_, and-eq-true-iff, fal
 use mathlib.Core.Path.{_≡_, refl, ap, _∙_, fun-ext}
 use mathlib.Core.Logic.{_≢_}
 use mathlib.Core.List.{[], _∷_}
+use mathlib.Core.Option.{Option, none, some}
 use native.Mathlib.Omega.{arith}
 use lib.Dec.{leb}
-use Rattle.events.specs.Events.{Events, none, put}
+use Rattle.events.specs.Events.{Events, none as no-event, put}
 use Rattle.junior.specs.declared.Flag.{Flag}
 use Rattle.junior.specs.declared.Flag.the-variants.{SUSP, STOP, TERM}
 use Rattle.junior.specs.declared.Verdict.{Verdict}
@@ -22,38 +23,51 @@ use Rattle.junior.specs.Term.{fresh, leave}
 use Rattle.junior.specs.Rules.{again}
 use Rattle.junior.specs.Figures.{only-if, stops}
 use Rattle.junior.specs.Trace.{Place, first, second, inside}
+use Rattle.junior.specs.Waited.{lacks, Wait, waits-for}
 use Rattle.junior.specs.Order.{often, tells}
 use Rattle.junior.proofs.Little.{SUSP≢TERM, STOP≢TERM}
 use Rattle.junior.proofs.Kept.{prog-fresh}
 use Rattle.junior.proofs.Verdicts.{sat-early, unsat-early}
 use Rattle.junior.proofs.Held.{needed}
+use Rattle.junior.proofs.WayDown.{branch-that-waits, or-else}
 
--- what comes of a term: its flag, what it leaves, the events it generates, how often it does each atom, at which nodes it decides tests and how
+-- what comes of a term: its flag, what it leaves, the events it generates, how often it does each atom, at which nodes it decides tests and how,
+-- and the first test, with its event, that waits for the end
 pub record Out : Type 0 where
   pub flag : Flag
   pub to : Term
   pub gens : Events
   pub hits : ℕ → ℕ
   pub tests : ℕ → Bool → Bool
+  pub wait : Option Wait
 
-abbrev pub out : Flag → Term → Events → (ℕ → ℕ) → (ℕ → Bool → Bool) → Out
-out α t g h d = record { flag = α; to = t; gens = g; hits = h; tests = d }
+abbrev pub out : Flag → Term → Events → (ℕ → ℕ) → (ℕ → Bool → Bool) → Option Wait → Out
+out α t g h d w = record { flag = α; to = t; gens = g; hits = h; tests = d; wait = w }
 
--- it does nothing
+-- it does nothing; w is what it waits for, if for anything
+abbrev pub held-by : Option Wait → Flag → Term → Out
+held-by w α t = out α t no-event (λ a. 0) (λ n b. false) w
+
 abbrev pub idle : Flag → Term → Out
-idle α t = out α t none (λ a. 0) (λ n b. false)
+idle α t = held-by none α t
 
 -- it comes to p after what o does; so a node around a part, h saying what comes of the part's answer
 abbrev pub plus : Out → Out → Out
 plus o p =
-    out (p .flag) (p .to) (λ n. o .gens n || p .gens n) (λ a. o .hits a + p .hits a) (λ n b. o .tests n b || p .tests n b)
+    out
+    (p .flag)
+    (p .to)
+    (λ n. o .gens n || p .gens n)
+    (λ a. o .hits a + p .hits a)
+    (λ n b. o .tests n b || p .tests n b)
+    (or-else (o .wait) (p .wait))
 
 unfoldable pub bind : Out → (Flag → Term → Out) → Out
 bind o h = plus o (h (o .flag) (o .to))
 
 -- it comes to o once the test at P is decided as v
 unfoldable pub says : Place → Bool → Out → Out
-says P v o = out (o .flag) (o .to) (o .gens) (o .hits) (λ n b. tells P v n b || o .tests n b)
+says P v o = out (o .flag) (o .to) (o .gens) (o .hits) (λ n b. tells P v n b || o .tests n b) (o .wait)
 
 -- the node f, answering as its part
 abbrev pub around : (Term → Term) → Flag → Term → Out
@@ -65,26 +79,30 @@ once-ended f k SUSP t = idle SUSP (f t)
 once-ended f k STOP t = idle STOP (f t)
 once-ended f k TERM t = k
 
--- by the verdict of the test at P; where it is unknown, by its value at the end
-abbrev pub tested : Place → Verdict → Out → Out → Bool → Term → Term → Out
-tested P Sat o p b t u = says P true o
-tested P Unsat o p b t u = says P false p
-tested P Unknown o p b t u = says P b (idle SUSP (cond b t u))
+-- by the verdict of the test at P; where it is unknown it waits, as w says, and goes by its value at the end
+abbrev pub tested : Place → Verdict → Out → Out → Option Wait → Bool → Term → Term → Out
+tested P Sat o p w b t u = says P true o
+tested P Unsat o p w b t u = says P false p
+tested P Unknown o p w b t u = says P b (held-by w SUSP (cond b t u))
 
 -- how a configuration reads in X before the end
 abbrev pub reads : Config → Events → Verdict
 reads c X = test c (handed-in X)
 
--- an Until at P whose body stopped at t, o being what comes of its handler, v and b how its test reads, before the end and at it
-unfoldable pub handled : Place → Config → Program → Out → Bool → Verdict → Term → Out
-handled P c q o b v t =
-    tested P v (bind o (around (until2 c (prog t)))) (idle STOP (until0 c t q)) b (until2 c (prog t) (fresh q)) (until0 c t q)
+-- the wait of a test at P that is unknown
+abbrev pub own-wait : Place → Config → Events → Option Wait
+own-wait P c X = waits-for (P .node) (lacks c X)
 
--- an Until, by its body's answer: a body that waits stops at the end, and the test is read then
-abbrev pub once-stopped : Place → Config → Program → Out → Bool → Verdict → Flag → Term → Out
-once-stopped P c q o b v SUSP t = handled P c q o b Unknown t
-once-stopped P c q o b v STOP t = handled P c q o b v t
-once-stopped P c q o b v TERM t = idle TERM (done (Until c (prog t) q))
+-- an Until at P whose body stopped at t, o being what comes of its handler, v and b how its test reads, before the end and at it
+unfoldable pub handled : Place → Config → Program → Out → Option Wait → Bool → Verdict → Term → Out
+handled P c q o w b v t =
+    tested P v (bind o (around (until2 c (prog t)))) (idle STOP (until0 c t q)) w b (until2 c (prog t) (fresh q)) (until0 c t q)
+
+-- an Until, by its body's answer: a body that waits stops at the end, and the test is read then, so that the wait is the body's
+abbrev pub once-stopped : Place → Config → Program → Out → Option Wait → Bool → Verdict → Flag → Term → Out
+once-stopped P c q o w b v SUSP t = handled P c q o none b Unknown t
+once-stopped P c q o w b v STOP t = handled P c q o w b v t
+once-stopped P c q o w b v TERM t = idle TERM (done (Until c (prog t) q))
 
 -- a branch of a Par by its flag: it has answered already, or it runs
 abbrev pub branch : Flag → Term → Out → Out
@@ -110,20 +128,21 @@ join o p =
     (λ n. o .gens n || p .gens n)
     (λ a. o .hits a + p .hits a)
     (λ n b. o .tests n b || p .tests n b)
+    (branch-that-waits (o .flag) (o .wait) (p .wait))
 
 -- a Repeat(n) of p with k runs due, o being what comes of one
 unfoldable pub repeated : ℕ → ℕ → Program → Out → Out
 repeated n zero p o = idle TERM (done (Repeat n p))
 repeated n (suc k) p o = bind o (once-ended (repeat1 n k) (repeated n k p o))
 
--- a Control of s at P around t, by whether its event is present
+-- a Control of s at P around t, by whether its event is present: if not it waits for it itself
 unfoldable pub steered : Place → Bool → ℕ → Term → Out → Out
 steered P true s t o = says P true (bind o (around (control s)))
-steered P false s t o = says P false (idle SUSP (control s t))
+steered P false s t o = says P false (held-by (some (record { node = P .node; event = s })) SUSP (control s t))
 
 -- a Local around o: its event stays inside
 unfoldable pub hidden : ℕ → Out → Out
-hidden s o = out (o .flag) (leave (o .flag) (local false s (o .to))) (put s false (o .gens)) (o .hits) (o .tests)
+hidden s o = out (o .flag) (leave (o .flag) (local false s (o .to))) (put s false (o .gens)) (o .hits) (o .tests) (o .wait)
 
 -- its event is present in the end exactly if it was, or if the body, F, generates it without it
 unfoldable pub scoped : Bool → ℕ → (Events → Out) → Events → Out
@@ -133,26 +152,28 @@ scoped b s F X = hidden s (F (put s (b || F (put s false X) .gens s) X))
 unfoldable pub starts : Place → Program → Events → Out
 starts P Nothing X = idle TERM (done Nothing)
 starts P Stop X = idle STOP (done Stop)
-starts P (Atom a) X = out TERM (done (Atom a)) none (λ n. often n (a ∷ [])) (λ n b. false)
+starts P (Atom a) X = out TERM (done (Atom a)) no-event (λ n. often n (a ∷ [])) (λ n b. false) none
 starts P (Seq p q) X =
     bind (starts (first P) p X) (once-ended (λ x. seq0 x q) (bind (starts (second P p) q X) (around (seq2 p))))
 starts P (Par p q) X = join (starts (first P) p X) (starts (second P p) q X)
 -- that the body ends at once can't be: any answer but TERM does
 starts P (Loop p) X = bind (starts (first P) p X) (once-ended loop1 (idle STOP (loop0 p)))
 starts P (Repeat n p) X = repeated n n p (starts (first P) p X)
-starts P (Generate s) X = out TERM (done (Generate s)) (put s true none) (λ a. 0) (λ n b. false)
+starts P (Generate s) X = out TERM (done (Generate s)) (put s true no-event) (λ a. 0) (λ n b. false) none
 starts P (Await c) X =
-    tested P (reads c X) (idle TERM (done (Await c))) (idle STOP (await c)) (eval c X) (done (Await c)) (await c)
+    tested P (reads c X) (idle TERM (done (Await c))) (idle STOP (await c)) (own-wait P c X) (eval c X) (done (Await c)) (await c)
 starts P (When c p q) X =
     tested
     P
     (reads c X)
     (bind (starts (first P) p X) (around (λ x. when1 c x q)))
     (bind (starts (second P p) q X) (around (when2 c p)))
+    (own-wait P c X)
     (eval c X)
     (when1 c (fresh p) q)
     (when2 c p (fresh q))
-starts P (Until c p q) X = bind (starts (first P) p X) (once-stopped P c q (starts (second P p) q X) (eval c X) (reads c X))
+starts P (Until c p q) X =
+    bind (starts (first P) p X) (once-stopped P c q (starts (second P p) q X) (own-wait P c X) (eval c X) (reads c X))
 starts P (Control s p) X = steered P (X s) s (fresh p) (starts (first P) p X)
 starts P (Local s p) X = scoped false s (starts (inside s P) p) X
 
@@ -177,8 +198,8 @@ settle P (when0 c p q) X = starts P (When c p q) X
 settle P (when1 c t q) X = bind (settle (first P) t X) (around (λ x. when1 c x q))
 settle P (when2 c p t) X = bind (settle (second P p) t X) (around (when2 c p))
 settle P (until0 c t q) X =
-    bind (settle (first P) t X) (once-stopped P c q (starts (second P (prog t)) q X) (eval c X) (reads c X))
-settle P (until* c t q) X = handled P c q (starts (second P (prog t)) q X) (eval c X) (reads c X) t
+    bind (settle (first P) t X) (once-stopped P c q (starts (second P (prog t)) q X) (own-wait P c X) (eval c X) (reads c X))
+settle P (until* c t q) X = handled P c q (starts (second P (prog t)) q X) (own-wait P c X) (eval c X) (reads c X) t
 settle P (until2 c p t) X = bind (settle (second P p) t X) (around (until2 c p))
 settle P (control s t) X = steered P (X s) s t (settle (first P) t X)
 settle P (local b s t) X = scoped b s (settle (inside s P) t) X
@@ -187,7 +208,7 @@ settle P (local b s t) X = scoped b s (settle (inside s P) t) X
 pub bind-idle : (α : Flag) (t : Term) (h : Flag → Term → Out) → bind (idle α t) h ≡ h α t
 unfolding bind
 bind-idle α t h =
-    ap (λ k. out (h α t .flag) (h α t .to) (h α t .gens) k (h α t .tests)) (fun-ext (λ a. omega arith))
+    ap (λ k. out (h α t .flag) (h α t .to) (h α t .gens) k (h α t .tests) (h α t .wait)) (fun-ext (λ a. omega arith))
 
 -- a Control whose event is present
 pub steered-on : (P : Place) (X : Events) (s : ℕ) (t : Term)
@@ -215,7 +236,9 @@ settle-fresh P (Generate s) X = refl
 settle-fresh P (Await c) X = refl
 settle-fresh P (When c p q) X = refl
 settle-fresh P (Until c p q) X =
-    λ i. bind (settle-fresh (first P) p X i) (once-stopped P c q (starts (second P (prog-fresh p i)) q X) (eval c X) (reads c X))
+    λ i. bind (settle-fresh (first P) p X i) (
+    once-stopped P c q (starts (second P (prog-fresh p i)) q X) (own-wait P c X) (eval c X) (reads c X)
+    )
 settle-fresh P (Control s p) X = λ i. steered P (X s) s (fresh p) (settle-fresh (first P) p X i)
 settle-fresh P (Local s p) X = λ i. scoped false s (λ Y. settle-fresh (inside s P) p Y i) X
 
@@ -236,24 +259,24 @@ once-unended f k SUSP t h = SUSP≢TERM
 once-unended f k STOP t h = STOP≢TERM
 once-unended f k TERM t h = h refl
 
-tested-unended : (P : Place) (v : Verdict) (o p : Out) (b : Bool) (t u : Term)
+tested-unended : (P : Place) (v : Verdict) (o p : Out) (w : Option Wait) (b : Bool) (t u : Term)
     → (v ≡ Sat → o .flag ≢ TERM)
     → (v ≡ Unsat → p .flag ≢ TERM)
-    → tested P v o p b t u .flag ≢ TERM
+    → tested P v o p w b t u .flag ≢ TERM
 unfolding says
-tested-unended P Sat o p b t u h k = h refl
-tested-unended P Unsat o p b t u h k = k refl
-tested-unended P Unknown o p b t u h k = SUSP≢TERM
+tested-unended P Sat o p w b t u h k = h refl
+tested-unended P Unsat o p w b t u h k = k refl
+tested-unended P Unknown o p w b t u h k = SUSP≢TERM
 
-stopped-unended : (P : Place) (c : Config) (q : Program) (o : Out) (b : Bool) (v : Verdict) (α : Flag) (t : Term)
+stopped-unended : (P : Place) (c : Config) (q : Program) (o : Out) (w : Option Wait) (b : Bool) (v : Verdict) (α : Flag) (t : Term)
     → α ≢ TERM
     → (v ≡ Sat → o .flag ≢ TERM)
-    → once-stopped P c q o b v α t .flag ≢ TERM
+    → once-stopped P c q o w b v α t .flag ≢ TERM
 unfolding handled bind says
-stopped-unended P c q o b v SUSP t n h = SUSP≢TERM
-stopped-unended P c q o b v STOP t n h =
-    tested-unended P v (bind o (around (until2 c (prog t)))) (idle STOP (until0 c t q)) b _ _ h (λ e. STOP≢TERM)
-stopped-unended P c q o b v TERM t n h = absurd (n refl)
+stopped-unended P c q o w b v SUSP t n h = SUSP≢TERM
+stopped-unended P c q o w b v STOP t n h =
+    tested-unended P v (bind o (around (until2 c (prog t)))) (idle STOP (until0 c t q)) w b _ _ h (λ e. STOP≢TERM)
+stopped-unended P c q o w b v TERM t n h = absurd (n refl)
 
 γ-unended : (α β : Flag) → (α ≡ TERM → β ≢ TERM) → γ α β ≢ TERM
 γ-unended SUSP SUSP h = SUSP≢TERM
@@ -301,18 +324,18 @@ starts-unended P (Loop p) X h =
 starts-unended P (Repeat n p) X h = repeated-unended n n p (starts (first P) p X) h (λ x. starts-unended (first P) p X x)
 starts-unended P (Generate s) X h = absurd (false≢true h)
 starts-unended P (Await c) X h =
-    tested-unended P (reads c X) _ _ (eval c X) _ _ (λ v. absurd (false≢true (rw (sat-early c (handed-in X) refl v) at h))) (λ v. STOP≢TERM)
+    tested-unended P (reads c X) _ _ _ (eval c X) _ _ (λ v. absurd (false≢true (rw (sat-early c (handed-in X) refl v) at h))) (λ v. STOP≢TERM)
 starts-unended P (When c p q) X h =
     let k = and-eq-true-iff (only-if (early-true c) (stops p)) (only-if (early-false c) (stops q)) .0 h in
     let o = bind (starts (first P) p X) (around (λ x. when1 c x q)) in
     let u = bind (starts (second P p) q X) (around (when2 c p)) in
-    tested-unended P (reads c X) o u (eval c X) _ _
+    tested-unended P (reads c X) o u (own-wait P c X) (eval c X) _ _
     (λ v. starts-unended (first P) p X (needed (sat-early c (handed-in X) refl v) (k .0)))
     (λ v. starts-unended (second P p) q X (needed (unsat-early c (handed-in X) refl v) (k .1)))
 starts-unended P (Until c p q) X h =
     let k = and-eq-true-iff (stops p) (only-if (early-true c) (stops q)) .0 h in
     let o = starts (second P p) q X in
-    stopped-unended P c q o (eval c X) (reads c X) _ _
+    stopped-unended P c q o (own-wait P c X) (eval c X) (reads c X) _ _
     (starts-unended (first P) p X (k .0))
     (λ v. starts-unended (second P p) q X (needed (sat-early c (handed-in X) refl v) (k .1)))
 starts-unended P (Control s p) X h = steered-unended P (X s) s (fresh p) _ (starts-unended (first P) p X h)

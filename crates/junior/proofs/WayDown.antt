@@ -37,6 +37,11 @@ branch-that-waits SUSP first second = first
 branch-that-waits STOP first second = second
 branch-that-waits TERM first second = second
 
+pub second-waits : (α : Flag) (v w : Option Wait) → α ≢ SUSP → branch-that-waits α v w ≡ w
+second-waits SUSP v w h = absurd (h refl)
+second-waits STOP v w h = refl
+second-waits TERM v w h = refl
+
 -- t stands at node i, the events X being present
 unfoldable pub waiting-in : ℕ → Term → Events → Option Wait
 waiting-in i (done p) X = none
@@ -158,7 +163,7 @@ par-finds TERM SUSP i t u X v w f a b = rw (a .none-else TERM≢SUSP) (b .waits 
 par-finds TERM STOP i t u X v w f a b = absurd (STOP≢SUSP f)
 par-finds TERM TERM i t u X v w f a b = absurd (TERM≢SUSP f)
 
-or-else-none : (v : Option Wait) → or-else v none ≡ v
+pub or-else-none : (v : Option Wait) → or-else v none ≡ v
 or-else-none none = refl
 or-else-none (some x) = refl
 

@@ -13,11 +13,11 @@ pub mod Inside
 pub mod Decided
 pub mod Activations
 pub mod Demand3
+pub mod Waited
 pub mod Order
 pub mod Printed
 pub mod Visits
 pub mod StoppedBefore
 pub mod NeverRoundTwice
-pub mod Waited
 pub mod L1
 pub mod WaitedSo

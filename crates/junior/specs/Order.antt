@@ -15,6 +15,7 @@ use Rattle.junior.specs.Trace.{Place, root, Act, did-atom, did-generate,
 use Rattle.junior.specs.Rules.{left-first, either-first, Result, Rewrites}
 use Rattle.junior.specs.Instant.{Instant}
 use Rattle.junior.specs.Figures.{G}
+use Rattle.junior.specs.Waited.{waited}
 
 -- the instant so far: so many passes, each suspended, led from t in E to u in F, where the next pass begins
 pub data SoFar : ℕ → Term → Env → Term → Env → Type 0 where
@@ -70,6 +71,11 @@ pub record OrderFree (t : Term) (X : Events) : Type 0 where
       → Instant either-first t (handed-in X) n r
       → Instant either-first t (handed-in X) m s
       → SameOutcome r s
+  -- more than was asked: so is the test that L1 reports, and its event
+  pub same-wait : {n m : ℕ} {r s : Result}
+      (i : Instant either-first t (handed-in X) n r)
+      (j : Instant either-first t (handed-in X) m s)
+      → waited i ≡ waited j
 
 -- "Pass count .. may differ": with nothing handed in this program takes two passes by the kernel's order, and one if its right branch runs first
 abbrev pub waits-for-a-sibling : Program
