@@ -2,16 +2,10 @@
 
 
 def without_order(line):
-    """An answer as far as the order of branches may not change it (L6): an instant's without its passes and what it waits for, its
-    atoms sorted."""
+    """An answer as far as the order of branches may not change it (L6): an instant's without its passes, its atoms sorted."""
     words = line.split(b" ")
     if len(words) != 12:
         return line
-    atoms, state, row = int(words[5]), words[10], words[11]
+    atoms, row = int(words[5]), words[11]
     sorted_atoms = sorted(row[4 * k:4 * k + 4] for k in range(atoms))
-    return b" ".join(words[:7] + [state, b"".join(sorted_atoms) + row[4 * atoms:]])
-
-
-def wait(line):
-    """What the instant of an answer line waits for: node and event."""
-    return line.split(b" ")[8:10]
+    return b" ".join(words[:7] + words[8:11] + [b"".join(sorted_atoms) + row[4 * atoms:]])

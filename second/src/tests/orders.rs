@@ -5,23 +5,20 @@ use crate::make::draft::short::*;
 use crate::make::{edges, orders};
 use crate::words::{event as number, read_hex};
 
-/// What no order may change: event set, finished answer, end state, and the atoms, however ordered.
-type Outcome = (Vec<u8>, bool, Vec<u8>, Vec<u16>);
+/// What no order may change: event set, finished answer, end state, the atoms, however ordered, and, more than L6 asks, what is waited for.
+type Outcome = (Vec<u8>, bool, Vec<u8>, Vec<u16>, Option<Wait>);
 
-/// How an instant went: its passes, and what it waited for.
-type Way = (usize, Option<Wait>);
-
-/// The outcome of an instant and how it went, each Par with two suspended branches asking which one runs first.
-fn outcome(table: &[u8], state: &[u8], handed: Events, second_first: &mut dyn FnMut() -> bool) -> (Outcome, Way) {
+/// The outcome of an instant and its passes, each Par with two suspended branches asking which one runs first.
+fn outcome(table: &[u8], state: &[u8], handed: Events, second_first: &mut dyn FnMut() -> bool) -> (Outcome, usize) {
     let (mut state, mut row) = (state.to_vec(), vec![0; 4_096]);
     let report = instant::in_any_order(table, &mut state, handed, &mut row, second_first).expect("no refusal");
     row.truncate(report.atoms);
     row.sort();
-    ((report.events.rising().collect(), report.finished, state, row), (report.passes, report.waits))
+    ((report.events.rising().collect(), report.finished, state, row, report.waits), report.passes)
 }
 
-/// The outcome of every order and how it went, or of the first so many: each sequence of choices in its turn.
-fn orders_of(table: &[u8], state: &[u8], handed: Events, most: usize) -> Vec<(Outcome, Way)> {
+/// The outcome of every order and its passes, or of the first so many: each sequence of choices in its turn.
+fn orders_of(table: &[u8], state: &[u8], handed: Events, most: usize) -> Vec<(Outcome, usize)> {
     let mut found = vec![];
     let mut choices: Vec<bool> = vec![];
     while found.len() < most {
@@ -45,15 +42,15 @@ fn orders_of(table: &[u8], state: &[u8], handed: Events, most: usize) -> Vec<(Ou
     found
 }
 
-/// A program whose every order in the first instant has this outcome and takes these passes, the first branch first leading.
+/// A program whose every order in the first instant has this outcome, waiting for nothing, and takes these passes, the first branch first leading.
 fn any_order(events: u16, program: Draft, handed: &[u8], wanted: (&[u8], bool, &[u8], &[u16]), passes: &[usize]) {
     let table = Records::new(events, &program).bytes();
     let (present, finished, state, atoms) = wanted;
     let orders = orders_of(&table, &vec![0; state.len()], set(handed), 1_000);
     for (outcome, _) in &orders {
-        assert_eq!(*outcome, (present.to_vec(), finished, state.to_vec(), atoms.to_vec()));
+        assert_eq!(*outcome, (present.to_vec(), finished, state.to_vec(), atoms.to_vec(), None));
     }
-    assert_eq!(orders.iter().map(|(_, (passes, _))| *passes).collect::<Vec<_>>(), passes);
+    assert_eq!(orders.iter().map(|(_, passes)| *passes).collect::<Vec<_>>(), passes);
 }
 
 /// A finished program of this many nodes.
@@ -105,6 +102,15 @@ fn atoms_in_both_orders() {
     }
 }
 
+// The lower node is named, also where the other branch's test was met first. The quiet pass and the pass after the end have a choice each.
+#[test]
+fn waits_in_both_orders() {
+    let table = Records::new(2, &par(wait(event(1)), wait(event(0)))).bytes();
+    let orders = orders_of(&table, &[0; 12], set(&[]), 1_000);
+    assert_eq!(orders.len(), 4);
+    assert!(orders.iter().all(|((.., waits), passes)| *waits == Some(Wait { node: 1, event: 1 }) && *passes == 2));
+}
+
 // L6.1: the choice is made anew in each pass, also in the one after the end; a Par with one suspended branch makes none.
 #[test]
 fn when_a_choice_is_made() {
@@ -132,7 +138,7 @@ fn when_a_choice_is_made() {
 // Every order, or the first 64 of them, of random and edge instants has one outcome; often not in the same passes.
 #[test]
 fn one_outcome() {
-    let (mut instants, mut many, mut unlike) = (0, 0, 0);
+    let (mut instants, mut many, mut unlike, mut waiting) = (0, 0, 0, 0);
     for line in orders::lines(3_000, 4).chain(edges::lines()) {
         let words: Vec<&str> = line.split(' ').collect();
         let ["instant", table, state, events, _] = words[..] else { continue };
@@ -145,9 +151,11 @@ fn one_outcome() {
         assert!(orders.iter().all(|(outcome, _)| *outcome == orders[0].0), "{line}");
         instants += 1;
         many += usize::from(orders.len() > 1);
-        unlike += usize::from(orders.iter().any(|(_, (passes, _))| *passes != orders[0].1 .0));
-        // More than L6 asks: no order was found that waits for something else.
-        assert!(orders.iter().all(|(_, (_, waits))| *waits == orders[0].1 .1), "{line}");
+        unlike += usize::from(orders.iter().any(|(_, passes)| *passes != orders[0].1));
+        waiting += usize::from(orders[0].0 .4.is_some());
     }
-    assert!(instants > 2_500 && many > 1_000 && unlike > 200, "{instants} {many} {unlike}");
+    assert!(
+        instants > 2_500 && many > 1_000 && unlike > 200 && waiting > 1_000,
+        "{instants} {many} {unlike} {waiting}"
+    );
 }
