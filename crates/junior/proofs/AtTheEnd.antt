@@ -3,13 +3,10 @@
 use Prim.Native.Nat.{ℕ, suc}
 use mathlib.Core.Bool.{Bool, true, false, false≢true}
 use mathlib.Core.Path.{_≡_, refl, ap, sym, subst, _∙_}
-use mathlib.Core.Logic.{_≢_}
 use mathlib.Core.List.{List, [], _∷_, _++_, append-assoc, append-nil}
 use mathlib.Core.Option.{Option, none, some}
 use native.Mathlib.Omega.{arith}
 use Rattle.events.specs.Events.{Events}
-use Rattle.junior.specs.declared.Flag.{Flag}
-use Rattle.junior.specs.declared.Flag.the-variants.{SUSP, STOP, TERM}
 use Rattle.junior.specs.Configuration.{Config, Event, Env, eval}
 use Rattle.junior.specs.Term.{Term}
 use Rattle.junior.specs.Trace.{Place, Act, decided, scope-answered}
