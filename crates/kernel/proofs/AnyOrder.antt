@@ -1,12 +1,14 @@
 -- L6 of every answer: by the contract of `instant`, demand 2 and the theorem of the definitions.
 use Prim.Native.Nat.{ℕ}
-use mathlib.Core.Path.{ap, sym, _∙_}
+use mathlib.Core.Path.{refl, ap, sym, _∙_}
 use mathlib.Core.List.{List}
 use Rattle.events.specs.Events.{Events}
+use Rattle.junior.specs.Term.{prog}
+use Rattle.junior.specs.Figures.{LoopsStop}
 use Rattle.junior.specs.Order.{often}
-use Rattle.junior.proofs.Order.{order-free}
+use Rattle.junior.proofs.Order.{waits-in-any-order, order-free}
 use Rattle.kernel.specs.declared.Answer.{Answer}
-use Rattle.kernel.specs.Answer.{ended, Answered}
+use Rattle.kernel.specs.Answer.{ended, nodeOf, eventOf, Answered}
 use Rattle.kernel.specs.Demand2.{Premises}
 use Rattle.kernel.specs.AnyOrder.{AnyOrder}
 use Rattle.kernel.proofs.Accepted.{admitted}
@@ -18,7 +20,8 @@ pub any-order : {t s : List ℕ} {X : Events} {row s′ row′ : List ℕ} {a : 
 any-order {t} {X = X} p o =
     let ran = o .outcome-is ∙ sym (runs p) in
     let r = o .ran ran in
-    let free = order-free (r .term) X (rw (r .program) (admitted t (p .accepted) .loops)) (r .at-rest) in
+    let loops : LoopsStop (prog (r .term)) = rw (r .program) (admitted t (p .accepted) .loops) in
+    let free = order-free (r .term) X loops (r .at-rest) in
     let given = gives p r in
     record {
       ran = ran;
@@ -33,4 +36,7 @@ any-order {t} {X = X} p o =
             end-state = given .next-state ∙ ap stateBytes (same .end-state);
             equally-often = λ n. ap (often n) (given .actions) ∙ same .equally-often n;
           };
+      reports = λ i.
+          let same = waits-in-any-order (r .instant) i loops refl in
+          record { node = r .waits-node-is ∙ ap nodeOf same; event = r .waits-event-is ∙ ap eventOf same };
     }

@@ -11,13 +11,14 @@ use Rattle.junior.specs.Term.{Term}
 use Rattle.junior.specs.Trace.{atoms}
 use Rattle.junior.specs.Rules.{either-first, Result}
 use Rattle.junior.specs.Instant.{Instant}
+use Rattle.junior.specs.Waited.{waited}
 use Rattle.junior.specs.Order.{often, OrderFree}
 use Rattle.table.specs.Records.{nodes}
 use Rattle.state.specs.StateBytes.{stateBytes}
 use Rattle.kernel.specs.declared.Outcome.the-variants.{Ran}
 use Rattle.kernel.specs.declared.Answer.{Answer}
 use Rattle.kernel.specs.Answer.{ended}
-use Rattle.kernel.specs.Demand2.{TermInState}
+use Rattle.kernel.specs.Demand2.{TermInState, Reports}
 
 -- "event set, finished answer and end state are the same for all choices, and .. each atom occurs equally often"
 pub record GivesInAnyOrder (t s′ row′ : List ℕ) (a : Answer) (r : Result) : Type 0 where
@@ -34,3 +35,5 @@ pub record AnyOrder (t s : List ℕ) (X : Events) (s′ row′ : List ℕ) (a : 
   pub order-free : OrderFree term X
   -- and what they agree in is the answer
   pub gives : {n : ℕ} {r : Result} → Instant either-first term (handed-in X) n r → GivesInAnyOrder t s′ row′ a r
+  -- more than was asked: also in the two fields of L1
+  pub reports : {n : ℕ} {r : Result} (i : Instant either-first term (handed-in X) n r) → Reports a (waited i)

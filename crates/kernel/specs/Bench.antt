@@ -364,6 +364,13 @@ more-of-the-forms =
     ∷ accepted (table (par (atom 1) (atom 2)) [] 1) 0 2 3
     (instant [] (ran [] 0 no-event 2 true 1) (1 ∷ 2 ∷ 9 ∷ 9 ∷ []) (room (3 ∷ 0 ∷ 0 ∷ []))
     ∷ [])
+    -- Par(Seq(Await 1, Atom 5), Generate 1), and exchanged: the order of the branches costs a pass, and nothing else (L6)
+    ∷ accepted (table (par (seq (await 0) (atom 5)) (generate 1)) (event 1) 2) 1 1 5
+    (instant [] (ran (1 ∷ []) 1 1 1 true 2) (5 ∷ 9 ∷ 9 ∷ 9 ∷ []) (room (3 ∷ 0 ∷ 0 ∷ 0 ∷ 0 ∷ []))
+    ∷ [])
+    ∷ accepted (table (par (generate 1) (seq (await 0) (atom 5))) (event 1) 2) 1 1 5
+    (instant [] (ran (1 ∷ []) 1 1 1 true 1) (5 ∷ 9 ∷ 9 ∷ 9 ∷ []) (room (3 ∷ 0 ∷ 0 ∷ 0 ∷ 0 ∷ []))
+    ∷ [])
     -- Par(Await 1, Generate 0) with event 0 there already: generating it is a move all the same
     ∷ accepted (table (par (await 0) (generate 0)) (event 1) 2) 1 0 3
     (instant (0 ∷ []) (waiting 1 1 (ran (0 ∷ []) 1 0 0 false 3)) row9 (own 0 8 0 ++ room (0 ∷ 3 ∷ []))
