@@ -572,6 +572,37 @@ tests =
     ∷ accepted (table (par (await 0) (seq (await 0) (await 1))) (event 0 ++ event 1) 2) 0 0 5
     (instant (0 ∷ 1 ∷ []) (ran (0 ∷ 1 ∷ []) 2 0 0 true 1) row9 (room (3 ∷ 0 ∷ 0 ∷ 0 ∷ 0 ∷ []))
     ∷ [])
+    -- fifteen nots of 0, a height of 16 (L4), are a not
+    ∷ accepted (table (await 0) (nots15 (event 0)) 1) 0 0 1
+    (instant (0 ∷ []) (ran (0 ∷ []) 1 0 0 false 1) row9 (room (0 ∷ []))
+    ∷ instant [] (waiting 0 0 (ran [] 0 no-event 0 false 2)) row9 (room (3 ∷ []))
+    ∷ [])
+    -- (0 and 1) or (not (2 or 3)): early sat by its left part; with 2 its right part is false and its left unknown; with none true at the end only
+    ∷ accepted (table (await 0) (either (both (event 0) (event 1)) (no (either (event 2) (event 3)))) 4) 0 0 1
+    (instant (0 ∷ 1 ∷ []) (ran (0 ∷ 1 ∷ []) 2 0 0 true 1) row9 (room (3 ∷ []))
+    ∷ [])
+    ∷ accepted (table (await 0) (either (both (event 0) (event 1)) (no (either (event 2) (event 3)))) 4) 0 0 1
+    (instant (2 ∷ []) (waiting 0 0 (ran (2 ∷ []) 1 2 0 false 2)) row9 (room (0 ∷ []))
+    ∷ instant [] (waiting 0 0 (ran [] 0 no-event 0 false 2)) row9 (room (3 ∷ []))
+    ∷ [])
+    -- 0 and (not 0): with 0 one part is false
+    ∷ accepted (table (await 0) (both (event 0) (no (event 0))) 1) 0 0 1
+    (instant (0 ∷ []) (ran (0 ∷ []) 1 0 0 false 1) row9 (room (0 ∷ []))
+    ∷ instant [] (waiting 0 0 (ran [] 0 no-event 0 false 2)) row9 (room (0 ∷ []))
+    ∷ [])
+    -- 0 or (not 0): before the end nothing about an absent 0 is known
+    ∷ accepted (table (await 0) (either (event 0) (no (event 0))) 1) 0 0 1
+    (instant (0 ∷ []) (ran (0 ∷ []) 1 0 0 true 1) row9 (room (3 ∷ []))
+    ∷ [])
+    ∷ accepted (table (await 0) (either (event 0) (no (event 0))) 1) 0 0 1
+    (instant [] (waiting 0 0 (ran [] 0 no-event 0 false 2)) row9 (room (3 ∷ []))
+    ∷ [])
+    -- Seq(Await(not 0), Await 0), the second test in the middle of the first
+    ∷ accepted (table (seq (await 0) (await 1)) (no (event 0)) 1) 0 0 3
+    (instant (0 ∷ []) (ran (0 ∷ []) 1 0 0 false 1) row9 (room (0 ∷ 0 ∷ 0 ∷ []))
+    ∷ instant [] (waiting 1 0 (ran [] 0 no-event 0 false 2)) row9 (room (0 ∷ 3 ∷ 0 ∷ []))
+    ∷ instant (0 ∷ []) (ran (0 ∷ []) 1 0 0 true 1) row9 (room (3 ∷ 0 ∷ 0 ∷ []))
+    ∷ [])
     ∷ []
 
 -- Loading figures

@@ -9,7 +9,7 @@ use Rattle.letters.specs.Text.{bytes}
 use Rattle.junior.specs.Configuration.{Config, Event, Not, And, Or}
 use Rattle.table.specs.Records.{partKind, partEvent, partSize, secondPart}
 use Rattle.table.specs.Spells.{Configured, weight}
-use Rattle.table.proofs.ByParts.{written, own-inside}
+use Rattle.table.proofs.ByParts.{written, some-record}
 use Rattle.form.specs.Spelling.{spellTest}
 use Rattle.letters.specs.Rooms.{Puts}
 use Rattle.printer.specs.Printing.{Fits, joint, Testable, ShowsTest}
@@ -22,7 +22,7 @@ unlike e other f = other (e ∙ f)
 
 -- its own record lies within the table
 pub test-inside : {t : List ℕ} {c at : ℕ} → Testable t c at → c + 4 ≤ length t
-test-inside {t} {c} h = own-inside t c (h .test, h .there, h .inside)
+test-inside h = omega (arith, h .inside, some-record (h .test))
 
 -- a lone event
 pub event-spelled : (t : List ℕ) (c : ℕ) → partKind t c ≡ 0 → (d : Config) → Configured t c d

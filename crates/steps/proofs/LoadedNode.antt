@@ -1,5 +1,5 @@
 -- What is known of a node of a loaded table: its event has a place, its configuration stands in the table.
-use Prim.Native.Nat.{ℕ, _+_, _*_, _≤_, _<_}
+use Prim.Native.Nat.{ℕ, _+_, _*_, _<_}
 use mathlib.Core.Path.{_≡_, refl}
 use mathlib.Core.List.{List}
 use native.Mathlib.Omega.{arith}
@@ -9,9 +9,8 @@ use Rattle.junior.specs.Configuration.{Config}
 use Rattle.junior.specs.Program.{Program, Repeat, Generate, Await, When, Until, Control, Local, kind}
 use Rattle.table.specs.Records.{configurations, events, argumentAt, sizeAt}
 use Rattle.table.specs.Good.{argumentLimit}
-use Rattle.table.specs.Spells.{Spells, Configured, tested, weight}
+use Rattle.table.specs.Spells.{Spells, Configured, tested}
 use Rattle.table.specs.Inside.{Placed}
-use Rattle.table.proofs.TestParts.{ends-inside}
 use Rattle.table.proofs.Loaded.{root-size, own-node, fine-at}
 use Rattle.steps.specs.Running.{HasTest}
 
@@ -59,12 +58,6 @@ module _ {table : List ℕ} {i : ℕ} {c : Config} {tally : List ℕ} (n : lengt
   pub until-test : {p q : Program} → Placed table i (Until c p q) → HasTest table i tally
   unfolding Spells kind argumentLimit
   until-test h = has-test h refl c (h .spelled .1) n
-
--- a test's configuration ends in the table
-pub test-inside : {table : List ℕ} {i : ℕ} {tally : List ℕ} → HasTest table i tally → (c : Config)
-    → Configured table (tested table i) c → tested table i + 4 * weight c ≤ length table
-test-inside {table} {i} h c s =
-    omega (arith, ends-inside (h .loaded .configurations-good) c {j = argumentAt table i} (record { among = h .tests; there = s }), h .loaded .framed .long)
 
 -- where a test's configuration begins, by the sizes and arguments that the code reads
 pub test-at : {table : List ℕ} {i : ℕ} {tally : List ℕ} → HasTest table i tally → (n a : ℕ) → n ≡ sizeAt table 0

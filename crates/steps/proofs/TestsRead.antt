@@ -14,17 +14,17 @@ use Rattle.table.specs.Records.{argumentAt, partKind, partEvent}
 use Rattle.table.specs.Spells.{tested}
 use Rattle.table.specs.Reading.{ConfigurationAt, ReadAs}
 use Rattle.steps.specs.Running.{TestRead}
-use Rattle.steps.proofs.LoadedNode.{test-inside}
 use Rattle.steps.specs.Numbers.{moved-at, ended-at, base-at, wordsOf, tallyOf}
 use Rattle.steps.specs.Tests.{CanTest, loneEvent}
 use Rattle.table.proofs.ByParts.{mark-in-words}
+use Rattle.table.proofs.Spelled.{configuration-there}
 
 module _ {table : List ℕ} {i : ℕ} {m : List ℕ} (h : CanTest table i m) where
   pub test-here : (a : ℕ) → a ≡ argumentAt table i → getD m base-at 0 + 4 * a ≡ tested table i
   test-here a e = omega (arith, h .row .base)
 
   pub test-stands : ConfigurationAt table (tested table i)
-  test-stands = let (c, s) = h .has .spelled in (c, s, test-inside (h .has) c s)
+  test-stands = configuration-there table (h .has .loaded .configurations-good) (h .has .loaded .framed) (argumentAt table i) (h .has .tests)
 
 module _ {table : List ℕ} {i : ℕ} {m : List ℕ} (h : CanTest table i m) {c : ℕ} (at : c ≡ tested table i) where
   -- whether it is a lone event, read at a node that isn't in phase 3

@@ -1,4 +1,4 @@
--- Reading a configuration by its parts: what stands at its parts, that these are smaller, and the rank of the whole.
+-- Verdicts as ranks: of an event, a not, an and, an or, and what a rank is read as; how many records a configuration has.
 use Prim.Native.Nat.{ℕ, _+_, _-_, _*_, _/_, _≤_, _<_, min, max}
 use mathlib.Core.Bool.{Bool, true, false, cond, _||_}
 use mathlib.Core.Path.{_≡_, refl, sym, ap, _∙_}
@@ -10,11 +10,11 @@ use Rattle.events.specs.Members.{places, marks}
 use Rattle.junior.specs.declared.Verdict.{Verdict}
 use Rattle.junior.specs.declared.Verdict.the-variants.{Sat, Unsat, Unknown}
 use Rattle.junior.specs.Configuration.{Config, Event, Not, And, Or, Env, verdict, test}
-use Rattle.junior.proofs.Verdicts.{not₃, and₃, or₃, test-event, test-not, test-and, test-or}
+use Rattle.junior.proofs.Verdicts.{not₃, and₃, or₃, test-event}
 use Rattle.table.specs.Records.{partKind, partEvent, partSize, secondPart}
 use Rattle.table.specs.Spells.{Configured, weight}
 use Rattle.table.specs.Reading.{ConfigurationAt, event-words, environment, ReadAs}
-use Rattle.table.specs.Inside.Ranks.{rank, unranked, absentRank, joinedRank, RanksAs, IsAbsentRank}
+use Rattle.table.specs.Inside.Ranks.{rank, unranked, absentRank, RanksAs, IsAbsentRank}
 
 -- the written size is the number of records
 pub written : (t : List ℕ) (c : ℕ) (d : Config) → Configured t c d → partSize t c ≡ weight d
@@ -33,37 +33,7 @@ some-record (Or d e) = omega arith
 
 -- a configuration's own record lies within the table
 pub own-inside : (t : List ℕ) (c : ℕ) → ConfigurationAt t c → c + 4 ≤ length t
-own-inside t c (d, h, l) = omega (arith, some-record d)
-
--- a part stands within the table and is smaller
-pub record Part (t : List ℕ) (c b : ℕ) : Type 0 where
-  pub there : ConfigurationAt t b
-  pub less : partSize t b < partSize t c
-
-pub first-part : (t : List ℕ) (c : ℕ) → ConfigurationAt t c → (partKind t c ≡ 0 → ⊥) → Part t c (c + 4)
-unfolding Configured weight
-first-part t c (Event s, h, l) k = absurd (k (h .0))
-first-part t c (Not d, h, l) k =
-    record { there = (d, h .2, omega arith); less = omega (arith, written t (c + 4) d (h .2), h .1) }
-first-part t c (And d e, h, l) k =
-    record { there = (d, h .2, omega arith); less = omega (arith, written t (c + 4) d (h .2), h .1, some-record e) }
-first-part t c (Or d e, h, l) k =
-    record { there = (d, h .2, omega arith); less = omega (arith, written t (c + 4) d (h .2), h .1, some-record e) }
-
-pub second-part : (t : List ℕ) (c : ℕ)
-    → ConfigurationAt t c
-    → (partKind t c ≡ 0 → ⊥)
-    → (partKind t c ≡ 1 → ⊥)
-    → Part t c (secondPart t c)
-unfolding Configured weight
-second-part t c (Event s, h, l) k n = absurd (k (h .0))
-second-part t c (Not d, h, l) k n = absurd (n (h .0))
-second-part t c (And d e, h, l) k n =
-    let w = written t (c + 4) d (h .2) in
-    record { there = (e, h .3, omega arith); less = omega (arith, written t (secondPart t c) e (h .3), h .1, some-record d) }
-second-part t c (Or d e, h, l) k n =
-    let w = written t (c + 4) d (h .2) in
-    record { there = (e, h .3, omega arith); less = omega (arith, written t (secondPart t c) e (h .3), h .1, some-record d) }
+own-inside t c (d, h, l, k) = omega (arith, some-record d)
 
 -- what stands at byte c, by its kind
 data MadeOf (t : List ℕ) (c : ℕ) : ℕ → Config → Type 0 where
@@ -85,12 +55,12 @@ rank-event true ended = refl
 rank-event false true = refl
 rank-event false false = refl
 
-rank-not : (v : Verdict) → 2 - rank v ≡ rank (not₃ v)
+pub rank-not : (v : Verdict) → 2 - rank v ≡ rank (not₃ v)
 rank-not Sat = refl
 rank-not Unsat = refl
 rank-not Unknown = refl
 
-rank-and : (v w : Verdict) → min (rank v) (rank w) ≡ rank (and₃ v w)
+pub rank-and : (v w : Verdict) → min (rank v) (rank w) ≡ rank (and₃ v w)
 rank-and Sat Sat = refl
 rank-and Sat Unsat = refl
 rank-and Sat Unknown = refl
@@ -101,7 +71,7 @@ rank-and Unknown Sat = refl
 rank-and Unknown Unsat = refl
 rank-and Unknown Unknown = refl
 
-rank-or : (v w : Verdict) → max (rank v) (rank w) ≡ rank (or₃ v w)
+pub rank-or : (v w : Verdict) → max (rank v) (rank w) ≡ rank (or₃ v w)
 rank-or Sat Sat = refl
 rank-or Sat Unsat = refl
 rank-or Sat Unknown = refl
@@ -112,7 +82,7 @@ rank-or Unknown Sat = refl
 rank-or Unknown Unsat = refl
 rank-or Unknown Unknown = refl
 
-rank-most : (v : Verdict) → rank v ≤ 2
+pub rank-most : (v : Verdict) → rank v ≤ 2
 rank-most Sat = omega arith
 rank-most Unsat = omega arith
 rank-most Unknown = omega arith
@@ -131,7 +101,7 @@ mark-in-words numbers e l = let h : e / 64 < event-words = omega arith in rw (ge
 module _ (t : List ℕ) (c : ℕ) (numbers : List ℕ) (absent : ℕ) where
   -- a rank is at most 2
   pub ranks-most : (r : ℕ) → ConfigurationAt t c → IsAbsentRank absent → RanksAs t c numbers absent r → r ≤ 2
-  ranks-most r (d, h, l) (ended, a) f = rw (f d ended false h a) (rank-most (test d (environment numbers ended false)))
+  ranks-most r (d, h, l, k) (ended, a) f = rw (f d ended false h a) (rank-most (test d (environment numbers ended false)))
 
   pub ranks-read : (r : ℕ) (v : Verdict) (ended : Bool) → RanksAs t c numbers absent r → absent ≡ absentRank ended
       → v ≡ unranked r → ReadAs t c numbers ended v
@@ -147,46 +117,3 @@ module _ (t : List ℕ) (c : ℕ) (numbers : List ℕ) (absent : ℕ) where
 
       go : {d : Config} → MadeOf t c 0 d → cond (marks (take event-words numbers) n) 2 absent ≡ rank (test d E)
       go (event {s} g) = rw (f, g, a, test-event s E) (rank-event (marks (take event-words numbers) s) ended)
-
-  pub ranks-not : (f : ℕ) → partKind t c ≡ 1 → RanksAs t (c + 4) numbers absent f → RanksAs t c numbers absent (2 - f)
-  ranks-not f k first d ended moved h a = go (made-of d k h)
-    where
-      E : Env
-      E = environment numbers ended moved
-
-      go : {d : Config} → MadeOf t c 1 d → 2 - f ≡ rank (test d E)
-      go (negation {d} e) = rw (test-not d E, first d ended moved e a) (rank-not (test d E))
-
-  module _ (f : ℕ) (not-event : partKind t c ≡ 0 → ⊥) (not-not : partKind t c ≡ 1 → ⊥)
-      (first : RanksAs t (c + 4) numbers absent f) where
-    pub ranks-both : (k g r : ℕ) → k ≡ partKind t c → RanksAs t (secondPart t c) numbers absent g → r ≡ joinedRank k f g
-        → RanksAs t c numbers absent r
-    ranks-both k g r same second e d ended moved h a = e ∙ rw same (go not-event not-not (made-of d refl h))
-      where
-        E : Env
-        E = environment numbers ended moved
-
-        go : {k : ℕ} {d : Config} → (k ≡ 0 → ⊥) → (k ≡ 1 → ⊥) → MadeOf t c k d → joinedRank k f g ≡ rank (test d E)
-        go n m (event e) = absurd (n refl)
-        go n m (negation e) = absurd (m refl)
-        go n m (conjunction {d} {e} x y) =
-            rw (test-and d e E, first d ended moved x a, second e ended moved y a) (rank-and (test d E) (test e E))
-        go n m (disjunction {d} {e} x y) =
-            rw (test-or d e E, first d ended moved x a, second e ended moved y a) (rank-or (test d E) (test e E))
-
-    -- the first part decides an and by 0, an or by 2
-    pub ranks-first : f ≡ 2 * (partKind t c - 2) → RanksAs t c numbers absent f
-    ranks-first decided d ended moved h a = go not-event not-not decided (made-of d refl h)
-      where
-        E : Env
-        E = environment numbers ended moved
-
-        go : {k : ℕ} {d : Config} → (k ≡ 0 → ⊥) → (k ≡ 1 → ⊥) → f ≡ 2 * (k - 2) → MadeOf t c k d → f ≡ rank (test d E)
-        go n m z (event e) = absurd (n refl)
-        go n m z (negation e) = absurd (m refl)
-        go n m z (conjunction {d} {e} x y) =
-            rw (test-and d e E) (omega (arith, rank-and (test d E) (test e E), first d ended moved x a))
-        go n m z (disjunction {d} {e} x y) =
-            rw
-            (test-or d e E)
-            (omega (arith, rank-or (test d E) (test e E), rank-most (test e E), first d ended moved x a))

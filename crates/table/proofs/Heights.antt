@@ -1,17 +1,15 @@
--- Heights of configurations: what a good record's height asks of its parts', that a height at most h is at most any more, and
--- where the parts begin.
-use Prim.Native.Nat.{ℕ, zero, suc, _+_, _-_, _*_, _≤_, _<_}
+-- Heights of configurations: what a good record's height asks of its parts', and that a height at most h is at most any more.
+use Prim.Native.Nat.{ℕ, zero, suc, _+_, _-_, _≤_}
 use mathlib.Core.Bool.{Bool, true, false, cond, _&&_, false≢true}
-use mathlib.Core.Path.{_≡_, refl, ap, _∙_}
+use mathlib.Core.Path.{_≡_, refl, ap}
 use mathlib.Core.List.{List}
 use native.Mathlib.Omega.{arith}
 use lib.Dec.{eqb, eqb·suc-zero, eqb·suc-suc}
 use borrow.Author.Tests.{eqb-true}
-use Rattle.table.specs.Records.{configurations, partKind, partSize}
+use Rattle.table.specs.Records.{partKind}
 use Rattle.table.specs.Good.{parts, goodButHeight, ofParts, heightAtMost, goodConfiguration}
 use Rattle.table.specs.Inside.{Begins}
-use Rattle.table.proofs.Laid.{both, sizeOf, kindOf, Laid, none, one, two, fine}
-use Rattle.table.proofs.OwnBytes.{first-at, second-at}
+use Rattle.table.proofs.Laid.{both, sizeOf, kindOf}
 
 -- the height of a good record with that many parts
 pub height-good : (t : List ℕ) (h j p : ℕ) → goodButHeight t j ≡ true → parts (kindOf t j) ≡ p
@@ -84,28 +82,6 @@ few-parts {t} {c} {j} b e = rw e (go (goodButHeight t j) (eqb (partKind t c) 0) 
     go true false true = omega arith
     go true false false = omega arith
     go false x y = omega arith
-
--- where the parts of configuration j begin; r is how many parts it has, or 0 if it isn't good but for its height
-pub record Parted (t : List ℕ) (c j r : ℕ) : Type 0 where
-  pub first : Begins t (c + 4) (j + 1)
-  pub second : (r ≡ 1 → ⊥) → Begins t (c + 4 + 4 * partSize t (c + 4)) (j + 1 + sizeOf t (j + 1))
-
-pub parted : (t : List ℕ) (c j r : ℕ) → Begins t c j → r ≡ cond (goodButHeight t j) (parts (partKind t c)) 0
-    → (r ≡ 0 → ⊥) → Parted t c j r
-parted t c j r b e n = go (goodButHeight t j) refl
-  where
-    laid : (p : ℕ) → Laid (sizeOf t) (configurations t) j p → r ≡ p → Parted t c j r
-    laid p (none s) h = absurd (n h)
-    laid p (one l s) h = record { first = record { at = first-at t c j (b .at); among = l; long = b .long }; second = λ m. absurd (m h) }
-    laid p (two l m s) h =
-        record {
-          first = record { at = first-at t c j (b .at); among = l; long = b .long };
-          second = λ k. record { at = second-at t c j (b .at); among = m; long = b .long };
-        }
-
-    go : (g : Bool) → goodButHeight t j ≡ g → Parted t c j r
-    go true g = laid (parts (kindOf t j)) (fine t j (kindOf t j) refl g .laid-out) (rw (g, b .at) at e)
-    go false g = absurd (n (rw g at e))
 
 by-parts : (p : ℕ) (a b : Bool) → ofParts p a b ≡ cond (eqb p 0) true (cond a (cond (eqb p 1) true b) false)
 by-parts zero a b = refl

@@ -6,9 +6,12 @@ pub mod Framing
 pub mod OwnBytes
 pub mod Heights
 pub mod WayNumbers
+pub mod LowWays
 pub mod Passing
 pub mod Spelled
 pub mod ByParts
+pub mod OpenLevels
+pub mod Within
 pub mod Parts
 pub mod Grown
 pub mod OneTree

@@ -8,7 +8,7 @@ use Rattle.junior.specs.Configuration.{Config, Event, Not, And, Or}
 use Rattle.table.specs.Records.{configurations, configurationAt, partKind, partSize, secondPart}
 use Rattle.table.specs.Good.{parts, goodButHeight, ofParts, heightAtMost, goodConfiguration}
 use Rattle.table.specs.Spells.{weight, Configured, configurationOf}
-use Rattle.table.specs.Reading.{ConfigurationAt}
+use Rattle.table.specs.Reading.{height, ConfigurationAt}
 use Rattle.table.specs.Inside.{Framed, ConfigurationsGood}
 use Rattle.table.proofs.Laid.{both, Laid, none, one, two, Kind, event, negation, conjunction, disjunction}
 use Rattle.table.proofs.Laid.{fine}
@@ -21,6 +21,7 @@ record Found (t : List ℕ) (h c j : ℕ) : Type 0 where
   configured : Configured t c (configurationOf t h c)
   weighs : weight (configurationOf t h c) ≡ partSize t c
   ends : j + partSize t c ≤ configurations t
+  low : height (configurationOf t h c) ≤ h
 
 -- the same of all configurations
 abbrev Below : List ℕ → ℕ → Type 0
@@ -32,6 +33,8 @@ record Both (t : List ℕ) (h c j : ℕ) : Type 0 where
   second : Configured t (secondPart t c) (configurationOf t h (secondPart t c))
   size : partSize t c ≡ 1 + weight (configurationOf t h (c + 4)) + weight (configurationOf t h (secondPart t c))
   ends : j + partSize t c ≤ configurations t
+  first-low : height (configurationOf t h (c + 4)) ≤ h
+  second-low : height (configurationOf t h (secondPart t c)) ≤ h
 
 both-found : (t : List ℕ) (h c j p : ℕ) → c ≡ configurationAt t j → Laid (sizeOf t) (configurations t) j (suc (suc p))
     → (heightAtMost t h (j + 1) && heightAtMost t h (j + 1 + sizeOf t (j + 1))) ≡ true → Below t h → Both t h c j
@@ -42,27 +45,59 @@ both-found t h c j p e (two i m s) low below =
     let one = ap (partSize t) (first-at t c j e) in
     let two = ap (partSize t) (second-at t c j e) in
     let all : partSize t c ≡ 1 + partSize t (c + 4) + partSize t (secondPart t c) = cc in
-    record { first = f .configured; second = g .configured; size = omega arith; ends = omega arith }
+    let a = f .weighs in
+    let b = g .weighs in
+    let z = g .ends in
+    record {
+      first = f .configured;
+      second = g .configured;
+      size = omega arith;
+      ends = omega arith;
+      first-low = f .low;
+      second-low = g .low;
+    }
 
 found-at : (t : List ℕ) (h c j k : ℕ) → c ≡ configurationAt t j → j < configurations t → partKind t c ≡ k → Kind k
     → Laid (sizeOf t) (configurations t) j (parts k)
     → ofParts (parts k) (heightAtMost t h (j + 1)) (heightAtMost t h (j + 1 + sizeOf t (j + 1))) ≡ true → Below t h
     → Found t (suc h) c j
-unfolding parts configurationOf Configured weight
+unfolding parts configurationOf Configured weight height
 found-at t h c j k e l d event (none s) low below =
     let size : partSize t c ≡ 1 = ap (partSize t) e ∙ s in
-    record { configured = rw d (d, size, refl); weighs = rw d (sym size); ends = omega arith }
+    record { configured = rw d (d, size, refl); weighs = rw d (sym size); ends = omega arith; low = rw d (omega arith) }
 found-at t h c j k e l d negation (one i s) low below =
     let f = first-at t c j e in
     let first = below (c + 4) (j + 1) f i low in
     let size : partSize t c ≡ 1 + partSize t (c + 4) = ap (partSize t) e ∙ (s ∙ ap (λ (x : ℕ). 1 + partSize t x) (sym f)) in
-    record { configured = rw d (d, omega arith, first .configured); weighs = rw d (omega arith); ends = omega arith }
+    let a = first .weighs in
+    let b = first .ends in
+    let g = first .low in
+    record {
+      configured = rw d (d, omega arith, first .configured);
+      weighs = rw d (omega arith);
+      ends = omega arith;
+      low = rw d (omega arith);
+    }
 found-at t h c j k e l d conjunction parts low below =
     let o = both-found t h c j 0 e parts low below in
-    record { configured = rw d (d, o .size, o .first, o .second); weighs = rw d (sym (o .size)); ends = o .ends }
+    let a = o .first-low in
+    let b = o .second-low in
+    record {
+      configured = rw d (d, o .size, o .first, o .second);
+      weighs = rw d (sym (o .size));
+      ends = o .ends;
+      low = rw d (omega arith);
+    }
 found-at t h c j k e l d disjunction parts low below =
     let o = both-found t h c j 0 e parts low below in
-    record { configured = rw d (d, o .size, o .first, o .second); weighs = rw d (sym (o .size)); ends = o .ends }
+    let a = o .first-low in
+    let b = o .second-low in
+    record {
+      configured = rw d (d, o .size, o .first, o .second);
+      weighs = rw d (sym (o .size));
+      ends = o .ends;
+      low = rw d (omega arith);
+    }
 
 module _ (t : List ℕ) (good : ConfigurationsGood t) where
   pub own-good : (j : ℕ) → j < configurations t → (goodButHeight t j ≡ true) × (heightAtMost t 16 j ≡ true)
@@ -84,7 +119,12 @@ module _ (t : List ℕ) (good : ConfigurationsGood t) where
   pub configuration-there : {n m v : ℕ} → Framed t n m v → (j : ℕ) → j < configurations t → ConfigurationAt t (configurationAt t j)
   configuration-there f j l =
       let g = found 16 (configurationAt t j) j refl l (own-good j l .1) in
-      (_, g .configured, omega arith)
+      let w = g .weighs in
+      let e = g .ends in
+      let n = f .n-is in
+      let m = f .m-is in
+      let a = f .long in
+      (_, g .configured, omega arith, g .low)
 
 -- what is spelled at byte c is what is found there, with as many levels as records and any more
 module _ (t : List ℕ) where

@@ -24,7 +24,7 @@ less-one-fits o = go (ltb 1 o) refl
     go true e = omega (arith, ltb-true 1 o e)
     go false e = omega arith
 
-numbered-pos : (w : Way) → 1 ≤ numbered w
+pub numbered-pos : (w : Way) → 1 ≤ numbered w
 unfolding numbered
 numbered-pos [] = omega arith
 numbered-pos (false ∷ w) = omega (arith, numbered-pos w)

@@ -11,6 +11,7 @@ use Rattle.table.specs.Good.{goodConfiguration, goodNode}
 use Rattle.table.specs.Spells.{Spells}
 pub mod Early
 pub mod Framing
+pub mod Levels
 pub mod Ranks
 pub mod Ways
 pub mod Weighing

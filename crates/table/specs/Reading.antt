@@ -1,17 +1,24 @@
 -- What reading a configuration asks and gives: leaves of the runner cite this file.
-use Prim.Native.Nat.{ℕ, _+_, _*_, _≤_, _/_}
+use Prim.Native.Nat.{ℕ, _+_, _*_, _≤_, _/_, max}
 use mathlib.Core.Bool.{Bool}
 use mathlib.Core.Path.{_≡_}
 use mathlib.Core.List.{List}
 use lib.ListN.{length, take}
 use Rattle.events.specs.Members.{places, marks}
 use Rattle.junior.specs.declared.Verdict.{Verdict}
-use Rattle.junior.specs.Configuration.{Config, Env, test}
+use Rattle.junior.specs.Configuration.{Config, Event, Not, And, Or, Env, test}
 use Rattle.table.specs.Spells.{Configured, weight}
 
--- a configuration stands at byte c, within the table
+-- how many levels a configuration has: a lone event one
+unfoldable pub height : Config → ℕ
+height (Event s) = 1
+height (Not c) = 1 + height c
+height (And c d) = 1 + max (height c) (height d)
+height (Or c d) = 1 + max (height c) (height d)
+
+-- a configuration of at most 16 levels stands at byte c, within the table
 abbrev pub ConfigurationAt : List ℕ → ℕ → Type 0
-ConfigurationAt t c = (d : Config) × Configured t c d × (c + 4 * weight d ≤ length t)
+ConfigurationAt t c = (d : Config) × Configured t c d × (c + 4 * weight d ≤ length t) × (height d ≤ 16)
 
 -- how many words of a row of numbers mark the events: its first
 abbrev pub event-words : ℕ

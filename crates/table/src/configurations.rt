@@ -133,26 +133,31 @@ fn good(table: &[u8], v: usize, c: usize) -> bool
     if parts_good(table, c) == 0 {
         return false;
     }
-    low(table, c, 16)
+    low(table, c)
 }
 
-// Its height is at most h.
-fn low(table: &[u8], c: usize, h: usize) -> bool
+// Its height is at most 16: its records one after another, with the way to each as above. One without good parts is passed over by its size.
+fn low(table: &[u8], c: usize) -> bool
     requires { ⌜ SomeBegins (now table) c ⌝ }
-    ensures { λ r. ⌜ ((j : ℕ) → Begins (now (table .entry)) c j → r ≡ heightAtMost (now (table .entry)) h j) ⌝ }
+    ensures { λ r. ⌜ ((j : ℕ) → Begins (now (table .entry)) c j → r ≡ heightAtMost (now (table .entry)) 16 j) ⌝ }
 {
-    if h == 0 {
-        return false;
-    }
-    let parts = parts_good(table, c);
-    if parts == 0 {
-        return true;
-    }
-    if low(table, c + 4, h - 1) {
-        if parts == 1 {
-            return true;
+    let mut way: u32 = 1;
+    let mut at = c;
+    loop {
+        let parts = parts_good(table, at);
+        if parts == 0 {
+            let next = closed(way);
+            if next == 1 {
+                return true;
+            }
+            way = next;
+            at += 4 * part_size(table, at);
+        } else {
+            way = 2 * way + (parts - 1);
+            if way >= 65536 {
+                return false;
+            }
+            at += 4;
         }
-        return low(table, c + 4 + 4 * part_size(table, c + 4), h - 1);
     }
-    false
 }

@@ -27,7 +27,7 @@ loop-holds : tie.Need-loop-holds Inv-loop μ-loop
 loop-holds c =
     let start = c .before .before in
     let part-size = c .part-size in
-    let (d, h, l) = start .pre in
+    let (d, h, l, low) = start .pre in
     let size = part-size .ensures .0 in (
       omega (arith, written _ _ d h),
       ap (λ k. gathered (start .args .table .now) (start .args .words .now) k (start .args .c) places) size,
