@@ -1,5 +1,6 @@
 /* Checks a table, starts its program and runs three instants of it (01, "Bench list", K3), listing each as the listing program does
- * and, where its end was declared, what it waited for. */
+ * and, where its end was declared, what it waited for. Every answer is looked at before anything of it is used; a refusal ends the program
+ * with status 1. */
 #include <stdio.h>
 
 #include "zapper.h"
@@ -43,27 +44,34 @@ static void print_atoms(const uint16_t *atoms, uint64_t count)
         printf(" -");
 }
 
+/* Tells a refusal, and whether there was one. The numbers are those of docs/REFUSALS.md. */
+static int refused(const char *what, const uint64_t *answer)
+{
+    if (answer[ZAPPER_NUMBER] == 0)
+        return 0;
+    printf("%s refused %d %d\n", what, (int)answer[ZAPPER_NUMBER], (int)answer[ZAPPER_INDEX]);
+    return 1;
+}
+
 int main(void)
 {
     static const uint64_t handed_in[3][ZAPPER_EVENT_WORDS] = {{0}, {1u << 0}, {1u << 1}};
-    uint8_t state[7 * 4];
-    uint16_t atoms[1];
+    uint8_t state[7 * 4]; /* four bytes a node */
+    uint16_t atoms[1];    /* as many places as the check answers */
     uint64_t checked[ZAPPER_CHECK_PLACES], started[ZAPPER_START_PLACES], answer[ZAPPER_INSTANT_PLACES];
 
     zapper_check(table, sizeof table, checked);
-    if (checked[ZAPPER_NUMBER] != 0) {
-        printf("table refused %d %d\n", (int)checked[ZAPPER_NUMBER], (int)checked[ZAPPER_INDEX]);
+    if (refused("check", checked))
         return 1;
-    }
     printf("generations %d, atoms %d, weight %d\n", (int)checked[ZAPPER_GENERATIONS], (int)checked[ZAPPER_MOST_ATOMS], (int)checked[ZAPPER_WEIGHT]);
 
     zapper_start(table, sizeof table, state, sizeof state, started);
+    if (refused("start", started))
+        return 1;
     for (int k = 0; k < 3; k++) {
         zapper_instant(table, sizeof table, state, sizeof state, handed_in[k], atoms, sizeof atoms / sizeof atoms[0], answer);
-        if (answer[ZAPPER_NUMBER] != 0) {
-            printf("%d refused %d %d\n", k + 1, (int)answer[ZAPPER_NUMBER], (int)answer[ZAPPER_INDEX]);
+        if (refused("instant", answer))
             return 1;
-        }
         printf("%d %d %s", k + 1, (int)answer[ZAPPER_PASSES], answer[ZAPPER_FINISHED] ? "TERM" : "STOP");
         print_events(answer + ZAPPER_EVENTS);
         print_atoms(atoms, answer[ZAPPER_ATOMS]);

@@ -10,6 +10,7 @@ mod layout;
 mod lines;
 mod listing;
 mod make;
+mod programs;
 mod rules;
 mod spell;
 mod state;
@@ -27,8 +28,11 @@ use std::io::{BufWriter, Read, Result, Write};
 use std::path::Path;
 use std::process::ExitCode;
 
-const USAGE: &str = "usage: second calls | orders SEED | run | why | make edges | make text-edges \
+const USAGE: &str = "usage: second calls | orders SEED | run | why | check | read | print | make edges | make text-edges \
                      | make calls|loops|orders|texts|waits CASES SEED | make listing SEED DIR";
+
+/// The file that holds the table, in the current folder.
+const TABLE: &str = "table.bin";
 
 fn main() -> ExitCode {
     let arguments: Vec<String> = std::env::args().skip(1).collect();
@@ -43,8 +47,11 @@ fn main() -> ExitCode {
             }
             Err(_) => return misused(),
         },
-        ["run"] => listing::play(&read_table(Path::new("table.bin")), std::io::stdin().lock(), &mut out),
-        ["why"] => listing::explain(&read_table(Path::new("table.bin")), std::io::stdin().lock(), &mut out),
+        ["run"] => listing::play(&read_table(Path::new(TABLE)), std::io::stdin().lock(), &mut out),
+        ["why"] => listing::explain(&read_table(Path::new(TABLE)), std::io::stdin().lock(), &mut out),
+        ["check"] => out.write_all(programs::check(&read_table(Path::new(TABLE))).as_bytes()),
+        ["print"] => out.write_all(&programs::print(&read_table(Path::new(TABLE)))),
+        ["read"] => read_text(&mut out),
         ["make", "edges"] => print_lines(&mut out, make::edges::lines()),
         ["make", "text-edges"] => print_lines(&mut out, make::text_edges::lines()),
         ["make", "listing", seed, dir] => match seed.parse() {
@@ -71,8 +78,12 @@ fn misused() -> ExitCode {
     ExitCode::from(2)
 }
 
+/// One answer for each line, handed on before the next line is waited for.
 fn answer_calls(out: &mut impl Write, mut answer: impl FnMut(&[u8]) -> String) -> Result<()> {
-    words::each_line(std::io::stdin().lock(), |line| writeln!(out, "{}", answer(line)))
+    words::each_line(std::io::stdin().lock(), |line| {
+        writeln!(out, "{}", answer(line))?;
+        out.flush()
+    })
 }
 
 fn random_lines(sort: &str, cases: &str, seed: &str) -> Option<Box<dyn Iterator<Item = String>>> {
@@ -81,6 +92,16 @@ fn random_lines(sort: &str, cases: &str, seed: &str) -> Option<Box<dyn Iterator<
 
 fn print_lines(out: &mut impl Write, lines: impl IntoIterator<Item = String>) -> Result<()> {
     lines.into_iter().try_for_each(|line| writeln!(out, "{line}"))
+}
+
+/// Writes the table of the text that is the input, or tells why there is none.
+fn read_text(out: &mut impl Write) -> Result<()> {
+    let mut text = Vec::new();
+    std::io::stdin().lock().read_to_end(&mut text)?;
+    match programs::read(&text) {
+        Ok(table) => std::fs::write(TABLE, table),
+        Err(told) => out.write_all(told.as_bytes()),
+    }
 }
 
 /// The table's bytes; none if it can't be read. Beyond 33,000 bytes it is refused however it goes on.
