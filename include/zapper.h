@@ -46,7 +46,7 @@ enum { ZAPPER_START_PLACES = 2 };
  * The words of an event set: event e is bit e % 64 of word e / 64. Where an answer names an event or a node, ZAPPER_NO_EVENT and ZAPPER_NO_NODE
  * say that there is none.
  */
-enum { ZAPPER_EVENT_WORDS = 4, ZAPPER_NO_EVENT = 64 * ZAPPER_EVENT_WORDS, ZAPPER_NO_NODE = 4096 };
+enum { ZAPPER_EVENT_WORDS = 16, ZAPPER_NO_EVENT = 64 * ZAPPER_EVENT_WORDS, ZAPPER_NO_NODE = 4096 };
 
 /*
  * An instant's answer: how many events are present at its end and which is the lowest (ZAPPER_NO_EVENT if none is), how many atoms were written,

@@ -5,7 +5,7 @@ use std::rc::Rc;
 
 #[derive(Debug, PartialEq, Eq)]
 pub enum Config {
-    Event(u8),
+    Event(u16),
     Not(Rc<Config>),
     And(Rc<Config>, Rc<Config>),
     Or(Rc<Config>, Rc<Config>),
@@ -48,7 +48,7 @@ impl Config {
     }
 
     /// The events that the configuration mentions, in the order of its text.
-    fn mentioned(&self) -> Vec<u8> {
+    fn mentioned(&self) -> Vec<u16> {
         match self {
             Config::Event(s) => vec![*s],
             Config::Not(c) => c.mentioned(),
@@ -57,7 +57,7 @@ impl Config {
     }
 
     /// The lowest event that the configuration mentions and that isn't present in E (L1).
-    pub fn missing(&self, e: Env) -> Option<u8> {
+    pub fn missing(&self, e: Env) -> Option<u16> {
         self.mentioned().into_iter().filter(|&s| !e.present.has(s)).min()
     }
 

@@ -56,7 +56,7 @@ pub enum Name {
 
 type Choice = &'static [Symbol];
 
-const EVENT: Symbol = Decimal(255);
+const EVENT: Symbol = Decimal(1_023);
 const NUMBER: Symbol = Decimal(65_535);
 const PROGRAM: Symbol = Any(Program);
 const CONFIG: Symbol = Any(Config);

@@ -22,7 +22,7 @@ pub struct Report {
 #[derive(Clone, Copy, Debug, PartialEq, Eq)]
 pub struct Wait {
     pub node: usize,
-    pub event: u8,
+    pub event: u16,
 }
 
 /// Checks a table: refusals 1 to 8, or its figures.

@@ -63,7 +63,8 @@ impl Layout {
             if let Some(kind) = config_kind(piece) {
                 let [size_high, size_low] = (self.records[at].configs as u16).to_be_bytes();
                 let from = 6 * n + 4 * places[at].configs;
-                bytes[from..from + 4].copy_from_slice(&[kind, low, size_high, size_low]);
+                // The upper part of an event's number is added to its kind in sixteens (L10).
+                bytes[from..from + 4].copy_from_slice(&[kind + 16 * high, low, size_high, size_low]);
             }
         }
         let trailer = [n, m, self.events(), 6 * n + 4 * m, 4 * m].map(|number| (number as u16).to_be_bytes());

@@ -1,7 +1,7 @@
 //! One call a line: reads the lines of the calls program and prints what each call answered
 //! and what the lent rooms hold afterwards.
 
-use crate::env::Events;
+use crate::env::{Events, EVENTS};
 use crate::instant::{self, Report};
 use crate::table::Refusal;
 use crate::text;
@@ -66,7 +66,7 @@ pub fn print(call: &Call) -> String {
 }
 
 fn read(line: &[u8]) -> Option<Call> {
-    if line.len() > 160_000 {
+    if line.len() > 400_000 {
         return None;
     }
     let words: Vec<&[u8]> = line.split(|&byte| byte == b' ').collect();
@@ -129,12 +129,12 @@ fn make(call: Call, second_first: &mut dyn FnMut() -> bool) -> String {
                 "{number} {index} {} {} {} {} {} {} {} {} {} {}",
                 words::list(report.events.rising()),
                 report.events.rising().count(),
-                report.events.rising().next().map_or(256, usize::from),
+                report.events.rising().next().map_or(EVENTS, usize::from),
                 report.atoms,
                 u8::from(report.finished),
                 report.passes,
                 report.waits.map_or(4096, |wait| wait.node),
-                report.waits.map_or(256, |wait| usize::from(wait.event)),
+                report.waits.map_or(EVENTS, |wait| usize::from(wait.event)),
                 words::hex(&state),
                 words::hex(&words::row_bytes(&row))
             )
@@ -168,9 +168,9 @@ mod tests {
         says(&format!("start {NOTHING} 0102030405"), "0 0 0000000005");
         says(&format!("start {NOTHING} 010203"), "9 0 010203");
         says(&format!("start {NOTHING} -"), "9 0 -");
-        says(&format!("instant {NOTHING} 00000000ff 0,0 -"), "0 0 0 1 0 0 1 1 4096 256 03000000ff -");
-        says(&format!("instant {NOTHING} 00000000 - 0007"), "0 0 - 0 256 0 1 1 4096 256 03000000 0007");
-        says(&format!("instant {NOTHING} 00000000 3,0,1 0007"), "11 1 - 0 256 0 0 0 4096 256 00000000 0007");
+        says(&format!("instant {NOTHING} 00000000ff 0,0 -"), "0 0 0 1 0 0 1 1 4096 1024 03000000ff -");
+        says(&format!("instant {NOTHING} 00000000 - 0007"), "0 0 - 0 1024 0 1 1 4096 1024 03000000 0007");
+        says(&format!("instant {NOTHING} 00000000 3,0,1 0007"), "11 1 - 0 1024 0 0 0 4096 1024 00000000 0007");
         // The text of the table.
         let text = words::hex(b"Jr.Nothing()");
         says(&format!("read {text} {NOTHING}0506"), &format!("0 0 16 {NOTHING}0506"));
@@ -193,7 +193,7 @@ mod tests {
         for line in ["read", "read -", "read - - -", "read 4A -", "read - 0", "print -", "print - - -", "prints - -"] {
             says(line, "bad-line");
         }
-        for events in ["", ",", "0,", ",0", "00", "256", "0,,1", "0 1", "-,0", "+1"] {
+        for events in ["", ",", "0,", ",0", "00", "1024", "0,,1", "0 1", "-,0", "+1"] {
             says(&format!("instant - - {events} -"), "bad-line");
         }
         for row in ["", "00", "0", "000000", "000G"] {
@@ -208,7 +208,7 @@ mod tests {
         says(&format!("check {}", zeros(33_001)), "bad-line");
         says(&format!("start - {}", zeros(17_000)), &format!("1 0 {}", zeros(17_000)));
         says(&format!("start - {}", zeros(17_001)), "bad-line");
-        says(&format!("instant - - - {}", zeros(8_400)), &format!("1 0 - 0 256 0 0 0 4096 256 - {}", zeros(8_400)));
+        says(&format!("instant - - - {}", zeros(8_400)), &format!("1 0 - 0 1024 0 0 0 4096 1024 - {}", zeros(8_400)));
         says(&format!("instant - - - {}", zeros(8_402)), "bad-line");
         for word in ["read", "print"] {
             for (given, room) in [(33_001, 0), (0, 33_001)] {
@@ -217,9 +217,9 @@ mod tests {
         }
         says(&format!("read {} {}", zeros(33_000), zeros(33_000)), &format!("21 0 0 {}", zeros(33_000)));
         says(&format!("print {} {}", zeros(33_000), zeros(33_000)), &format!("1 0 0 {}", zeros(33_000)));
-        // The events may be as many as the line holds: 12 + 159,986 + 2 bytes are 160,000.
-        let many = ",10".repeat(53_328);
-        says(&format!("instant - - 10{many} -"), "1 0 - 0 256 0 0 0 4096 256 - -");
+        // The events may be as many as the line holds: 12 + 399,986 + 2 bytes are 400,000.
+        let many = ",10".repeat(133_328);
+        says(&format!("instant - - 10{many} -"), "1 0 - 0 1024 0 0 0 4096 1024 - -");
         says(&format!("instant - - 100{many} -"), "bad-line");
     }
 
@@ -228,10 +228,10 @@ mod tests {
         let call = Call::Instant {
             table: vec![1, 2],
             state: vec![],
-            events: [3, 200].into_iter().collect(),
+            events: [3, 900].into_iter().collect(),
             row: vec![7, 65_535],
         };
-        assert_eq!(print(&call), "instant 0102 - 3,200 0007ffff");
+        assert_eq!(print(&call), "instant 0102 - 3,900 0007ffff");
         assert_eq!(read(print(&call).as_bytes()), Some(call));
     }
 }

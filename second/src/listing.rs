@@ -10,7 +10,7 @@ use crate::words;
 use std::io::{BufRead, Result, Write};
 
 /// A line above this many bytes is bad, its newline aside.
-const LINE_BYTES: usize = 1024;
+const LINE_BYTES: usize = 4096;
 
 /// Plays a table over an input.
 pub fn play(table: &[u8], input: impl BufRead, out: &mut impl Write) -> Result<()> {

@@ -190,7 +190,7 @@ fn wait(t: &Term, c: &Rc<Config>, e: Env, course: &mut Course) -> Conclusion {
     }
 }
 
-fn control(t: &Term, s: u8, body: &Term, e: Env, course: &mut Course) -> Conclusion {
+fn control(t: &Term, s: u16, body: &Term, e: Env, course: &mut Course) -> Conclusion {
     let event = Rc::new(Config::Event(s));
     if event.sat(e) {
         let (a, rest, e1) = run(body, e, course);
@@ -225,7 +225,7 @@ fn until_star(t: &Term, c: &Rc<Config>, body: &Term, handler: &Term, e: Env, cou
     }
 }
 
-fn local_minus(t: &Term, s: u8, body: &Term, e: Env, course: &mut Course) -> Conclusion {
+fn local_minus(t: &Term, s: u16, body: &Term, e: Env, course: &mut Course) -> Conclusion {
     let inside = Env { present: e.present.without(s), ..e };
     let (a, rest, e1) = run(body, inside, course);
     let form = if a == Flag::Susp && e1.present.has(s) {
@@ -236,7 +236,7 @@ fn local_minus(t: &Term, s: u8, body: &Term, e: Env, course: &mut Course) -> Con
     Says(a, t.becomes(form), Env { present: e1.present.as_in(e.present, s), ..e1 })
 }
 
-fn local_plus(t: &Term, s: u8, body: &Term, e: Env, course: &mut Course) -> Conclusion {
+fn local_plus(t: &Term, s: u16, body: &Term, e: Env, course: &mut Course) -> Conclusion {
     let inside = Env { present: e.present.with(s), ..e };
     let (a, rest, e1) = run(body, inside, course);
     let form = if a == Flag::Susp {

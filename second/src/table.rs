@@ -1,6 +1,7 @@
 //! The table: its bytes read into a tree of nodes, or refused (01, refusals 1 to 6).
 
 use crate::config::Config;
+use crate::env::EVENTS;
 use std::rc::Rc;
 
 /// A refusal: its number and its index.
@@ -42,12 +43,12 @@ pub enum Written {
     Par(Box<Node>, Box<Node>),
     Loop(Box<Node>),
     Repeat(u16, Box<Node>),
-    Generate(u8),
+    Generate(u16),
     Await(Rc<Config>),
     When(Rc<Config>, Box<Node>, Box<Node>),
     Until(Rc<Config>, Box<Node>, Box<Node>),
-    Control(u8, Box<Node>),
-    Local(u8, Box<Node>),
+    Control(u16, Box<Node>),
+    Local(u16, Box<Node>),
 }
 
 const NODE_BYTES: usize = 6;
@@ -61,7 +62,7 @@ pub fn read(table: &[u8]) -> Result<Program, Refusal> {
     }
     let trailer = &table[table.len() - TRAILER_BYTES..];
     let (n, m, v) = (word(trailer, 0), word(trailer, 2), word(trailer, 4));
-    if !(1..=4096).contains(&n) || m > 2048 || !(1..=256).contains(&v) {
+    if !(1..=4096).contains(&n) || m > 2048 || !(1..=EVENTS).contains(&v) {
         return Err(Refusal::new(2, 0));
     }
     let (to_nodes, to_configs) = (NODE_BYTES * n + CONFIG_BYTES * m, CONFIG_BYTES * m);
@@ -156,7 +157,7 @@ fn tree(records: &[NodeRecord], sizes: &[usize], configs: &[Rc<Config>], at: usi
     let NodeRecord { kind, argument, size, .. } = records[at];
     let first = || Box::new(tree(records, sizes, configs, at + 1));
     let second = || Box::new(tree(records, sizes, configs, at + 1 + sizes[at + 1]));
-    let event = || argument as u8;
+    let event = || argument as u16;
     let test = || configs[argument].clone();
     let written = match kind {
         0 => Written::Nothing,
@@ -176,23 +177,44 @@ fn tree(records: &[NodeRecord], sizes: &[usize], configs: &[Rc<Config>], at: usi
     Node { at, size, written }
 }
 
+/// What a configuration record's first two bytes say.
+#[derive(Clone, Copy)]
+enum Says {
+    Event(u16),
+    Not,
+    And,
+    Or,
+}
+
 struct ConfigRecord {
-    kind: u8,
-    event: u8,
+    /// None if the two bytes say nothing.
+    says: Option<Says>,
     size: usize,
 }
 
 impl ConfigRecord {
     fn new(bytes: &[u8]) -> ConfigRecord {
-        ConfigRecord { kind: bytes[0], event: bytes[1], size: word(bytes, 2) }
+        let event = |more: u16| Some(Says::Event(more + u16::from(bytes[1])));
+        let says = match (bytes[0], bytes[1]) {
+            (0, _) => event(0),
+            // Kinds 16, 32 and 48 are those of the events from 256 on (L10).
+            (16, _) => event(256),
+            (32, _) => event(512),
+            (48, _) => event(768),
+            (1, 0) => Some(Says::Not),
+            (2, 0) => Some(Says::And),
+            (3, 0) => Some(Says::Or),
+            _ => None,
+        };
+        ConfigRecord { says, size: word(bytes, 2) }
     }
 
-    /// How many parts the kind has.
+    /// How many parts it has.
     fn parts(&self) -> usize {
-        match self.kind {
-            1 => 1,
-            2 | 3 => 2,
-            _ => 0,
+        match self.says {
+            Some(Says::Not) => 1,
+            Some(Says::And | Says::Or) => 2,
+            Some(Says::Event(_)) | None => 0,
         }
     }
 }
@@ -206,12 +228,12 @@ fn read_configs(bytes: &[u8], v: usize) -> Result<Vec<Rc<Config>>, Refusal> {
     let mut lowest_bad = None;
     for at in (0..records.len()).rev() {
         let record = &records[at];
-        let event = match record.kind {
-            0 => usize::from(record.event) < v,
-            1..=3 => record.event == 0,
-            _ => false,
+        let sound = match record.says {
+            Some(Says::Event(s)) => usize::from(s) < v,
+            Some(_) => true,
+            None => false,
         };
-        let good = event && laid_out(&sizes, at, record.parts());
+        let good = sound && laid_out(&sizes, at, record.parts());
         if good {
             let below = children(&sizes, at, record.parts()).into_iter().flatten();
             heights[at] = 1 + below.map(|child| heights[child]).max().unwrap_or(0);
@@ -227,11 +249,11 @@ fn read_configs(bytes: &[u8], v: usize) -> Result<Vec<Rc<Config>>, Refusal> {
     let mut behind: Vec<Rc<Config>> = Vec::with_capacity(records.len());
     for at in (0..records.len()).rev() {
         let part = |child: usize| behind[records.len() - 1 - child].clone();
-        let config = match records[at].kind {
-            0 => Config::Event(records[at].event),
-            1 => Config::Not(part(at + 1)),
-            2 => Config::And(part(at + 1), part(at + 1 + sizes[at + 1])),
-            _ => Config::Or(part(at + 1), part(at + 1 + sizes[at + 1])),
+        let config = match records[at].says.expect("a good record") {
+            Says::Event(s) => Config::Event(s),
+            Says::Not => Config::Not(part(at + 1)),
+            Says::And => Config::And(part(at + 1), part(at + 1 + sizes[at + 1])),
+            Says::Or => Config::Or(part(at + 1), part(at + 1 + sizes[at + 1])),
         };
         behind.push(Rc::new(config));
     }

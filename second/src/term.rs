@@ -31,14 +31,14 @@ pub enum Form {
     Par(Flag, Flag, Term, Term),
     Loop(Term),
     Repeat(u16, Term),
-    Generate(u8),
+    Generate(u16),
     Await(Rc<Config>),
     When(Rc<Config>, Term, Term),
     Until(Rc<Config>, Term, Term),
     UntilStar(Rc<Config>, Term, Term),
-    Control(u8, Term),
-    LocalMinus(u8, Term),
-    LocalPlus(u8, Term),
+    Control(u16, Term),
+    LocalMinus(u16, Term),
+    LocalPlus(u16, Term),
 }
 
 impl Term {

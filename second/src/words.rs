@@ -1,14 +1,16 @@
 //! Words that the lines of calls and of listings share: numbers, hexadecimal and lists.
 
+use crate::env::EVENTS;
 use std::fmt::{Display, Write};
 
-/// An event number: decimal without leading zeros, below 256.
-pub fn event(word: &[u8]) -> Option<u8> {
+/// An event number: decimal without leading zeros, below 1,024.
+pub fn event(word: &[u8]) -> Option<u16> {
     let digits = word.iter().all(u8::is_ascii_digit);
-    if !digits || word.len() > 3 || word.len() > 1 && word[0] == b'0' {
+    if !digits || word.len() > 4 || word.len() > 1 && word[0] == b'0' {
         return None;
     }
-    std::str::from_utf8(word).ok()?.parse().ok()
+    let number: u16 = std::str::from_utf8(word).ok()?.parse().ok()?;
+    (usize::from(number) < EVENTS).then_some(number)
 }
 
 /// The numbers joined by commas, `-` for none.
@@ -75,10 +77,13 @@ mod tests {
 
     #[test]
     fn event_numbers() {
-        for (word, number) in [("0", Some(0)), ("7", Some(7)), ("255", Some(255)), ("256", None), ("00", None)] {
+        for (word, number) in [("0", Some(0)), ("7", Some(7)), ("256", Some(256)), ("1023", Some(1023)), ("1024", None)]
+        {
             assert_eq!(event(word.as_bytes()), number, "{word}");
         }
-        for word in ["", "01", "+1", "-", "1\r", "\t1", " ", "0x1", "999", "1000", "65536", "\0"] {
+        for word in
+            ["", "00", "01", "0256", "+1", "-", "1\r", "\t1", " ", "0x1", "1030", "9999", "10000", "65536", "\0"]
+        {
             assert_eq!(event(word.as_bytes()), None, "{word:?}");
         }
     }

@@ -1,5 +1,5 @@
 -- Reading a configuration places its records.
-use Prim.Native.Nat.{ℕ, _+_, _-_, _%_, _≤_, _<_}
+use Prim.Native.Nat.{ℕ, _+_, _-_, _/_, _%_, _≤_, _<_}
 use mathlib.Core.Bool.{false}
 use mathlib.Core.Path.{_≡_, refl, ap, _∙_}
 use mathlib.Core.List.{List, _∷_, _++_, append-assoc}
@@ -7,6 +7,7 @@ use native.Mathlib.Nat.{mod-eq-of-lt}
 use native.Mathlib.Omega.{arith}
 use borrow.Author.Tests.{ne-eqb, lt-ltb}
 use lib.ListN.{set}
+use Rattle.events.specs.Members.{places}
 use Rattle.junior.specs.Configuration.{Config, Event, Not, And, Or}
 use Rattle.table.specs.Records.{byte}
 use Rattle.table.specs.Spells.{weight}
@@ -48,7 +49,7 @@ placed-number m = past-decimal (placed m) (placed-digit m)
 -- an event's number is placed by what stands before it
 event-placed :
     (s : ℕ) (x : List ℕ) (j : ℕ) (r : SoFar)
-    → s < 256
+    → s < places
     → isDigit (byte x 0) ≡ false
     → r .left ≡ j + 1
     → event (decimal s ++ x) r ≡ overTest (Event s) j r
@@ -56,7 +57,8 @@ unfolding event testRecords
 event-placed s x j r h e l =
     let n : number 0 (decimal s ++ x) ≡ s = number-decimal s x (omega arith) ∙ number-ends s x e in
     let k : r .left - 1 ≡ j = omega arith in
-    rw (begins-decimal s x, n, small-mod s 256 h, k)
+    let sixteens : s / 256 % 16 ≡ s / 256 = small-mod (s / 256) 16 (omega arith) in
+    rw (begins-decimal s x, n, sixteens, k)
 
 -- nothing else is an event
 pub no-event : (w : List ℕ) (s : SoFar) → isDigit (byte w 0) ≡ false → event w s ≡ s

@@ -1,5 +1,5 @@
 -- What each function of the builder places, by the records that it reads.
-use Prim.Native.Nat.{ℕ, _+_, _-_, _*_, _%_, _≤_, _<_}
+use Prim.Native.Nat.{ℕ, _+_, _-_, _*_, _/_, _%_, _≤_, _<_}
 use mathlib.Core.Bool.{Bool, true, false, cond, _||_}
 use mathlib.Core.Path.{_≡_, sym, ap, subst, _∙_}
 use mathlib.Core.List.{List, _++_}
@@ -27,7 +27,7 @@ byte-of-drop text i = getD-drop i text 0 0 ∙ ap (byte text) (add-zero i)
 
 -- an event, or none
 module _ (text : List ℕ) (i b : ℕ) (is : b ≡ byte text i) (s : SoFar) where
-  pub event-here : (e : ℕ) → isDigit b ≡ true → e ≡ number 0 (drop i text) → withTest 0 e 1 s ≡ event (drop i text) s
+  pub event-here : (e : ℕ) → isDigit b ≡ true → e ≡ number 0 (drop i text) → withTest (16 * (e / 256 % 16)) e 1 s ≡ event (drop i text) s
   unfolding event
   event-here e h n = rw (n, byte-of-drop text i, ← is, h)
 

@@ -5,6 +5,7 @@ use mathlib.Core.Path.{_≡_, refl, ap, _∙_}
 use mathlib.Core.List.{List, [], _∷_, _++_, append-assoc, append-nil}
 use native.Mathlib.Nat.{add-zero}
 use native.Mathlib.Omega.{arith}
+use Rattle.events.specs.Members.{places}
 use Rattle.junior.specs.Configuration.{Config}
 use Rattle.junior.specs.Program.{Program, Nothing, Stop, Atom, Seq, Par, Loop, Repeat, Generate, Await, When, Until}
 use Rattle.junior.specs.Program.{Control, Local, size, kind}
@@ -242,7 +243,7 @@ module _ (m : ℕ) where
   atom-placed n l x j a b h =
       rw (append-assoc (decimal n) (41 ∷ []) x) (reads m _ (enclosed-number n x) 2 (omega arith) ∙ leaf 2 n j x l h (λ t. refl))
 
-  generate-placed : (n : ℕ) → n < 256 → Whole (Generate n) (bytes "Jr.Generate(" ++ (decimal n ++ bytes ")"))
+  generate-placed : (n : ℕ) → n < places → Whole (Generate n) (bytes "Jr.Generate(" ++ (decimal n ++ bytes ")"))
   unfolding opening form ownSize size tests nodesFrom testsOf kind
   generate-placed n l x j a b h =
       rw (append-assoc (decimal n) (41 ∷ []) x) (reads m _ (enclosed-number n x) 7 (omega arith) ∙ leaf 7 n j x (omega arith) h (λ t. refl))
@@ -282,14 +283,14 @@ module _ (m : ℕ) where
       rw (append-assoc (decimal n) (44 ∷ 32 ∷ (u ++ (41 ∷ []))) x, append-assoc u (41 ∷ []) x)
       (reads m _ (enclosed-numbered n d x) 6 (omega arith) ∙ numbered 6 n j d x l a (λ t. refl) (at-close p u x j f (omega arith) b h))
 
-  control-placed : (n : ℕ) {p : Program} {u : List ℕ} → n < 256 → Says (whole p) u → Whole p u
+  control-placed : (n : ℕ) {p : Program} {u : List ℕ} → n < places → Says (whole p) u → Whole p u
       → Whole (Control n p) (bytes "Jr.Control(" ++ (decimal n ++ (bytes ", " ++ (u ++ bytes ")"))))
   unfolding opening form ownSize size tests nodesFrom testsOf kind
   control-placed n {p} {u} l d f x j a b h =
       rw (append-assoc (decimal n) (44 ∷ 32 ∷ (u ++ (41 ∷ []))) x, append-assoc u (41 ∷ []) x)
       (reads m _ (enclosed-numbered n d x) 11 (omega arith) ∙ numbered 11 n j d x (omega arith) a (λ t. refl) (at-close p u x j f (omega arith) b h))
 
-  local-placed : (n : ℕ) {p : Program} {u : List ℕ} → n < 256 → Says (whole p) u → Whole p u
+  local-placed : (n : ℕ) {p : Program} {u : List ℕ} → n < places → Says (whole p) u → Whole p u
       → Whole (Local n p) (bytes "Jr.Local(" ++ (decimal n ++ (bytes ", " ++ (u ++ bytes ")"))))
   unfolding opening form ownSize size tests nodesFrom testsOf kind
   local-placed n {p} {u} l d f x j a b h =

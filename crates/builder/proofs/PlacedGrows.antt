@@ -51,7 +51,7 @@ length-spread (suc f) k at l = go (length-spread f k (at + 6 + 6 * word l (at + 
 
 pub grows-event : (w : List ℕ) (s : SoFar) → Grows s (event w s)
 unfolding event
-grows-event w s = grows-either (isDigit (byte w 0)) (grows-test 0 (number 0 w) 1 s) (grows-self s)
+grows-event w s = grows-either (isDigit (byte w 0)) (grows-test _ (number 0 w) 1 s) (grows-self s)
 
 grows-joint : (s : SoFar) → Grows s (joint s)
 unfolding joint

@@ -1,6 +1,6 @@
 -- Building the table of a text in the form, from its last byte to its first: what is placed once an end of the text is read. A record's
 -- parts are placed before it, so its size is read off theirs.
-use Prim.Native.Nat.{ℕ, zero, suc, _+_, _-_, _*_, _%_, _≤_, _<_}
+use Prim.Native.Nat.{ℕ, zero, suc, _+_, _-_, _*_, _/_, _%_, _≤_, _<_}
 use mathlib.Core.Bool.{Bool, false, cond, _||_}
 use mathlib.Core.Path.{_≡_}
 use mathlib.Core.List.{List, [], _∷_, _++_}
@@ -63,9 +63,11 @@ pair k s = withTest k 0 (joinedSize 4 2 (s .tests)) s
 unfoldable pub negation : SoFar → SoFar
 negation s = withTest 1 0 (1 + word (s .tests) 2) s
 
--- an event, if the text begins with its number
+-- an event, if the text begins with its number: the kind byte has the number's upper part
 unfoldable pub event : List ℕ → SoFar → SoFar
-event w s = cond (isDigit (byte w 0)) (withTest 0 (number 0 w) 1 s) s
+event w s =
+    let e = number 0 w in
+    cond (isDigit (byte w 0)) (withTest (16 * (e / 256 % 16)) e 1 s) s
 
 -- `(` at this level, before this text
 unfoldable pub opening : ℕ → List ℕ → SoFar → SoFar

@@ -274,7 +274,7 @@ fn place_event(text: &[u8], i: usize, table: &mut [u8], front: Front) -> Front
 {
     if is_digit(byte_at(text, i)) {
         let e = number_at(text, i);
-        return place_test(table, 0, e, 1, front);
+        return place_test(table, (16 * (e / 256 % 16)) as u8, e, 1, front);
     }
     front
 }

@@ -9,7 +9,7 @@ use Rattle.events.specs.declared.EventSet.{EventSet}
 
 -- the events that have a place in a set are those below this number
 abbrev pub places : ℕ
-places = 256
+places = 1024
 
 -- event n is marked exactly if the binary digit n % 64 of word n / 64 is 1; past the last word none is
 unfoldable pub marks : List ℕ → Events

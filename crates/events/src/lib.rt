@@ -8,7 +8,7 @@ ghost use Rattle.events.specs.Events.{none, put, howMany, lowest};
 ghost use Rattle.events.specs.Members.{places, marks, members};
 
 // How many words a set has: the one number here that says its size.
-pub const WORDS: usize = 4;
+pub const WORDS: usize = 16;
 
 pub struct EventSet {
     pub words: [u64; WORDS],

@@ -7,6 +7,7 @@ use native.Mathlib.Omega.{arith}
 use lib.ListN.{length}
 use lib.Dec.{leb}
 use borrow.Author.Tests.{le-leb, eq-eqb}
+use Rattle.events.specs.Members.{places}
 use Rattle.junior.specs.Program.{Program}
 use Rattle.junior.specs.Program.{size}
 use Rattle.table.specs.Records.{word, nodes, configurations, events, back-to-nodes, back-to-configurations}
@@ -95,6 +96,6 @@ module _ (p : Program) where
         made-events,
         le-leb 1 (size p) (size-pos p),
         le-leb 1 (named p) (named-least p),
-        le-leb (named p) 256 (named-most p f),
+        le-leb (named p) places (named-most p f),
         and-true (leb (tests p) 2048),
       )

@@ -88,7 +88,7 @@ module _ (t : List ℕ) (whole : sizeAt t 0 ≡ nodes t) where
   good-nodes {p} (one-part f q) i j s (x, y) n m l =
       let o = one-of i j q s in
       let w = argument-below (argument p) j (testsParts q) (namedParts q) x m l in
-      let z = written-parts t (i + 1) q (spells t q (i + 1) _ (o .part)) in
+      let z = written-parts t (i + 1) q (spells t q (i + 1) _ y (o .part)) in
       let first =
       good-nodes q (i + 1) _ (o .part) y (omega arith) (tests-behind (argument p) j (testsParts q) m) (named-rest (argument p) (namedParts q) _ l) in
       own-and
@@ -101,8 +101,8 @@ module _ (t : List ℕ) (whole : sizeAt t 0 ≡ nodes t) where
       let o = two-of i j q r s in
       let both-named = larger (namedParts q) (namedParts r) in
       let w = argument-below (argument p) j (testsParts q + testsParts r) both-named x m l in
-      let z = written-parts t (i + 1) q (spells t q (i + 1) _ (o .first)) in
-      let u = written-parts t (i + 1 + sizeOf q) r (spells t r (i + 1 + sizeOf q) _ (o .second)) in
+      let z = written-parts t (i + 1) q (spells t q (i + 1) _ y (o .first)) in
+      let u = written-parts t (i + 1 + sizeOf q) r (spells t r (i + 1 + sizeOf q) _ y′ (o .second)) in
       let z′ : sizeAt t (i + 1 + sizeAt t (i + 1)) ≡ sizeOf r = rw z u in
       let b = tests-behind (argument p) j (testsParts q + testsParts r) m in
       let c = named-rest (argument p) both-named _ l in
@@ -125,5 +125,5 @@ made-nodes-good p f i l =
     let n = made-nodes p in
     let m = made-configurations p in
     let v = made-events p in
-    let whole : sizeAt (tableOf p) 0 ≡ nodes (tableOf p) = written (tableOf p) 0 p (made-spells p) ∙ sym n in
+    let whole : sizeAt (tableOf p) 0 ≡ nodes (tableOf p) = written (tableOf p) 0 p (made-spells p f) ∙ sym n in
     good-nodes (tableOf p) whole (parts p) 0 0 (made-stands p) f (omega arith) (omega arith) (omega arith) i (omega arith) (omega arith)

@@ -1,5 +1,5 @@
--- The configurations of the table that is made from a program have height at most 16 exactly if all its tests do.
-use Prim.Native.Nat.{ℕ, zero, suc, _+_, _≤_, _<_, max}
+-- The configurations of the table that is made from a program in form have height at most 16 exactly if all its tests do.
+use Prim.Native.Nat.{ℕ, zero, suc, _+_, _*_, _/_, _%_, _≤_, _<_, max}
 use mathlib.Core.Bool.{Bool, true, false, _&&_}
 use mathlib.Core.Path.{_≡_, refl, sym, ap, _∙_}
 use mathlib.Core.List.{List, [], _++_}
@@ -17,11 +17,12 @@ use Rattle.table.proofs.Heights.{height-good}
 use Rattle.table.proofs.Laid.{both as both-true}
 use Rattle.form.specs.Made.{testsWith, testsParts, tests, behind as after, testRecords, recordsWith, testsOfParts}
 use Rattle.form.specs.Made.{tableOf}
+use Rattle.form.specs.InForm.{InForm}
 use Rattle.form.proofs.BytesAt.{Has}
 use Rattle.form.proofs.Spans.{All, both, own-and, own-and-both, first-of, second-of, behind-own, first-behind}
 use Rattle.form.proofs.Spans.{second-behind}
 use Rattle.form.proofs.Spans
-use Rattle.form.proofs.MadeRecords.{test-there, test-behind, BothTests, both-tests, tested-there}
+use Rattle.form.proofs.MadeRecords.{test-there, kind-is, event-kind, test-behind, BothTests, both-tests, tested-there}
 use Rattle.form.proofs.MadeRecords.{behind-argument}
 use Rattle.form.proofs.MadeSpells.{made-stands}
 use Rattle.form.proofs.MadeTests.{size-there, GoodTest, first-tests, second-tests, all-tests-good}
@@ -119,24 +120,24 @@ module _ (t : List ℕ) where
   abbrev HeightWhere : ℕ → Config → Type 0
   HeightWhere h d = (j : ℕ) → There d j → heightAtMost t h j ≡ leb (tall d) h
 
-  height-both : (h : ℕ) {j k : ℕ} {d e : Config} → Parts j k d e → parts k ≡ 2 → GoodTest t j → HeightWhere h d → HeightWhere h e
+  height-both : (h : ℕ) {j k : ℕ} {d e : Config} → Parts j k d e → k < 16 → parts k ≡ 2 → GoodTest t j → HeightWhere h d → HeightWhere h e
       → heightAtMost t (suc h) j ≡ leb (1 + max (tall d) (tall e)) (suc h)
-  height-both h {j} {d = d} {e = e} o p g first second =
+  height-both h {j} {d = d} {e = e} o l p g first second =
       let s = size-there t (j + 1) d (o .first .records) in
-      height-good t h j 2 g (ap parts (o .own .own .kind-is) ∙ p)
+      height-good t h j 2 g (ap parts (kind-is (o .own .own) l) ∙ p)
       ∙ rw (s, first _ (o .first), second _ (o .second)) (one-more-than-both (tall d) (tall e) h)
 
   height-is : (h : ℕ) (d : Config) → HeightWhere h d
   unfolding testRecords tall parts heightAtMost
   height-is zero d j x = sym (lt-leb (tall d) 0 (tall-least d))
   height-is (suc h) (Event s) j x =
-      let o = test-there 0 s 1 (x .records) in
-      height-good t h j 0 (own-good x) (ap parts (o .kind-is)) ∙ sym (le-leb 1 (suc h) (omega arith))
+      let o = test-there (16 * (s / 256)) (s % 256) 1 (x .records) in
+      height-good t h j 0 (own-good x) (ap parts (event-kind s o)) ∙ sym (le-leb 1 (suc h) (omega arith))
   height-is (suc h) (Not d) j x =
       let o = test-there 1 0 (1 + weight d) (x .records) in
-      height-good t h j 1 (own-good x) (ap parts (o .kind-is)) ∙ (height-is h d (j + 1) (part-there x) ∙ one-more (tall d) h)
-  height-is (suc h) (And d e) j x = height-both h (and-there x) refl (own-good x) (height-is h d) (height-is h e)
-  height-is (suc h) (Or d e) j x = height-both h (or-there x) refl (own-good x) (height-is h d) (height-is h e)
+      height-good t h j 1 (own-good x) (ap parts (kind-is o (omega arith))) ∙ (height-is h d (j + 1) (part-there x) ∙ one-more (tall d) h)
+  height-is (suc h) (And d e) j x = height-both h (and-there x) (omega arith) refl (own-good x) (height-is h d) (height-is h e)
+  height-is (suc h) (Or d e) j x = height-both h (or-there x) (omega arith) refl (own-good x) (height-is h d) (height-is h e)
 
   -- all records of a configuration are as low as it is
   abbrev LowWhere : ℕ → Config → Type 0
@@ -212,16 +213,16 @@ module _ (t : List ℕ) where
       (low-exactly q next (first-tests t next q r b) (first-of (GoodTest t) next (testsParts q) (testsParts r) k))
       (low-exactly r (next + testsParts q) (second-tests t next q r b) (second-of (GoodTest t) next (testsParts q) (testsParts r) k)))
 
-made-exactly : (p : Program) → Exactly (tableOf p) 0 (tests p) (LowTests p)
+made-exactly : (p : Program) → InForm p → Exactly (tableOf p) 0 (tests p) (LowTests p)
 unfolding tests LowTests
-made-exactly p = low-exactly (tableOf p) (taken-apart p) 0 (made-stands p .tests-there) (all-tests-good p)
+made-exactly p f = low-exactly (tableOf p) (taken-apart p) 0 (made-stands p .tests-there) (all-tests-good p f)
 
 -- all configurations of the table are good exactly if all tests are low
-pub made-good : (p : Program) → LowTests p → (j : ℕ) → j < tests p → goodConfiguration (tableOf p) j ≡ true
+pub made-good : (p : Program) → InForm p → LowTests p → (j : ℕ) → j < tests p → goodConfiguration (tableOf p) j ≡ true
 unfolding goodConfiguration
-made-good p a j l = rw (made-tests-good p j l, made-exactly p .enough a j (omega arith) (omega arith))
+made-good p f a j l = rw (made-tests-good p f j l, made-exactly p f .enough a j (omega arith) (omega arith))
 
-pub made-low : (p : Program) → ((j : ℕ) → j < tests p → goodConfiguration (tableOf p) j ≡ true) → LowTests p
+pub made-low : (p : Program) → InForm p → ((j : ℕ) → j < tests p → goodConfiguration (tableOf p) j ≡ true) → LowTests p
 unfolding goodConfiguration
-made-low p g =
-    made-exactly p .only (λ j h l. both-true {a = goodButHeight (tableOf p) j} (g j (omega arith)) .1)
+made-low p f g =
+    made-exactly p f .only (λ j h l. both-true {a = goodButHeight (tableOf p) j} (g j (omega arith)) .1)

@@ -1,13 +1,14 @@
 -- The records of a part of a program at their place in a table, and those of its own parts.
-use Prim.Native.Nat.{ℕ, _+_, _*_}
+use Prim.Native.Nat.{ℕ, _+_, _*_, _/_, _%_, _<_}
 use mathlib.Core.Path.{_≡_, refl}
 use mathlib.Core.List.{List, [], _∷_, _++_}
 use native.Mathlib.Omega.{arith}
 use native.Mathlib.Nat.{add-zero}
+use Rattle.events.specs.Members.{places}
 use Rattle.junior.specs.Configuration.{Config}
 use Rattle.junior.specs.Program.{Program, Argument, no-argument, number, event, configuration, argument, kind}
 use Rattle.junior.specs.Program.{Leaf, One, Two, Parts, no-part, one-part, two-parts, sizeOf, size}
-use Rattle.table.specs.Records.{kindAt, zeroAt, argumentAt, sizeAt, configurationAt, partKind, partEvent, partSize}
+use Rattle.table.specs.Records.{byte, kindAt, zeroAt, argumentAt, sizeAt, configurationAt, kindByte, partKind, partEvent, partSize}
 use Rattle.table.specs.Spells.{weight}
 use Rattle.form.specs.Made.{big, testsParts, asNumber, behind as after, node, nodesFromParts, testRecords}
 use Rattle.form.specs.Made.{recordsWith, testsOfParts}
@@ -38,17 +39,36 @@ abbrev pub testRecord : ℕ → ℕ → ℕ → List ℕ → List ℕ
 testRecord k e s w = k ∷ e ∷ (big s ++ w)
 
 pub record Test (t : List ℕ) (c k e s : ℕ) : Type 0 where
-  pub kind-is : partKind t c ≡ k
-  pub event-is : partEvent t c ≡ e
+  pub kind-byte-is : kindByte t c ≡ k
+  pub event-byte-is : byte t (c + 1) ≡ e
   pub size-is : partSize t c ≡ s
 
 pub test-there : {t : List ℕ} {c : ℕ} (k e s : ℕ) {w : List ℕ} → Has t c (testRecord k e s w) → Test t c k e s
 test-there {t} {c} k e s {w} h =
     record {
-      kind-is = rw (add-zero c) at (h .at 0 (omega arith));
-      event-is = h .at 1 (omega arith);
+      kind-byte-is = rw (add-zero c) at (h .at 0 (omega arith));
+      event-byte-is = h .at 1 (omega arith);
       size-is = word-there s (behind (k ∷ e ∷ []) (big s ++ w) refl h);
     }
+
+-- a kind below 16 is its byte
+pub kind-is : {t : List ℕ} {c k e s : ℕ} → Test t c k e s → k < 16 → partKind t c ≡ k
+kind-is o l = let k = o .kind-byte-is in omega arith
+
+-- the kind byte of event s
+pub event-kind : (s : ℕ) {t : List ℕ} {c e n : ℕ} → Test t c (16 * (s / 256)) e n → partKind t c ≡ 0
+event-kind s o = let k = o .kind-byte-is in omega arith
+
+module _ (s : ℕ) {t : List ℕ} {c n : ℕ} (o : Test t c (16 * (s / 256)) (s % 256) n) (l : s < places) where
+  pub few-sixteens : kindByte t c < 64
+  few-sixteens = let k = o .kind-byte-is in omega arith
+
+  pub event-is : partEvent t c ≡ s
+  event-is =
+      let k = o .kind-byte-is in
+      let e = o .event-byte-is in
+      let sixteens : kindByte t c / 16 ≡ s / 256 = omega arith in
+      omega arith
 
 -- what stands behind a configuration's own record
 pub test-behind : {t : List ℕ} {c b : ℕ} (k e s : ℕ) {w : List ℕ} → c + 4 ≡ b → Has t c (testRecord k e s w) → Has t b w

@@ -34,12 +34,12 @@ module _ (p : Program) (f : InForm p) where
 
   module _ (low : LowTests p) where
     all-configurations-good : ConfigurationsGood (tableOf p)
-    all-configurations-good j l = made-good p low j (omega (arith, made-configurations p))
+    all-configurations-good j l = made-good p f low j (omega (arith, made-configurations p))
 
     pub made-tree : treeOf (tableOf p) ≡ p
     made-tree =
         let some : 0 < nodes (tableOf p) = omega (arith, made-nodes p, size-pos p) in
-        one-tree (tableOf p) 0 _ p (spells-tree (tableOf p) all-configurations-good some all-nodes-good) (made-spells p)
+        one-tree (tableOf p) 0 _ p (spells-tree (tableOf p) all-configurations-good some all-nodes-good) (made-spells p f)
 
     -- it is judged by the program alone
     pub made-verdict : needed p ≤ 32778 → size p ≤ 4096 → tests p ≤ 2048 → verdictOf (tableOf p) ≡ programVerdict p

@@ -1,5 +1,6 @@
 -- The written form (01, "Written form"): the `Jr.` constructors of 000, 2.2, an event being its number. One space after each comma, after
--- `not` and round `and` and `or`; no other blank. Numbers are decimal without leading zeros: events below 256, others at most 65,535.
+-- `not` and round `and` and `or`; no other blank. Numbers are decimal without leading zeros: events below 1,024 (L10), others at most
+-- 65,535.
 use Prim.Native.Nat.{ℕ, _<_, _≤_}
 use mathlib.Core.List.{List, _++_}
 use Rattle.events.specs.Members.{places}

@@ -82,9 +82,9 @@ nodesFromParts {p} j (two-parts f q r) =
 unfoldable pub nodesFrom : ℕ → Program → List ℕ
 nodesFrom j p = nodesFromParts j (parts p)
 
--- the records of a configuration
+-- the records of a configuration; an event's kind byte has the upper part of its number (L10)
 unfoldable pub testRecords : Config → List ℕ
-testRecords (Event s) = Bytes.configuration 0 s 1
+testRecords (Event s) = Bytes.configuration (16 * (s / 256)) (s % 256) 1
 testRecords (Not c) = Bytes.configuration 1 0 (1 + weight c) ++ testRecords c
 testRecords (And c d) = Bytes.configuration 2 0 (1 + weight c + weight d) ++ (testRecords c ++ testRecords d)
 testRecords (Or c d) = Bytes.configuration 3 0 (1 + weight c + weight d) ++ (testRecords c ++ testRecords d)

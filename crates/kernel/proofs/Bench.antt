@@ -1,5 +1,5 @@
 -- The bench list holds: its tables' verdicts and trees compute, and its instants are computed by the proof that instants exist.
-use Prim.Native.Nat.{ℕ, zero, suc, _+_, _*_}
+use Prim.Native.Nat.{ℕ, zero, suc, _+_, _*_, _/_}
 use mathlib.Core.Path.{_≡_, refl, ap, sym, subst, _∙_}
 use mathlib.Core.Logic.{_≢_, _⊎_, inl, inr}
 use mathlib.Core.List.{List, [], _∷_, _++_, map}
@@ -7,7 +7,7 @@ use native.Mathlib.Omega.{arith}
 use lib.ListN.{length, drop, replicate, length-replicate}
 use Rattle.events.specs.declared.EventSet.{EventSet}
 use Rattle.events.specs.Events.{none, put, howMany, lowest}
-use Rattle.events.specs.Members.{marks, members}
+use Rattle.events.specs.Members.{places, marks, members}
 use Rattle.events.proofs.Words.{marks-zeros}
 use Rattle.junior.specs.Configuration.{test, fixed, eval, early-true, early-false}
 use Rattle.junior.specs.declared.Flag.the-variants.{SUSP}
@@ -44,11 +44,11 @@ use Rattle.kernel.specs.Answer.{Started}
 use Rattle.kernel.specs.Bench.{Line, Entry, accepted, refused, not-started, not-run, resumed, Checks, Starts, Answers}
 use Rattle.kernel.specs.Bench.{Follow, Alone, word-of, words-of, set, turned-down, Shown, All, phases, K1-to-K12}
 use Rattle.kernel.specs.Bench.{more-of-the-forms, loops, resumed-rooms, tests, figures, harmless-loops, waiting-tests}
-use Rattle.kernel.specs.Bench.{refused-tables, refused-rooms, not-at-rest, bench-list}
+use Rattle.kernel.specs.Bench.{many-events, refused-tables, refused-rooms, not-at-rest, bench-list}
 use Rattle.kernel.proofs.Accepted.{admitted}
 use Rattle.kernel.proofs.Outcomes.{start-ran}
 use Rattle.kernel.proofs.OneAnswer.{ran-or-not, one-start}
-use Rattle.kernel.proofs.Lines.{signs, fit, whole-is, placed, Seen, seen, seen-run, seen-refused, past-rest}
+use Rattle.kernel.proofs.Lines.{downFrom, soughtOutcome, sought-outcome, signs, fit, whole-is, placed, Seen, seen, seen-run, seen-refused, past-rest}
 use Rattle.kernel.proofs.Lines.{outcome-past-rest, only-answers, run-answers, refused-answers}
 
 -- what is seen of the instants of these lines, from the term x at rest with b behind it in the room
@@ -116,7 +116,7 @@ starts t v =
 -- what is seen of instants that are refused, each in its own room
 alone-by : List ℕ → (y : Line) → (y .answer .outcome ≡ Ran) ⊎ (y .answer .outcome ≢ Ran) → List Seen → List Seen
 alone-by t y (inl e) later = []
-alone-by t y (inr e) later = seen-refused y (y .state) (instantOutcome t (y .state) (members (y .handed)) (y .lent)) ∷ later
+alone-by t y (inr e) later = seen-refused y (y .state) (soughtOutcome t (y .state) (members (y .handed)) (y .lent)) ∷ later
 
 told-alone : List ℕ → List Line → List Seen
 told-alone t [] = []
@@ -133,9 +133,9 @@ stand-alone t (y ∷ l) h = go (ran-or-not (y .answer .outcome)) (stand-alone t 
         → Answers t (y .state) y × Alone t l
     go (inl ran) f h = absurd (let z : _≡_ {A = ℕ} 0 1 = cc in omega arith)
     go (inr not) f h =
-        let o = instantOutcome t (y .state) (members (y .handed)) (y .lent) in
+        let o = soughtOutcome t (y .state) (members (y .handed)) (y .lent) in
         let now : seen-refused y (y .state) o ≡ seen y = cc in
-        (refused-answers t (y .state) y o refl not now, f cc)
+        (refused-answers t (y .state) y o (sought-outcome t (y .state) (members (y .handed)) (y .lent)) not now, f cc)
 
 -- a verdict accepts, or it is the outcome of every call
 abbrev Accepts : Checked → Type 0
@@ -200,7 +200,7 @@ module _ (t : List ℕ) (c : Checked) {n i : ℕ} (h : Checks t c n i 0 0 0) (aw
   no-instant : (s : List ℕ) (X : EventSet) (row : List ℕ) → Answers t s (turned-down X row s (Table c) n i)
   unfolding instantOutcome outcomeNumber outcomeIndex word-of words-of fit
   no-instant s X row =
-      let nowhere : members (set []) ≡ none = marks-zeros 4 in
+      let nowhere : members (set []) ≡ none = marks-zeros (places / 64) in
       only-answers
       (record {
         outcome-is = rw (h .verdict-is, away _);
@@ -285,7 +285,7 @@ and-all [] m h k = k
 and-all (x ∷ l) m (s, h) k = (s, and-all l m h k)
 
 pub bench : All Shown bench-list
-unfolding computed listed if-accepted if-refused judged told told-by told-alone alone-by ran-or-not signs fit placed word-of words-of phases
+unfolding computed listed if-accepted if-refused judged told told-by told-alone alone-by ran-or-not downFrom signs fit placed word-of words-of phases
     verdictOf recordsVerdict nodesVerdict programVerdict lengthGood countsGood distancesGood preorder firstSuch light numberOf indexOf
     figuresOf goodNode laidOut children argumentLimit goodConfiguration goodButHeight heightAtMost parts configurationOf form programOf
     size kind stops early-true early-false figure outcomeNumber outcomeIndex startOutcome startedRoom instantOutcome rests phaseRests flagsRest
@@ -301,8 +301,9 @@ bench =
     (and-all figures _ (all-show figures refl)
     (and-all harmless-loops _ (all-show harmless-loops refl)
     (and-all waiting-tests _ (all-show waiting-tests refl)
+    (and-all many-events _ (all-show many-events refl)
     (and-all refused-tables _ (all-show refused-tables refl)
-    (and-all refused-rooms _ (all-show refused-rooms refl) (all-show not-at-rest refl))))))))))
+    (and-all refused-rooms _ (all-show refused-rooms refl) (all-show not-at-rest refl)))))))))))
   where
     resumed-shown : All Shown resumed-rooms
     resumed-shown =

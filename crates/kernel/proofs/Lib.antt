@@ -12,5 +12,8 @@ pub mod NeverRoundTwice
 pub mod AnyOrder
 pub mod Bounds
 pub mod OneAnswer
+pub mod Listed
+pub mod TablesBefore
+pub mod ThousandEvents
 pub mod Lines
 pub mod Bench

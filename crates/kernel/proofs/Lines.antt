@@ -13,6 +13,7 @@ use borrow.Author.Tests.{eqb-true, eqb-false, ltb-true, ltb-false, ne-eqb, le-le
 use Rattle.events.specs.declared.EventSet.{EventSet}
 use Rattle.events.specs.Events.{Events, none, howMany, lowest}
 use Rattle.events.specs.Members.{places, members, Whole}
+use Rattle.events.proofs.Events.{lowest-is}
 use Rattle.events.proofs.Sets.{members-past}
 use Rattle.junior.specs.Configuration.{handed-in}
 use Rattle.junior.specs.Term.{Term, prog}
@@ -24,7 +25,7 @@ use Rattle.junior.specs.Waited.{Wait, waited}
 use Rattle.junior.proofs.Grows.{among, only-generated-in-all}
 use Rattle.junior.proofs.Waited.{one-waited}
 use Rattle.table.specs.declared.Checked.the-variants.{Accepted}
-use Rattle.table.specs.Records.{nodes}
+use Rattle.table.specs.Records.{nodes, events}
 use Rattle.table.specs.Spells.{treeOf}
 use Rattle.table.specs.Verdict.{verdictOf}
 use Rattle.table.proofs.Laid.{both}
@@ -33,12 +34,69 @@ use Rattle.state.proofs.Parts.{len-bytes}
 use Rattle.state.specs.Resting.{blamed}
 use Rattle.state.proofs.Blameless.{resting}
 use Rattle.kernel.specs.declared.Outcome.{Outcome}
-use Rattle.kernel.specs.declared.Outcome.the-variants.{Ran, UnlistedEvent, AtomRoom}
-use Rattle.kernel.specs.Answer.{outcomeNumber, outcomeIndex, unlisted, instantOutcome, ended, nodeOf, eventOf, Answered}
+use Rattle.kernel.specs.declared.Outcome.the-variants.{Ran, StateRoom, NotAtRest, UnlistedEvent, AtomRoom}
+use Rattle.kernel.specs.Answer.{outcomeNumber, outcomeIndex, onAccepted, hasRoom, instantOutcome, ended, nodeOf, eventOf, Answered}
 use Rattle.kernel.specs.Bench.{Line, Answers}
 use Rattle.kernel.proofs.Accepted.{admitted}
 use Rattle.kernel.proofs.Outcomes.{instant-is}
 use Rattle.kernel.proofs.OneAnswer.{one-instant}
+
+-- The lowest event, looked for from the last one down, which computes in as many steps as there are events: f, or the lowest of the first n.
+unfoldable pub downFrom : ℕ → Events → ℕ → ℕ
+downFrom zero X f = f
+downFrom (suc n) X f = downFrom n X (cond (X n) n f)
+
+-- f is the lowest of the first m, but perhaps for the first n
+record Above (m n : ℕ) (X : Events) (f : ℕ) : Type 0 where
+  from : n ≤ f
+  within : f ≤ m
+  absent : (k : ℕ) → n ≤ k → k < f → X k ≡ false
+  there : f < m → X f ≡ true
+
+from-above : (m n : ℕ) (X : Events) (f : ℕ) → Above m n X f → downFrom n X f ≡ lowest m X
+unfolding downFrom
+from-above m zero X f h = lowest-is m f X (h .within) (λ k l. h .absent k (omega arith) l) (h .there)
+from-above m (suc n) X f h = from-above m n X (cond (X n) n f) (go (X n) refl)
+  where
+    go : (p : Bool) → X n ≡ p → Above m n X (cond p n f)
+    go true e =
+        let l = h .from in
+        let w = h .within in
+        record { from = omega arith; within = omega arith; absent = λ k a b. absurd (omega arith); there = λ g. e }
+    go false e =
+        let l = h .from in
+        record { from = omega arith; within = h .within; absent = λ k a b. or-n k a b (eqb k n) refl; there = h .there }
+      where
+        or-n : (k : ℕ) → n ≤ k → k < f → (q : Bool) → eqb k n ≡ q → X k ≡ false
+        or-n k a b true q = rw (eqb-true k n q) e
+        or-n k a b false q = let other = eqb-false k n q in h .absent k (omega arith) b
+
+abbrev pub sought : Events → ℕ
+sought X = downFrom places X places
+
+sought-is : (X : Events) → sought X ≡ lowest places X
+sought-is X =
+    from-above places places X places
+    (record { from = omega arith; within = omega arith; absent = λ k a b. absurd (omega arith); there = λ g. absurd (omega arith) })
+
+-- an instant's outcome, with the event that isn't listed so looked for
+abbrev soughtUnlisted : List ℕ → Events → ℕ
+soughtUnlisted t X = sought (λ e. X e && leb (events t) e)
+
+abbrev pub soughtOutcome : List ℕ → List ℕ → Events → List ℕ → Outcome
+soughtOutcome t s X row =
+    onAccepted (verdictOf t) (λ a.
+    cond
+    (hasRoom t s)
+    (cond
+    (ltb (blamed t s) (nodes t))
+    (NotAtRest (blamed t s))
+    (cond (ltb (soughtUnlisted t X) places) (UnlistedEvent (soughtUnlisted t X)) (cond (leb a (length row)) Ran AtomRoom)))
+    StateRoom)
+
+pub sought-outcome : (t s : List ℕ) (X : Events) (row : List ℕ) → soughtOutcome t s X row ≡ instantOutcome t s X row
+unfolding instantOutcome
+sought-outcome t s X row = rw (sought-is (λ e. X e && leb (events t) e))
 
 -- Sets: two are the same if they are so in their places and neither has an event without one.
 
@@ -147,7 +205,7 @@ seen-run y b o n r w = record {
   index = outcomeIndex o;
   events = signs places (r .env .now);
   count = howMany places (r .env .now);
-  lowest = lowest places (r .env .now);
+  lowest = sought (r .env .now);
   atoms = length (atoms (r .acts));
   finished = ended (r .flag);
   passes = n;
@@ -185,8 +243,8 @@ seen-refused y s o = record {
 abbrev pub past-rest : List ℕ → ℕ → Line → Outcome
 past-rest t a y =
     cond
-    (ltb (unlisted t (members (y .handed))) places)
-    (UnlistedEvent (unlisted t (members (y .handed))))
+    (ltb (soughtUnlisted t (members (y .handed))) places)
+    (UnlistedEvent (soughtUnlisted t (members (y .handed))))
     (cond (leb a (length (y .lent))) Ran AtomRoom)
 
 -- the room in which x stands has 4N bytes of it in front
@@ -203,6 +261,7 @@ outcome-past-rest t v b x e rest y =
     let room : 4 * nodes t ≤ length s = rw (length-append (stateBytes x) b) (omega arith) in
     let calm = resting t s (admitted t v .placed) x e (take-at (stateBytes x) b (4 * nodes t) long) rest in
     rw (
+      sought-is (λ e. members (y .handed) e && leb (events t) e),
       instant-is t s v (members (y .handed)) (y .lent),
       le-leb (4 * nodes t) (length s) room,
       le-ltb (blamed t s) (nodes t) (omega arith),
@@ -248,7 +307,7 @@ run-answers t v b x e rest y {n} {r} i ran s =
         instant = instant;
         events-are = same-set (y .answer .events) (r .env .now) reported (sym (ap (λ z. z .events) s)) past;
         count-is = sym (ap (λ z. z .count) s);
-        lowest-is = sym (ap (λ z. z .lowest) s);
+        lowest-is = sym (ap (λ z. z .lowest) s) ∙ sought-is (r .env .now);
         atoms-are = atoms-are;
         finished-is = sym (ap (λ z. z .finished) s);
         waits-node-is = sym (ap (λ z. z .waits-node) s) ∙ ap nodeOf reports;

@@ -103,7 +103,7 @@ ended SUSP = false
 ended STOP = false
 ended TERM = true
 
--- the test and the event that an instant's answer names: "node 4,096 and event 256 if the end was never declared"
+-- the test and the event that an instant's answer names: "node 4,096 and event 256 if the end was never declared" (L1), and "'none' becomes 1,024" (L10)
 abbrev pub nodeOf : Option Wait → ℕ
 nodeOf none = 4096
 nodeOf (some w) = w .node
@@ -131,7 +131,7 @@ pub record Run (t s : List ℕ) (X : Events) (row s′ row′ : List ℕ) (r : A
   pub row-is : row′ ≡ atoms (result .acts) ++ drop (r .atoms) row
 
 -- an instant was refused: every other field 0 or false, the set empty, `places` for the lowest; of L1, "node 4,096 and event 256 if .. the call
--- refused"
+-- refused", with L10's none
 pub record Refused (r : Answer) : Type 0 where
   pub events-are : members (r .events) ≡ no-event
   pub count-is : r .count ≡ 0

@@ -192,7 +192,7 @@ local e p = form 12 e p
 
 -- configurations likewise: an event, a not, an and, an or
 abbrev pub event : ℕ → List ℕ
-event e = configuration 0 e 1
+event e = configuration (16 * (e / 256)) (e % 256) 1
 
 abbrev pub no : List ℕ → List ℕ
 no c = configuration 1 0 (1 + length c / 4) ++ c
@@ -707,6 +707,38 @@ waiting-tests =
     ∷ [])
     ∷ []
 
+-- L10: events from 256 on, by the bytes of their records
+abbrev pub many-events : List Entry
+many-events =
+    -- Await(1023), V 1,024; 768 + 255 isn't below 1,023
+    accepted (table (await 0) (configuration 48 255 1) 1024) 0 0 1
+    (instant [] (waiting 0 1023 (ran [] 0 1024 0 false 2)) row9 (room (0 ∷ []))
+    ∷ instant (1023 ∷ []) (ran (1023 ∷ []) 1 1023 0 true 1) row9 (room (3 ∷ []))
+    ∷ [])
+    ∷ refused (table (await 0) (configuration 48 255 1) 1023) (BadConfiguration 0) 4 0
+    -- event 256 with V 256, with V 257; event 512
+    ∷ refused (table (await 0) (configuration 16 0 1) 256) (BadConfiguration 0) 4 0
+    ∷ accepted (table (await 0) (configuration 16 0 1) 257) 0 0 1
+    (instant (256 ∷ []) (ran (256 ∷ []) 1 256 0 true 1) row9 (room (3 ∷ []))
+    ∷ [])
+    ∷ accepted (table (await 0) (configuration 32 0 1) 513) 0 0 1
+    (instant (256 ∷ []) (waiting 0 512 (ran (256 ∷ []) 1 256 0 false 2)) row9 (room (0 ∷ []))
+    ∷ [])
+    -- 17 is no not, 34 no and, 51 no or, 64 no kind
+    ∷ refused (table (await 0) (configuration 17 0 2 ++ event 0) 600) (BadConfiguration 0) 4 0
+    ∷ refused (table (await 0) (configuration 34 0 3 ++ (event 0 ++ event 1)) 600) (BadConfiguration 0) 4 0
+    ∷ refused (table (await 0) (configuration 51 0 3 ++ (event 0 ++ event 1)) 600) (BadConfiguration 0) 4 0
+    ∷ refused (table (await 0) (configuration 64 0 1) 1024) (BadConfiguration 0) 4 0
+    -- Generate(1023) beside 5; Generate(256) with V 256
+    ∷ accepted (table (generate 1023) [] 1024) 1 0 1
+    (instant (5 ∷ []) (ran (5 ∷ 1023 ∷ []) 2 5 0 true 1) row9 (room (3 ∷ []))
+    ∷ [])
+    ∷ refused (table (generate 256) [] 256) (BadNode 0) 5 0
+    -- V 1,025; of events 1000, 300 and 299 with V 300, 300 is the lowest that isn't listed
+    ∷ refused (table stop [] 1025) BadCounts 2 0
+    ∷ accepted (table stop [] 300) 0 0 1 (turned-down (set (1000 ∷ 300 ∷ 299 ∷ [])) row9 (room (0 ∷ [])) (UnlistedEvent 300) 11 300 ∷ [])
+    ∷ []
+
 -- Refusals 1 to 5 and 7 (6 is run only, 01)
 abbrev pub refused-tables : List Entry
 refused-tables =
@@ -841,4 +873,6 @@ abbrev pub bench-list : List Entry
 bench-list =
     K1-to-K12
     ++ (more-of-the-forms
-    ++ (loops ++ (resumed-rooms ++ (tests ++ (figures ++ (harmless-loops ++ (waiting-tests ++ (refused-tables ++ (refused-rooms ++ not-at-rest)))))))))
+    ++ (loops
+    ++ (resumed-rooms
+    ++ (tests ++ (figures ++ (harmless-loops ++ (waiting-tests ++ (many-events ++ (refused-tables ++ (refused-rooms ++ not-at-rest))))))))))

@@ -72,7 +72,7 @@ number atom-room = 12
 abbrev pub Fails : Check → Handed → ℕ → Type 0
 -- "length below 16 or above 32,778"
 Fails its-length h i = ((length (h .table) < 16) ⊎ (32778 < length (h .table))) × (i ≡ 0)
--- "N, M or V outside its range": N is 1 to 4,096, M 0 to 2,048, V 1 to 256, the places of an event set
+-- "N, M or V outside its range": N is 1 to 4,096, M 0 to 2,048, V 1 to 1,024 (L10), the places of an event set
 Fails its-counts h i =
     (((nodes (h .table) < 1) ⊎ (4096 < nodes (h .table)))
     ⊎ ((2048 < configurations (h .table)) ⊎ ((events (h .table) < 1) ⊎ (places < events (h .table)))))

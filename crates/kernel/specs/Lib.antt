@@ -6,5 +6,7 @@ pub mod Demand3
 pub mod NeverRoundTwice
 pub mod AnyOrder
 pub mod Bounds
+pub mod TablesBefore
+pub mod ThousandEvents
 pub mod Bench
 pub mod Exports

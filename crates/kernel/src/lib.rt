@@ -44,7 +44,7 @@ pub struct Answer {
     pub finished: bool,
     pub passes: usize,
     // The first test in node order that was suspended in the last pass before the end was declared, and the event that it waits for; node
-    // 4,096 and event 256 if the end never was.
+    // 4,096 and event 1,024 if the end never was.
     pub waits: Wait,
 }
 

@@ -16,7 +16,7 @@ Under b (n ∷ l) = (n < b) × Under b l
 
 -- the longest line that can be good has so many bytes
 abbrev pub longest : ℕ
-longest = 1024
+longest = 4096
 
 -- the form: event numbers in decimal without leading zeros, one space between. An empty line names none
 pub record Names (line events : List ℕ) : Type 0 where

@@ -18,7 +18,7 @@ use output::put_refusal;
 use output::put_text;
 
 // The bytes of the longest input line that can be good.
-pub const LONGEST: usize = 1024;
+pub const LONGEST: usize = 4096;
 
 // A room has enough for a line if it has 6 bytes for each atom, and for so many numbers more: the events, and the line's other fields.
 pub const MORE: usize = EventSet::PLACES + 10;

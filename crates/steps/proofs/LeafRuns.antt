@@ -26,7 +26,7 @@ use Rattle.steps.proofs.LoadedNode.{generate-placed}
 use Rattle.steps.proofs.Children.{own-in}
 use Rattle.steps.proofs.Done.{ran-alone}
 use Rattle.steps.proofs.LeafParts.{done-ran, stop-ran, atom-room, atom-ran, generate-ran}
-use Rattle.steps.specs.Numbers.{atoms-at, moved-at, Put}
+use Rattle.steps.specs.Numbers.{atoms-at, moved-at, wordsOf, Put}
 use Rattle.steps.specs.Kinds.{OfKind}
 use Rattle.steps.specs.Lent.{lent, CanRun, HasRun}
 use Rattle.steps.proofs.Context.{put-phase}
@@ -109,8 +109,8 @@ module _ {table : List ℕ} {i : ℕ} {state m row : List ℕ} where
         → HasRun 0 (OfKind generate-kind) (lent table state m row) i (lent table state (set m₁ moved-at 1) row) 2
     generate-run e names there {m₁} q before part behind o =
         let long = q .kept .long ∙ o .numbers .long in
-        let in-set : put e true (marks (take 4 m)) ≡ put e (ltb e (64 * length (take 4 m))) (marks (take 4 m)) =
-        rw (lt-ltb e (64 * length (take 4 m)) (omega (arith, words-wide (o .numbers)))) in
+        let in-set : put e true (marks (wordsOf m)) ≡ put e (ltb e (64 * length (wordsOf m))) (marks (wordsOf m)) =
+        rw (lt-ltb e (64 * length (wordsOf m)) (omega (arith, words-wide (o .numbers)))) in
         record {
           part′ = part;
           around = o .around;
@@ -118,5 +118,5 @@ module _ {table : List ℕ} {i : ℕ} {state m row : List ℕ} where
           below = lit< tt;
           runs = λ t w h P at.
               ran-in (words-stay m₁ moved-at 1 (lit< tt)) (tally-1 m₁ 1 long ∙ ap (λ (l : List ℕ). set l 1 1) (q .tally))
-              (generate-ran (shape-by t w refl) (λ z. on (phase-is (o .around) h ∙ z)) h e names (take 4 m₁) (q .wide) (q .events ∙ in-set));
+              (generate-ran (shape-by t w refl) (λ z. on (phase-is (o .around) h ∙ z)) h e names (wordsOf m₁) (q .wide) (q .events ∙ in-set));
         }

@@ -4,9 +4,9 @@ use mathlib.Core.Bool.{Bool, true, false, cond, _&&_, false≢true}
 use mathlib.Core.Path.{_≡_, refl}
 use mathlib.Core.List.{List}
 use native.Mathlib.Omega.{arith}
-use lib.Dec.{eqb}
+use lib.Dec.{eqb, ltb}
 use borrow.Author.Tests.{eqb-true, ltb-true, leb-true}
-use Rattle.table.specs.Records.{configurations, events, configurationAt, partKind, partEvent, partSize}
+use Rattle.table.specs.Records.{configurations, events, configurationAt, kindByte, partKind, partEvent, partSize}
 use Rattle.table.specs.Good.{laidOut, parts, goodButHeight}
 
 pub both : {a b : Bool} → (a && b) ≡ true → (a ≡ true) × (b ≡ true)
@@ -65,6 +65,7 @@ pub record Fine (t : List ℕ) (j k : ℕ) : Type 0 where
 pub fine : (t : List ℕ) (j k : ℕ) → kindOf t j ≡ k → goodButHeight t j ≡ true → Fine t j k
 unfolding goodButHeight
 fine t j k e g =
-    let h = both g in
+    let own = both {a = ltb (kindByte t (configurationAt t j)) 64} g in
+    let h = both (own .1) in
     let i = both (h .1) in
     rw (← e) (record { kind = kind-below _ (leb-true _ _ (h .0)); event-below = ltb-true _ _ (i .0); laid-out = laid _ _ _ _ (i .1) })

@@ -1,5 +1,5 @@
 -- A configuration's own goodness by the bytes at its place: its kind and event, its size and its parts' sizes.
-use Prim.Native.Nat.{ℕ, zero, suc, _+_, _-_, _*_, _≤_, _<_}
+use Prim.Native.Nat.{ℕ, zero, suc, _+_, _-_, _*_, _/_, _≤_, _<_}
 use mathlib.Core.Bool.{Bool, true, false, cond, _&&_}
 use mathlib.Core.Path.{_≡_, refl, sym, ap, _∙_}
 use mathlib.Core.List.{List}
@@ -7,7 +7,7 @@ use native.Mathlib.Omega.{arith}
 use lib.ListN.{length}
 use lib.Dec.{eqb, leb, ltb, eqb·suc-zero}
 use borrow.Author.Tests.{lt-ltb, le-ltb, lt-leb, le-leb, ne-eqb, ltb-true, ltb-false}
-use Rattle.table.specs.Records.{word, configurations, events, configurationAt, partKind, partEvent, partSize}
+use Rattle.table.specs.Records.{byte, word, configurations, events, configurationAt, kindByte, partKind, partEvent, partSize}
 use Rattle.table.specs.Good.{laidOut, parts, goodButHeight}
 use Rattle.table.specs.Inside.{Framed, Begins}
 use Rattle.table.proofs.Laid.{sizeOf}
@@ -23,8 +23,9 @@ laidAt t c (suc (suc more)) =
 
 abbrev pub ownGood : List ℕ → ℕ → Bool
 ownGood t c =
-    leb (partKind t c) 3
-    && (ltb (partEvent t c) (cond (eqb (partKind t c) 0) (events t) 1) && laidAt t c (parts (partKind t c)))
+    ltb (kindByte t c) 64
+    && (leb (partKind t c) 3
+    && (ltb (partEvent t c) (cond (eqb (partKind t c) 0) (events t) 1) && laidAt t c (parts (partKind t c))))
 
 -- how many parts the configuration at byte c has, 0 if it isn't good but for its height
 abbrev pub partsAt : List ℕ → ℕ → ℕ
@@ -34,37 +35,53 @@ either : (b : Bool) → cond {A = ℕ} b 0 0 ≡ 0
 either true = refl
 either false = refl
 
--- a not, an and, an or by the number of kind and event, as it is laid out
-pub some-parts : (t : List ℕ) (c k : ℕ) → 1 ≤ k → k ≤ 3 → partEvent t c < 256 → word t c ≡ k * 256
+-- a not, an and, an or by the number of its two bytes, as it is laid out
+pub some-parts : (t : List ℕ) (c k : ℕ) → 1 ≤ k → k ≤ 3 → byte t (c + 1) < 256 → word t c ≡ k * 256
     → laidAt t c (parts k) ≡ true → partsAt t c ≡ parts k
 some-parts t c k a b l h g =
+    let own : kindByte t c ≡ k = omega arith in
     let d : partKind t c ≡ k = omega arith in
     let e : partEvent t c ≡ 0 = omega arith in
-    rw (d, e, le-leb k 3 b, ne-eqb k 0 (λ z. omega arith), g)
+    rw (lt-ltb (kindByte t c) 64 (omega arith), d, e, le-leb k 3 b, ne-eqb k 0 (λ z. omega arith), g)
 
 pub no-parts : (t : List ℕ) (c : ℕ) → (word t c ≡ 256 → laidAt t c 1 ≡ false)
     → ((k : ℕ) → 2 ≤ k → k ≤ 3 → word t c ≡ k * 256 → laidAt t c 2 ≡ false) → partsAt t c ≡ 0
 unfolding parts
-no-parts t c f g = go (partKind t c) refl (ltb (partEvent t c) 1) refl
+no-parts t c f g = within (ltb (kindByte t c) 64) refl
   where
-    go : (k : ℕ) → partKind t c ≡ k → (e : Bool) → ltb (partEvent t c) 1 ≡ e → partsAt t c ≡ 0
-    go zero d e h = rw d (either (ltb (partEvent t c) (events t) && eqb (partSize t c) 1))
-    go (suc zero) d true h = rw (d, h, f (omega (arith, ltb-true (partEvent t c) 1 h)))
-    go (suc zero) d false h = rw (d, h)
-    go (suc (suc zero)) d true h = rw (d, h, g 2 (omega arith) (omega arith) (omega (arith, ltb-true (partEvent t c) 1 h)))
-    go (suc (suc zero)) d false h = rw (d, h)
-    go (suc (suc (suc zero))) d true h = rw (d, h, g 3 (omega arith) (omega arith) (omega (arith, ltb-true (partEvent t c) 1 h)))
-    go (suc (suc (suc zero))) d false h = rw (d, h)
-    go (suc (suc (suc (suc k)))) d e h = rw (d, lt-leb (suc (suc (suc (suc k)))) 3 (omega arith))
+    -- a kind byte below 64 is its kind, where its event is 0
+    is-word : {k : ℕ} → kindByte t c < 64 → partKind t c ≡ k → ltb (partEvent t c) 1 ≡ true → word t c ≡ k * 256
+    is-word {k} l d h =
+        let none = ltb-true (partEvent t c) 1 h in
+        let sixteens : kindByte t c / 16 ≡ 0 = omega arith in
+        let own : kindByte t c ≡ k = omega arith in
+        let low : byte t (c + 1) ≡ 0 = omega arith in
+        omega arith
 
--- no good event
-pub not-lone : (t : List ℕ) (c : ℕ) → partEvent t c < 256 → events t ≤ partKind t c * 256 + partEvent t c
+    go : kindByte t c < 64 → (k : ℕ) → partKind t c ≡ k → (e : Bool) → ltb (partEvent t c) 1 ≡ e → partsAt t c ≡ 0
+    go l zero d e h = rw (lt-ltb (kindByte t c) 64 l, d) (either (ltb (partEvent t c) (events t) && eqb (partSize t c) 1))
+    go l (suc zero) d true h = rw (lt-ltb (kindByte t c) 64 l, d, h, f (is-word l d h))
+    go l (suc zero) d false h = rw (lt-ltb (kindByte t c) 64 l, d, h)
+    go l (suc (suc zero)) d true h = rw (lt-ltb (kindByte t c) 64 l, d, h, g 2 (omega arith) (omega arith) (is-word l d h))
+    go l (suc (suc zero)) d false h = rw (lt-ltb (kindByte t c) 64 l, d, h)
+    go l (suc (suc (suc zero))) d true h = rw (lt-ltb (kindByte t c) 64 l, d, h, g 3 (omega arith) (omega arith) (is-word l d h))
+    go l (suc (suc (suc zero))) d false h = rw (lt-ltb (kindByte t c) 64 l, d, h)
+    go l (suc (suc (suc (suc k)))) d e h = rw (lt-ltb (kindByte t c) 64 l, d, lt-leb (suc (suc (suc (suc k)))) 3 (omega arith))
+
+    within : (b : Bool) → ltb (kindByte t c) 64 ≡ b → partsAt t c ≡ 0
+    within true b = go (ltb-true (kindByte t c) 64 b) (partKind t c) refl (ltb (partEvent t c) 1) refl
+    within false b = rw b
+
+-- an event whose number isn't below V is no good one, whatever its kind byte
+pub not-lone : (t : List ℕ) (c : ℕ) → partKind t c ≡ 0 → events t ≤ 16 * kindByte t c + byte t (c + 1)
     → (eqb (partKind t c) 0 && ownGood t c) ≡ false
-not-lone t c l h = go (partKind t c) refl
+not-lone t c d h = go (ltb (kindByte t c) 64) refl
   where
-    go : (k : ℕ) → partKind t c ≡ k → (eqb (partKind t c) 0 && ownGood t c) ≡ false
-    go zero d = rw (d, le-ltb (partEvent t c) (events t) (omega arith))
-    go (suc k) d = rw (d, eqb·suc-zero k)
+    go : (b : Bool) → ltb (kindByte t c) 64 ≡ b → (eqb (partKind t c) 0 && ownGood t c) ≡ false
+    go true b =
+        let l = ltb-true (kindByte t c) 64 b in
+        rw (b, d, le-ltb (partEvent t c) (events t) (omega arith))
+    go false b = rw (b, d)
 
 same-test : (a b x y : ℕ) → (a < b → x < y) → (b ≤ a → y ≤ x) → ltb a b ≡ ltb x y
 same-test a b x y f g = go (ltb a b) refl

@@ -5,7 +5,7 @@ use mathlib.Core.List.{List, [], _∷_}
 use lib.Dec.{eqb, leb, ltb}
 use lib.ListN.{getD}
 use Rattle.table.specs.Records.{nodes, configurations, events, kindAt, zeroAt, argumentAt, sizeAt}
-use Rattle.table.specs.Records.{configurationAt, partKind, partEvent, partSize}
+use Rattle.table.specs.Records.{configurationAt, kindByte, partKind, partEvent, partSize}
 
 -- record i of n, by the sizes written in them, with that many children: their indexes are below n, and its size is 1 plus theirs
 unfoldable pub laidOut : (ℕ → ℕ) → ℕ → ℕ → ℕ → Bool
@@ -46,13 +46,14 @@ goodNode t i =
 unfoldable pub parts : ℕ → ℕ
 parts k = cond (eqb k 0) 0 (cond (eqb k 1) 1 2)
 
--- configuration j is good but for its height: its event is below V, or 0 if it is none
+-- configuration j is good but for its height: its kind byte has at most three sixteens; its event is below V, or 0 if it is none
 unfoldable pub goodButHeight : List ℕ → ℕ → Bool
 goodButHeight t j =
     let c = configurationAt t j in
-    leb (partKind t c) 3
+    ltb (kindByte t c) 64
+    && (leb (partKind t c) 3
     && (ltb (partEvent t c) (cond (eqb (partKind t c) 0) (events t) 1)
-    && laidOut (λ k. partSize t (configurationAt t k)) (configurations t) j (parts (partKind t c)))
+    && laidOut (λ k. partSize t (configurationAt t k)) (configurations t) j (parts (partKind t c))))
 
 -- of no part, of one, of two
 abbrev pub ofParts : ℕ → Bool → Bool → Bool

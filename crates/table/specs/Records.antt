@@ -1,5 +1,5 @@
 -- The table's bytes as records (01, "The table"): numbers are big-endian; nodes, then configurations, then a trailer of ten bytes.
-use Prim.Native.Nat.{ℕ, _+_, _-_, _*_}
+use Prim.Native.Nat.{ℕ, _+_, _-_, _*_, _/_, _%_}
 use mathlib.Core.List.{List}
 use lib.ListN.{length, getD}
 
@@ -47,12 +47,16 @@ secondAt t i = i + 1 + sizeAt t (i + 1)
 abbrev pub configurationAt : List ℕ → ℕ → ℕ
 configurationAt t j = 6 * nodes t + 4 * j
 
--- the configuration at byte c: kind, event, size; its first part, its second
+-- the configuration at byte c: kind, event, size; its first part, its second. "In a configuration record the kind byte of an event may be 0, 16,
+-- 32 or 48, adding 0, 256, 512 or 768 to the event number" (L10): the sixteens of a kind byte aren't its kind's but its event's
+abbrev pub kindByte : List ℕ → ℕ → ℕ
+kindByte t c = byte t c
+
 abbrev pub partKind : List ℕ → ℕ → ℕ
-partKind t c = byte t c
+partKind t c = kindByte t c % 16
 
 abbrev pub partEvent : List ℕ → ℕ → ℕ
-partEvent t c = byte t (c + 1)
+partEvent t c = kindByte t c / 16 % 4 * 256 + byte t (c + 1)
 
 abbrev pub partSize : List ℕ → ℕ → ℕ
 partSize t c = word t (c + 2)

@@ -9,7 +9,9 @@ ghost use Rattle.table.specs.Records.{configurations, events, partKind};
 ghost use Rattle.table.specs.Good.{parts, goodButHeight, heightAtMost, goodConfiguration};
 ghost use Rattle.table.specs.Inside.{Framed, ConfigurationsGood, Begins, SomeBegins};
 ghost use Rattle.table.specs.Inside.Ways.{Way, outward, numbered};
+use super::records::part_kind;
 use super::records::part_size;
+use super::records::wide;
 use super::records::word_at;
 
 // The lowest configuration that isn't good; M if all are.
@@ -62,14 +64,16 @@ fn closed(way: u32) -> u32
     open - ((open > 1) as u32)
 }
 
-// The configuration at byte c is a good event.
+// The configuration at byte c is a good event: with V at most 1,024, a kind byte of 64 or more is as good as an event that isn't below V.
 fn lone(table: &[u8], v: usize, c: usize) -> bool
     requires { ⌜ SomeBegins (now table) c ⌝ }
     requires { ⌜ (v ≡ events (now table)) × (v ≤ places) ⌝ }
     ensures { λ r. ⌜ ((j : ℕ) → Begins (now (table .entry)) c j → r ≡ (eqb (partKind (now (table .entry)) c) 0 && goodButHeight (now (table .entry)) j)) ⌝ }
 {
-    if word_at(table, c) < v {
-        return part_size(table, c) == 1;
+    if part_kind(table, c) == 0 {
+        if 16 * wide(table[c]) + wide(table[c + 1]) < v {
+            return part_size(table, c) == 1;
+        }
     }
     false
 }

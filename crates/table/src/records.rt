@@ -2,6 +2,7 @@
 ghost use mathlib.Core.Path.{_≡_};
 ghost use Prim.Native.Nat.{_+_, _*_, _<_};
 ghost use lib.ListN.{length, getD};
+ghost use Rattle.events.specs.Members.{places};
 ghost use Rattle.table.specs.Records.{word, kindAt, zeroAt, argumentAt, sizeAt, secondAt, partKind, partEvent, partSize};
 
 // A byte as a number.
@@ -62,17 +63,17 @@ pub fn second_at(t: &[u8], i: usize) -> usize
 // The kind of the configuration at byte c.
 pub fn part_kind(t: &[u8], c: usize) -> usize
     requires { ⌜ c < length (now t) ⌝ }
-    ensures { λ r. ⌜ (r ≡ partKind (now (t .entry)) c) × (r < 256) ⌝ }
+    ensures { λ r. ⌜ (r ≡ partKind (now (t .entry)) c) × (r < 16) ⌝ }
 {
-    wide(t[c])
+    wide(t[c]) % 16
 }
 
-// Its event.
+// Its event: the kind byte has the number's upper part.
 pub fn part_event(t: &[u8], c: usize) -> usize
     requires { ⌜ c + 1 < length (now t) ⌝ }
-    ensures { λ r. ⌜ (r ≡ partEvent (now (t .entry)) c) × (r < 256) ⌝ }
+    ensures { λ r. ⌜ (r ≡ partEvent (now (t .entry)) c) × (r < places) ⌝ }
 {
-    wide(t[c + 1])
+    wide(t[c]) / 16 % 4 * 256 + wide(t[c + 1])
 }
 
 // Its size.

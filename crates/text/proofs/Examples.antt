@@ -30,7 +30,7 @@ use Rattle.form.specs.InForm.{InForm}
 use Rattle.form.specs.Made.{namedIn, named, tests, nodesFrom, testRecords, testsOf, trailer, tableOf, needed}
 use Rattle.letters.specs.Text.{beginning}
 use Rattle.text.specs.Answers.{Reads, Prints, Fits}
-use Rattle.text.specs.Examples.{All, none, more, blank, controls, shared, examples-list}
+use Rattle.text.specs.Examples.{All, none, more, blank, controls, shared, await-1023, examples-list}
 use Rattle.form.specs.Inside.Machine.{Next, dead, on, run, reach}
 use Rattle.form.specs.Inside.ReadTo.{start}
 use Rattle.form.proofs.Spelled.{says-spell}
@@ -132,7 +132,9 @@ examples =
     (more (reads (says-spell (Await (Not (Event 3))) (omega arith)) (blank 24) (omega arith, omega arith) refl)
     (more (reads (says-spell (When (And (Event 1) (Not (Event 2))) Nothing Stop) ((omega arith, omega arith), tt, tt)) (blank 44)
     (omega arith, omega arith) refl)
+    (more (reads (says-spell (Await (Event 1023)) (omega arith)) (blank 20) (omega arith, omega arith) refl)
+    (more (prints await-1023 (blank 14) refl (omega arith))
     (more (reads says-p (blank 60) (omega arith, omega arith) refl)
     (more (no-paper shared (blank 31) refl (omega arith))
     (more (not-printed [] (blank 1) BadLength refl (λ e. omega arith))
-    none))))))))))))))))))))
+    none))))))))))))))))))))))

@@ -43,10 +43,14 @@ controls (suc n) = Control 0 (controls n)
 abbrev pub shared : List ℕ
 shared = node 4 0 3 ++ (node 8 0 1 ++ (node 8 0 1 ++ (configuration 0 0 1 ++ (configuration 0 8 1 ++ trailer 3 2 9 26 8))))
 
+-- Await 1023, by the bytes of its record
+abbrev pub await-1023 : List ℕ
+await-1023 = node 8 0 1 ++ (configuration 48 255 1 ++ trailer 1 1 1024 10 4)
+
 abbrev pub examples-list : List Example
 examples-list =
     -- F1: the offset is the length of the longest beginning that some text of the form has
-    failing (bytes "Jr.Await(256)") 11
+    failing (bytes "Jr.Await(1024)") 12
     ∷ failing (bytes "Jr.Await(01)") 10
     ∷ failing (bytes "Jr.Atom(65536)") 12
     ∷ failing (bytes "Jr.Lop") 5
@@ -79,6 +83,9 @@ examples-list =
     ++ (node 0 0 1
     ++ (node 1 0 1 ++ (configuration 2 0 4 ++ (configuration 0 1 1 ++ (configuration 1 0 2 ++ (configuration 0 2 1 ++ trailer 3 4 3 34 16)))))))
     44
+    -- L10: an event from 256 on, read and printed
+    ∷ good (bytes "Jr.Await(1023)") await-1023 20
+    ∷ printing await-1023 (blank 14) (bytes "Jr.Await(1023)") (told.Printed 14)
     -- P, its Seq with three parts
     ∷ good
     (bytes "Jr.Par(Jr.Seq(Jr.Await(0), Jr.Atom(7), Jr.Generate(1)), Jr.Await(1))")

@@ -21,7 +21,7 @@ use text::numbers::refusal_of_print;
 use text::numbers::refusal_of_read;
 
 // The bytes of the longest line that is a call.
-pub const LONGEST: usize = 160000;
+pub const LONGEST: usize = 400000;
 
 pub fn answer_call(
     line: &[u8],

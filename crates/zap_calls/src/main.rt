@@ -22,7 +22,7 @@ const ROW: usize = 4200;
 
 const TEXT: usize = 33000;
 
-const INPUT: usize = 327680;
+const INPUT: usize = 401408;
 
 const OUTPUT: usize = 131072;
 
@@ -56,7 +56,7 @@ fn answer_lines(
     output: &mut [u8],
 )
     requires { ⌜ Rooms (now table) (now state) (now row) (now text) ⌝ }
-    requires { ⌜ (length (now input) ≡ 327680) × (length (now output) ≡ 131072) ⌝ }
+    requires { ⌜ (length (now input) ≡ 401408) × (length (now output) ≡ 131072) ⌝ }
 {
     let mut held = 0;
     for _ in 0..TURNS {
@@ -100,8 +100,8 @@ fn answer_block(
     output: &mut [u8],
 ) -> usize
     requires { ⌜ Rooms (now table) (now state) (now row) (now text) ⌝ }
-    requires { ⌜ (length (now input) ≡ 327680) × (length (now output) ≡ 131072) × (held ≤ to) × (to ≤ length (now input)) ⌝ }
-    ensures { λ r. ⌜ r ≤ 160001 ⌝ }
+    requires { ⌜ (length (now input) ≡ 401408) × (length (now output) ≡ 131072) × (held ≤ to) × (to ≤ length (now input)) ⌝ }
+    ensures { λ r. ⌜ r ≤ 400001 ⌝ }
 {
     let mut from = 0;
     let mut filled = 0;

@@ -3,7 +3,7 @@
 use super::draft::Records;
 use super::random::Random;
 use super::{grow, harm, limits, rest};
-use crate::env::Events;
+use crate::env::{Events, EVENTS};
 use crate::figures::Figures;
 use crate::instant;
 use crate::lines::{print, Call};
@@ -137,15 +137,15 @@ impl Maker {
     /// Events to hand in, seldom one at or above V.
     fn events(&mut self, v: usize) -> Events {
         let likely = *self.r.pick(&[0, 15, 35, 60]);
-        let mut events: Events = (0..v.min(8) as u8).filter(|_| self.r.chance(likely)).collect();
+        let mut events: Events = (0..v.min(8) as u16).filter(|_| self.r.chance(likely)).collect();
         if v > 8 && self.r.chance(50) {
-            events = events.with(self.r.below(v) as u8);
+            events = events.with(self.r.below(v) as u16);
         }
-        if v < 256 && self.r.chance(4) {
-            events = events.with(v as u8);
+        if v < EVENTS && self.r.chance(4) {
+            events = events.with(v as u16);
         }
         if self.r.chance(2) {
-            events = events.with(self.r.byte());
+            events = events.with(self.r.below(EVENTS) as u16);
         }
         events
     }
@@ -167,7 +167,7 @@ impl Maker {
         match self.r.below(10) {
             8 => {
                 words[3] =
-                    self.r.pick(&["256", "00", "1,", ",1", "1,,2", "01", "+1", "1;2", "0,0", "3,1,3"]).to_string()
+                    self.r.pick(&["1024", "00", "1,", ",1", "1,,2", "01", "+1", "1;2", "0,0", "3,1,3"]).to_string()
             }
             9 => words[0] = self.r.pick(&["check", "start", "Instant", "run", "instants"]).to_string(),
             way => harm::spoil_word(&mut words, place, way),

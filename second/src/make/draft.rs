@@ -3,7 +3,7 @@
 /// A condition, to become configuration records.
 #[derive(Clone, Debug, PartialEq, Eq)]
 pub enum Cond {
-    Event(u8),
+    Event(u16),
     Not(Box<Cond>),
     And(Box<Cond>, Box<Cond>),
     Or(Box<Cond>, Box<Cond>),
@@ -31,7 +31,7 @@ pub enum Draft {
 pub mod short {
     use super::{Cond, Draft};
 
-    pub fn event(s: u8) -> Cond {
+    pub fn event(s: u16) -> Cond {
         Cond::Event(s)
     }
     pub fn not(c: Cond) -> Cond {
@@ -99,7 +99,7 @@ impl NodeRecord {
     }
 }
 
-/// A configuration record as numbers, not checked in any way.
+/// A configuration record as numbers, not checked in any way: its kind byte, its event byte, its size.
 #[derive(Clone, Debug)]
 pub struct ConfigRecord {
     pub kind: u8,
@@ -110,6 +110,17 @@ pub struct ConfigRecord {
 impl ConfigRecord {
     pub fn new(kind: u8, event: u8, size: u16) -> ConfigRecord {
         ConfigRecord { kind, event, size }
+    }
+
+    /// The number of an event's record, none for another's.
+    pub fn number(&self) -> Option<u16> {
+        self.kind.is_multiple_of(16).then(|| 16 * u16::from(self.kind) + u16::from(self.event))
+    }
+
+    /// Makes it the record of an event; the number is below 4,096, whether or not a table may name it.
+    pub fn set_number(&mut self, number: u16) {
+        let [high, low] = number.to_be_bytes();
+        (self.kind, self.event) = (16 * high, low);
     }
 }
 
@@ -138,7 +149,7 @@ impl Records {
         records
     }
 
-    /// Records as given: nodes by kind, argument and size, configurations by kind, event and size.
+    /// Records as given: nodes by kind, argument and size, configurations by kind byte, event byte and size.
     pub fn raw(events: u16, nodes: &[(u8, u16, u16)], configs: &[(u8, u8, u16)]) -> Records {
         Records {
             nodes: nodes.iter().map(|&(kind, argument, size)| NodeRecord::new(kind, argument, size)).collect(),
@@ -204,13 +215,14 @@ impl Records {
     /// Appends a condition's records and gives the index of the first.
     pub fn put_cond(&mut self, cond: &Cond) -> u16 {
         let at = self.configs.len();
-        let (kind, event, parts): (u8, u8, Vec<&Cond>) = match cond {
+        let (kind, event, parts): (u8, u16, Vec<&Cond>) = match cond {
             Cond::Event(s) => (0, *s, vec![]),
             Cond::Not(c) => (1, 0, vec![c]),
             Cond::And(c, d) => (2, 0, vec![c, d]),
             Cond::Or(c, d) => (3, 0, vec![c, d]),
         };
-        self.configs.push(ConfigRecord::new(kind, event, 0));
+        let [high, low] = event.to_be_bytes();
+        self.configs.push(ConfigRecord::new(kind + 16 * high, low, 0));
         for part in parts {
             self.put_cond(part);
         }

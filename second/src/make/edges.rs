@@ -2,6 +2,7 @@
 
 use super::draft::short::*;
 use super::draft::{Cond, Draft, Records};
+use super::event_edges;
 use super::limits::{broad, filled, nots, weighing, wrapped};
 use super::loop_edges;
 use super::wait_edges;
@@ -36,6 +37,7 @@ pub fn lines() -> Vec<String> {
     edges.nests();
     loop_edges::add(&mut edges);
     wait_edges::add(&mut edges);
+    event_edges::add(&mut edges);
     let mut met = HashSet::new();
     edges.0.retain(|line| met.insert(line.clone()));
     edges.0
@@ -57,7 +59,7 @@ fn trailer(records: &Records, field: usize, number: u16) -> Vec<u8> {
     bytes
 }
 
-fn set(events: &[u8]) -> Events {
+fn set(events: &[u16]) -> Events {
     events.iter().copied().collect()
 }
 
@@ -77,7 +79,7 @@ impl Edges {
         self.add(Call::Start { table: table.to_vec(), state });
     }
 
-    pub fn instant(&mut self, table: &[u8], state: &[u8], events: &[u8], places: usize) {
+    pub fn instant(&mut self, table: &[u8], state: &[u8], events: &[u16], places: usize) {
         let (table, state) = (table.to_vec(), state.to_vec());
         self.add(Call::Instant { table, state, events: set(events), row: vec![0xa5a5; places] });
     }
@@ -90,7 +92,7 @@ impl Edges {
     }
 
     /// Instants one after the other from a state on, in rooms with places to spare.
-    pub fn go_on(&mut self, records: &Records, state: Vec<u8>, instants: &[&[u8]]) {
+    pub fn go_on(&mut self, records: &Records, state: Vec<u8>, instants: &[&[u16]]) {
         let table = records.bytes();
         let places = instant::check(&table).map_or(0, |figures| figures.a as usize) + 1;
         let mut state = state;
@@ -102,7 +104,7 @@ impl Edges {
     }
 
     /// Instants one after the other from fresh on.
-    pub fn play(&mut self, events: u16, program: &Draft, instants: &[&[u8]]) {
+    pub fn play(&mut self, events: u16, program: &Draft, instants: &[&[u16]]) {
         let records = Records::new(events, program);
         self.go_on(&records, vec![0; 4 * records.nodes.len()], instants);
     }
@@ -116,7 +118,7 @@ impl Edges {
         self.all_calls(&nothing[..15]);
         self.all_calls(&nothing);
         self.all_calls(&[&[0], &nothing[..]].concat());
-        let greatest = filled(4096, 2048, 256);
+        let greatest = filled(4096, 2048, 1024);
         self.check(&greatest.bytes());
         self.instant(&greatest.bytes(), &[0; 4 * 4096], &[0], 0);
         self.check(&[&[0], &greatest.bytes()[..]].concat());
@@ -125,13 +127,13 @@ impl Edges {
         self.check(&vec![0; 33_001]);
     }
 
-    // Refusal 2: N 1 to 4,096, M 0 to 2,048, V 1 to 256; 2 before 3 whatever the length (A12).
+    // Refusal 2: N 1 to 4,096, M 0 to 2,048, V 1 to 1,024; 2 before 3 whatever the length (A12).
     fn ranges(&mut self) {
         let nothing = Records::new(1, &nothing());
         for (field, numbers) in [
             (0, &[0, 1, 2, 4096, 4097, 65_535][..]),
             (1, &[0, 1, 2048, 2049, 65_535]),
-            (2, &[0, 1, 255, 256, 257, 65_535]),
+            (2, &[0, 1, 255, 256, 257, 1_023, 1_024, 1_025, 65_535]),
         ] {
             for &number in numbers {
                 self.all_calls(&trailer(&nothing, field, number));
@@ -277,6 +279,12 @@ impl Edges {
         }
         self.check(&Records::new(256, &generate(255)).bytes());
         self.check(&Records::new(256, &generate(256)).bytes());
+        for form in [generate as fn(u16) -> Draft, |s| control(s, nothing()), |s| local(s, nothing())] {
+            for s in [256, 1_022, 1_023, 1_024, 1_279, 65_535] {
+                self.check(&Records::new(1_023, &form(s)).bytes());
+                self.check(&Records::new(1_024, &form(s)).bytes());
+            }
+        }
         self.check(&Records::new(256, &control(255, local(255, nothing()))).bytes());
         self.check(&Records::new(255, &control(254, local(255, nothing()))).bytes());
         self.check(&Records::new(255, &control(255, local(255, nothing()))).bytes());
@@ -603,10 +611,9 @@ impl Edges {
 
     // Refusal 11: V - 1 and V, and the lowest of several.
     fn handed_events(&mut self) {
-        for v in [1, 2, 128, 129, 200, 255] {
+        for v in [1, 2, 128, 129, 200, 255, 256, 257, 512, 1_000, 1_023] {
             let table = Records::new(v, &wait(event(0))).bytes();
-            let v = v as u8;
-            for events in [&[v - 1][..], &[v], &[v, 255], &[0, v - 1, v], &[255]] {
+            for events in [&[v - 1][..], &[v], &[v, 1_023], &[0, v - 1, v], &[255], &[1_023]] {
                 self.instant(&table, &[0; 4], events, 0);
             }
         }
@@ -614,9 +621,11 @@ impl Edges {
         for events in [&[255][..], &[0], &[127, 128], &[0, 1, 2, 3, 254, 255], &[]] {
             self.instant(&table, &[0; 12], events, 0);
         }
-        let all: Vec<u8> = (0..=255).collect();
-        self.instant(&table, &[0; 12], &all, 0);
-        self.instant(&Records::new(255, &nothing()).bytes(), &[0; 4], &all, 0);
+        let all: Vec<u16> = (0..1_024).collect();
+        self.instant(&table, &[0; 12], &all[..256], 0);
+        self.instant(&Records::new(255, &nothing()).bytes(), &[0; 4], &all[..256], 0);
+        self.instant(&Records::new(1_024, &nothing()).bytes(), &[0; 4], &all, 0);
+        self.instant(&Records::new(1_023, &nothing()).bytes(), &[0; 4], &all, 0);
     }
 
     // With several faults the lowest number wins (C11, A10, A12).
@@ -689,8 +698,8 @@ impl Edges {
             self.0.push(line.to_string());
         }
         for events in [
-            "0", "00", "01", "0,0", "0,", ",0", "0,,0", "255", "256", "999", "1000", "+0", "-0", "--", "0;1", "0, 1",
-            "3,1,2",
+            "0", "00", "01", "0,0", "0,", ",0", "0,,0", "255", "256", "999", "1000", "1023", "1024", "1030", "9999",
+            "10000", "0256", "+0", "-0", "--", "0;1", "0, 1", "3,1,2",
         ] {
             self.0.push(format!("instant {table} 00000000 {events} -"));
         }
@@ -703,8 +712,8 @@ impl Edges {
         }
         self.0.push(format!("check {}", table.replace("06", "0G")));
         self.0.push(format!("check {}", table.to_uppercase()));
-        // Lines of 160,000 and 160,001 bytes: repeated events fill them.
-        let many = ",10".repeat(53_328);
+        // Lines of 400,000 and 400,001 bytes: repeated events fill them.
+        let many = ",10".repeat(133_328);
         self.0.push(format!("instant - - 10{many} -"));
         self.0.push(format!("instant - - 100{many} -"));
     }
@@ -740,7 +749,7 @@ impl Edges {
         // A chain against the order of a pass: one more pass for each link.
         let mut chain = wait(event(9));
         for s in 0..8 {
-            chain = par(chain, seq(wait(event(s)), seq(atom(u16::from(s)), generate(u16::from(s) + 1))));
+            chain = par(chain, seq(wait(event(s)), seq(atom(s), generate(s + 1))));
         }
         self.play(10, &par(chain.clone(), generate(0)), &[&[], &[9]]);
         self.play(10, &par(generate(0), chain), &[&[], &[9]]);

@@ -3,6 +3,7 @@
 use super::draft::short::*;
 use super::draft::{Cond, Draft, Records};
 use super::random::Random;
+use crate::env::EVENTS;
 
 /// What a program is grown from.
 struct Ground<'a> {
@@ -50,23 +51,26 @@ fn weave(r: &mut Random, events: usize, steps: [usize; 8]) -> Draft {
     Ground { r, events, conds, steps }.weave(branches)
 }
 
-/// Gives the events other numbers, anywhere below 256.
+/// Gives the events other numbers, anywhere below 1,024.
 fn spread(r: &mut Random, records: &mut Records) {
-    let step = 2 * r.below(128) + 1;
-    let elsewhere = |event: usize| (event + 1) * step % 256;
+    let step = 2 * r.below(EVENTS / 2) + 1;
+    let elsewhere = |event: u16| ((usize::from(event) + 1) * step % EVENTS) as u16;
     for node in records.nodes.iter_mut().filter(|node| matches!(node.kind, 7 | 11 | 12)) {
-        node.argument = elsewhere(usize::from(node.argument)) as u16;
+        node.argument = elsewhere(node.argument);
     }
-    for config in records.configs.iter_mut().filter(|config| config.kind == 0) {
-        config.event = elsewhere(usize::from(config.event)) as u8;
+    for config in &mut records.configs {
+        if let Some(number) = config.number() {
+            config.set_number(elsewhere(number));
+        }
     }
-    records.events = 256;
+    records.events = EVENTS as u16;
 }
 
 fn records(r: &mut Random, lasting: bool) -> Records {
-    let events = match r.weigh(&[10, 30, 25, 15, 10, 6, 4]) {
+    let events = match r.weigh(&[10, 30, 25, 15, 10, 6, 2, 2]) {
         5 => r.between(6, 20),
         6 => r.between(21, 256),
+        7 => r.between(257, EVENTS),
         few => few + 1,
     };
     let conds = (0..r.between(1, 5)).map(|_| cond(r, events, 3)).collect();
@@ -93,13 +97,16 @@ fn records(r: &mut Random, lasting: bool) -> Records {
         let unused = cond(r, events, 4);
         records.put_cond(&unused);
     }
+    if r.chance(8) {
+        spread(r, &mut records);
+    }
     records
 }
 
 /// A random condition of at most this height.
 pub fn cond(r: &mut Random, events: usize, height: usize) -> Cond {
     if height <= 1 || r.chance(35) {
-        return event(r.below(events) as u8);
+        return event(r.below(events) as u16);
     }
     match r.below(3) {
         0 => not(cond(r, events, height - 1)),
@@ -117,8 +124,7 @@ impl Ground<'_> {
 
     fn test(&mut self) -> Cond {
         if self.r.chance(40) {
-            let s = self.event();
-            event(s as u8)
+            event(self.event())
         } else {
             self.r.pick(&self.conds).clone()
         }
@@ -191,7 +197,7 @@ impl Ground<'_> {
 
     /// A test that isn't true before the end: an event's absence, perhaps and something more.
     fn late(&mut self) -> Cond {
-        let absent = not(event(self.event() as u8));
+        let absent = not(event(self.event()));
         if self.r.chance(60) {
             absent
         } else {
@@ -221,10 +227,10 @@ impl Ground<'_> {
     /// Branches of which each wakes the next by an event of its own, so that an instant takes many passes
     /// while tests, scopes and bodies are held in between.
     fn dominoes(&mut self, links: usize) -> Draft {
-        self.events = self.events.max(links + 1).min(256);
+        self.events = self.events.max(links + 1).min(EVENTS);
         let mut whole = if self.r.chance(50) { generate(0) } else { self.leaf() };
-        for link in 0..links.min(255) {
-            let (wake, next) = (event(link as u8), generate(link as u16 + 1));
+        for link in 0..links.min(EVENTS - 1) {
+            let (wake, next) = (event(link as u16), generate(link as u16 + 1));
             let next = match self.r.below(10) {
                 0..=4 => next,
                 5..=8 => seq(self.atom(), next),
@@ -236,7 +242,7 @@ impl Ground<'_> {
                 2 => when(wake, next, self.leaf()),
                 3 => until(wake, self.stopping(3), next),
                 4 => local(self.event(), par(seq(wait(wake), next), self.leaf())),
-                5 => local(link as u16 + 1, par(seq(wait(wake), seq(next, self.leaf())), wait(event(link as u8 + 1)))),
+                5 => local(link as u16 + 1, par(seq(wait(wake), seq(next, self.leaf())), wait(event(link as u16 + 1)))),
                 _ => seq(wait(or(wake, self.test())), seq(next, self.stopping(2))),
             };
             whole = if self.r.chance(75) { par(link, whole) } else { par(whole, link) };

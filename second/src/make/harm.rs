@@ -24,10 +24,11 @@ fn in_a_record(r: &mut Random, mut records: Records) -> Records {
     if m > 0 && r.chance(40) {
         let other = r.below(m);
         let config = &mut records.configs[r.below(m)];
-        match r.below(4) {
-            0 => config.kind = r.below(6) as u8,
+        match r.below(5) {
+            0 => config.kind = *r.pick(&[0, 1, 2, 3, 4, 5, 15, 16, 17, 18, 19, 32, 33, 48, 49, 51, 64, 80, 128, 240]),
             1 => config.event = near(r, records.events) as u8,
-            2 => config.size = near(r, config.size),
+            2 => config.set_number(near(r, records.events) % 4096),
+            3 => config.size = near(r, config.size),
             _ => records.configs.swap(0, other),
         }
     } else {
@@ -54,7 +55,7 @@ fn near(r: &mut Random, number: u16) -> u16 {
         4 => number,
         5 => 0,
         6 => 65_535,
-        _ => r.below(300) as u16,
+        _ => r.below(1_300) as u16,
     }
 }
 

@@ -2,6 +2,7 @@
 
 use super::random::Random;
 use super::{grow, harm};
+use crate::env::EVENTS;
 use crate::instant;
 use crate::table;
 use std::io::Result;
@@ -50,7 +51,7 @@ fn input(r: &mut Random, events: usize) -> Vec<u8> {
     for _ in 0..lines {
         text.extend(match r.weigh(&[70, 10, 12, 8]) {
             0 => good_line(r, events),
-            1 => good_line(r, 256),
+            1 => good_line(r, EVENTS),
             2 => bad_line(r, events),
             _ => long_line(r, events),
         });
@@ -77,8 +78,8 @@ fn bad_line(r: &mut Random, events: usize) -> Vec<u8> {
         2 => format!("{number}  {number}"),
         3 => format!("0{number}"),
         4 => "00".to_string(),
-        5 => format!("{} {number}", r.between(256, 70_000)),
-        6 => format!("{number} 256 255"),
+        5 => format!("{} {number}", r.between(EVENTS, 70_000)),
+        6 => format!("{number} 1024 1023"),
         7 => format!("{number}\r"),
         8 => format!("{number}\0"),
         9 => format!("{number}\t{number}"),
@@ -92,12 +93,12 @@ fn bad_line(r: &mut Random, events: usize) -> Vec<u8> {
     .into_bytes()
 }
 
-/// A line of good numbers with about 1,024 bytes, some of them above, now and then far above.
+/// A line of good numbers with about 4,096 bytes, some of them above, now and then far above.
 fn long_line(r: &mut Random, events: usize) -> Vec<u8> {
     let length = match r.weigh(&[45, 45, 10]) {
-        0 => r.between(1_020, 1_024),
-        1 => r.between(1_025, 1_030),
-        _ => r.between(1_031, 70_000),
+        0 => r.between(4_090, 4_096),
+        1 => r.between(4_097, 4_102),
+        _ => r.between(4_103, 70_000),
     };
     // One-digit numbers and the spaces between make an odd length; an even one takes a two-digit number.
     let mut line = if length % 2 == 0 { b"10".to_vec() } else { b"0".to_vec() };

@@ -96,7 +96,7 @@ impl Ground<'_> {
     }
 
     fn test(&mut self) -> Cond {
-        let s = event(self.event() as u8);
+        let s = event(self.event());
         match self.r.below(5) {
             0 => s,
             1 => not(s),

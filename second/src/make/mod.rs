@@ -3,6 +3,7 @@
 pub mod calls;
 pub mod draft;
 pub mod edges;
+mod event_edges;
 mod grow;
 mod harm;
 mod limits;

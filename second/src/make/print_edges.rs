@@ -47,18 +47,21 @@ fn forms(edges: &mut Edges) {
         repeat(65_535, stop()),
         generate(0),
         generate(255),
+        generate(1_023),
         wait(not(event(10))),
         wait(and(event(99), event(100))),
         wait(or(event(199), event(255))),
+        wait(or(event(256), and(event(999), event(1_000)))),
+        wait(not(event(1_023))),
         when(and(event(1), not(event(2))), atom(1), stop()),
         until(or(and(event(0), event(1)), not(not(event(2)))), stop(), atom(5)),
-        control(0, local(255, stop())),
+        control(0, local(1_023, stop())),
         local(0, control(255, par(wait(event(0)), generate(0)))),
         wrapped(63, stop(), |_, t| control(0, t)),
         wrapped(63, stop(), |_, t| par(t, stop())),
         wait(nots(15, event(7))),
     ] {
-        exact(edges, &Records::new(256, &program));
+        exact(edges, &Records::new(1_024, &program));
     }
     for program in [nothing(), stop(), wait(event(9))] {
         in_rooms(edges, &Records::new(10, &program));
@@ -144,7 +147,7 @@ fn halves(programs: &[Draft]) -> Draft {
 }
 
 /// A full tree of this height over one event.
-fn tree(height: usize, s: u8) -> Cond {
+fn tree(height: usize, s: u16) -> Cond {
     if height == 1 {
         event(s)
     } else {

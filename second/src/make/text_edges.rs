@@ -141,7 +141,7 @@ impl Edges {
         self.read(b"Jr.Stop\0()", 16);
     }
 
-    // Numbers: events below 256, others at most 65,535, no leading zeros (F1), in each place that takes one.
+    // Numbers: events below 1,024, others at most 65,535, no leading zeros (F1), in each place that takes one.
     fn numbers(&mut self) {
         let events: [fn(&str) -> String; 7] = [
             |n| format!("Jr.Generate({n})"),
@@ -155,16 +155,20 @@ impl Edges {
         let others: [fn(&str) -> String; 2] = [|n| format!("Jr.Atom({n})"), |n| format!("Jr.Repeat({n}, Jr.Stop())")];
         for place in events {
             self.exact(&place("255"));
-            self.failing(&[&place("256"), &place("01")]);
+            self.exact(&place("256"));
+            self.exact(&place("1023"));
+            self.failing(&[&place("1024"), &place("01")]);
         }
         for place in others {
             self.exact(&place("65535"));
             self.failing(&[&place("65536"), &place("00")]);
         }
-        for number in ["0", "9", "10", "99", "100", "249", "250"] {
+        for number in
+            ["0", "9", "10", "99", "100", "102", "103", "249", "250", "511", "512", "768", "999", "1000", "1019"]
+        {
             self.exact(&events[1](number));
         }
-        for number in ["", "-1", "+1", " 1", "1 ", "x", "00", "0x1", "260", "300", "1000", "2555"] {
+        for number in ["", "-1", "+1", " 1", "1 ", "x", "00", "0x1", "0256", "1030", "1100", "2000", "2555", "10230"] {
             self.failing(&[&events[1](number)]);
         }
         for number in ["0", "256", "9999", "10000", "60000", "65499", "65529"] {
@@ -173,7 +177,14 @@ impl Edges {
         for number in ["", "1.0", "007", "65540", "65600", "66000", "70000", "99999", "100000", "4294967297"] {
             self.failing(&[&others[0](number)]);
         }
-        self.failing(&["Jr.Atom(18446744073709551616)", "Jr.Atom(6553", "Jr.Atom(65535", "Jr.Await(0", "Jr.Await(25"]);
+        self.failing(&[
+            "Jr.Atom(18446744073709551616)",
+            "Jr.Atom(6553",
+            "Jr.Atom(65535",
+            "Jr.Await(0",
+            "Jr.Await(25",
+            "Jr.Await(102",
+        ]);
     }
 
     // A blank, and other bytes like it, at each place of a text.
@@ -285,7 +296,7 @@ impl Edges {
     // V by whatever names the highest event (F6); configurations in text order, one for each test (F7).
     fn events_and_configurations(&mut self) {
         for place in 0..4 {
-            for high in ["9", "255"] {
+            for high in ["9", "255", "1023"] {
                 let mut numbers = ["3", "2", "4", "1"];
                 numbers[place] = high;
                 let [g, a, c, l] = numbers;

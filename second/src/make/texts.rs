@@ -43,7 +43,7 @@ impl Maker {
 
 /// A text of some size, its events mostly few.
 fn written(r: &mut Random) -> String {
-    let events = *r.pick(&[1, 2, 3, 5, 10, 11, 100, 101, 255, 256]);
+    let events = *r.pick(&[1, 2, 3, 5, 10, 11, 100, 101, 255, 256, 257, 1_000, 1_023, 1_024]);
     let nodes = match r.weigh(&[20, 45, 30, 5]) {
         0 => r.between(1, 3),
         1 => r.between(4, 10),

@@ -31,7 +31,7 @@ fn conds() -> Vec<Cond> {
 }
 
 /// Instants from fresh, each alone.
-fn each(edges: &mut Edges, program: &Draft, sets: &[&[u8]]) {
+fn each(edges: &mut Edges, program: &Draft, sets: &[&[u16]]) {
     for handed in sets {
         edges.play(3, program, &[handed]);
     }
@@ -125,14 +125,14 @@ fn passes(edges: &mut Edges) {
     }
 }
 
-// Event 255 and node 4,095 beside none, tall tests, deep ones, tests that share a configuration or its middle.
+// Event 1,023 and node 4,095 beside none, tall tests, deep ones, tests that share a configuration or its middle.
 fn limits(edges: &mut Edges) {
-    for (s, t) in [(255, 254), (128, 127), (127, 255), (0, 255), (64, 63)] {
-        let records = Records::new(256, &wait(and(event(s), not(event(t)))));
+    for (s, t) in [(255, 254), (128, 127), (127, 255), (0, 1_023), (64, 63), (1_023, 1_022), (256, 255), (512, 768)] {
+        let records = Records::new(1_024, &wait(and(event(s), not(event(t)))));
         for handed in [&[][..], &[s], &[s, 3]] {
             edges.go_on(&records, vec![0; 4], &[handed]);
         }
-        edges.go_on(&Records::new(256, &control(u16::from(s), wait(event(t)))), vec![0; 8], &[&[], &[s]]);
+        edges.go_on(&Records::new(1_024, &control(s, wait(event(t)))), vec![0; 8], &[&[], &[s]]);
     }
     for times in [1, 14, 15] {
         edges.play(1, &wait(nots(times, event(0))), &[&[], &[0]]);

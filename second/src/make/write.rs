@@ -24,7 +24,8 @@ struct Hand<'a> {
 
 impl Hand<'_> {
     fn event(&mut self) -> String {
-        let limits = [0, 9, 10, 19, 25, 26, 99, 100, 199, 200, 249, 250, 254, 255];
+        let limits =
+            [0, 9, 10, 25, 26, 99, 100, 101, 102, 103, 255, 256, 511, 512, 767, 768, 999, 1_000, 1_019, 1_022, 1_023];
         match self.r.weigh(&[60, 20, 20]) {
             0 => self.r.below(self.events.min(4)),
             1 => self.r.below(self.events),

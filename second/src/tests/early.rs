@@ -95,7 +95,7 @@ fn until_needs_its_body() {
 }
 
 /// Every configuration of at most this height over events from a number on, each event standing once.
-fn once(height: usize, first: u8) -> Vec<(Rc<Config>, u8)> {
+fn once(height: usize, first: u16) -> Vec<(Rc<Config>, u16)> {
     let mut found = vec![(Rc::new(Config::Event(first)), first + 1)];
     if height == 1 {
         return found;
@@ -126,7 +126,7 @@ fn early_is_what_events_can_decide() {
 // A configuration, events standing twice in it or not, has exactly one early value: the one that all events give it.
 #[test]
 fn one_early_value() {
-    let all = Env { present: (0..=255).collect(), eoi: false, moved: false };
+    let all = Env { present: (0..1_024).collect(), eoi: false, moved: false };
     let mut tests: Vec<Rc<Config>> = once(4, 0).into_iter().map(|(c, _)| c).collect();
     for program in programs() {
         tests.extend(subtree(&program.root).into_iter().filter_map(|node| match &node.written {

@@ -22,7 +22,7 @@ fn bytes(word: &str) -> Vec<u8> {
     read_hex(word.as_bytes()).expect("printed hexadecimal")
 }
 
-// A refusal has every other field 0, the set empty and lowest 256, and writes nothing.
+// A refusal has every other field 0, the set empty and lowest 1,024, and writes nothing.
 #[test]
 fn a_refusal_writes_nothing() {
     each_case(|line, answer| match (line[0], answer[0]) {
@@ -30,7 +30,7 @@ fn a_refusal_writes_nothing() {
         ("check", _) => assert_eq!(answer[2..], ["0", "0", "0"]),
         ("start", _) => assert_eq!(answer[2], line[2]),
         _ => {
-            assert_eq!(answer[2..10], ["-", "0", "256", "0", "0", "0", "4096", "256"]);
+            assert_eq!(answer[2..10], ["-", "0", "1024", "0", "0", "0", "4096", "1024"]);
             assert_eq!(answer[10..], [line[2], line[4]]);
         }
     });

@@ -33,7 +33,7 @@ fn listing_of_p() {
 
 #[test]
 fn e1_numbers_too_great() {
-    let text = listing(&patient(9), b"8\n9\n255 12 9\n256\n9 256\n");
+    let text = listing(&patient(9), b"8\n9\n1023 12 9\n1024\n9 1024\n");
     assert_eq!(text, "1 1 STOP 8 -\n2 refused 11 9\n3 refused 11 9\n4 bad-line\n5 bad-line\n");
 }
 
@@ -48,8 +48,8 @@ fn e2_malformed_lines() {
 
 #[test]
 fn e3_long_lines() {
-    // 341 numbers of two digits and their spaces make 1,022 bytes.
-    let line = vec!["10"; 341].join(" ");
+    // 1,365 numbers of two digits and their spaces make 4,094 bytes.
+    let line = vec!["10"; 1_365].join(" ");
     let input = format!("{line} 7\n{line} 77\n{line} 7 7\n0\n{line} 7");
     assert_eq!(
         listing(&patient(11), input.as_bytes()),

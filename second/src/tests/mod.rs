@@ -3,6 +3,7 @@
 
 mod bench;
 mod early;
+mod events;
 mod laws;
 mod listings;
 mod loops;
@@ -50,7 +51,7 @@ impl Play {
         play
     }
 
-    fn call(&mut self, events: &[u8]) -> Result<Report, Refusal> {
+    fn call(&mut self, events: &[u16]) -> Result<Report, Refusal> {
         let mut row = vec![0; 4096];
         let answer = instant::instant(&self.table, &mut self.state, set(events), &mut row);
         self.atoms = row[..answer.as_ref().map_or(0, |report| report.atoms)].to_vec();
@@ -59,10 +60,10 @@ impl Play {
     }
 
     /// Runs an instant that must take these passes, answer this flag, and leave these events and atoms.
-    fn instant(&mut self, handed: &[u8], passes: usize, answer: &str, events: &[u8], atoms: &[u16]) {
+    fn instant(&mut self, handed: &[u16], passes: usize, answer: &str, events: &[u16], atoms: &[u16]) {
         let report = self.call(handed).expect("no refusal");
         let flag = if report.finished { "TERM" } else { "STOP" };
-        let present: Vec<u8> = report.events.rising().collect();
+        let present: Vec<u16> = report.events.rising().collect();
         assert_eq!((report.passes, flag, &present[..], &self.atoms[..]), (passes, answer, events, atoms));
     }
 
@@ -72,7 +73,7 @@ impl Play {
     }
 }
 
-fn set(events: &[u8]) -> Events {
+fn set(events: &[u16]) -> Events {
     events.iter().copied().collect()
 }
 

@@ -6,7 +6,7 @@ use crate::make::{edges, orders};
 use crate::words::{event as number, read_hex};
 
 /// What no order may change: event set, finished answer, end state, the atoms, however ordered, and, more than L6 asks, what is waited for.
-type Outcome = (Vec<u8>, bool, Vec<u8>, Vec<u16>, Option<Wait>);
+type Outcome = (Vec<u16>, bool, Vec<u8>, Vec<u16>, Option<Wait>);
 
 /// The outcome of an instant and its passes, each Par with two suspended branches asking which one runs first.
 fn outcome(table: &[u8], state: &[u8], handed: Events, second_first: &mut dyn FnMut() -> bool) -> (Outcome, usize) {
@@ -43,7 +43,7 @@ fn orders_of(table: &[u8], state: &[u8], handed: Events, most: usize) -> Vec<(Ou
 }
 
 /// A program whose every order in the first instant has this outcome, waiting for nothing, and takes these passes, the first branch first leading.
-fn any_order(events: u16, program: Draft, handed: &[u8], wanted: (&[u8], bool, &[u8], &[u16]), passes: &[usize]) {
+fn any_order(events: u16, program: Draft, handed: &[u16], wanted: (&[u16], bool, &[u8], &[u16]), passes: &[usize]) {
     let table = Records::new(events, &program).bytes();
     let (present, finished, state, atoms) = wanted;
     let orders = orders_of(&table, &vec![0; state.len()], set(handed), 1_000);

@@ -306,7 +306,7 @@ fn c10_row_for_all_atoms() {
 #[test]
 fn c11_lowest_number() {
     let table = Records::new(2, &seq(atom(1), stop())).bytes();
-    let call = |state: &mut [u8], events: &[u8], row: &mut [u16]| instant::instant(&table, state, set(events), row);
+    let call = |state: &mut [u8], events: &[u16], row: &mut [u16]| instant::instant(&table, state, set(events), row);
     assert_eq!(call(&mut [9; 11], &[7, 2], &mut []), refused(9, 0));
     assert_eq!(call(&mut [9; 12], &[7, 2], &mut []), refused(10, 0));
     assert_eq!(call(&mut [0; 12], &[7, 2], &mut []), refused(11, 2));

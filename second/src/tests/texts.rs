@@ -84,7 +84,7 @@ fn several_parts() {
 // F1: the length of the longest beginning that some text of the form has.
 #[test]
 fn f1_offsets() {
-    fails("Jr.Await(256)", 11);
+    fails("Jr.Await(1024)", 12);
     fails("Jr.Await(01)", 10);
     fails("Jr.Atom(65536)", 12);
     fails("Jr.Lop", 5);
@@ -93,15 +93,15 @@ fn f1_offsets() {
     fails("Jr.X", 3);
     fails("Jr.Stops()", 7);
     fails("Jr.Await(-1)", 9);
-    fails("Jr.Await(2560)", 11);
-    fails("Jr.Await(300)", 11);
-    fails("Jr.Await(1000)", 12);
+    fails("Jr.Await(2560)", 12);
+    fails("Jr.Await(1030)", 12);
+    fails("Jr.Await(10000)", 13);
     fails("Jr.Atom(655350)", 13);
     fails("Jr.Atom(70000)", 12);
     fails("Jr.Atom(00)", 9);
     fails("Jr.Repeat(65536, Jr.Stop())", 14);
-    fails("Jr.Control(256, Jr.Stop())", 13);
-    fails("Jr.Await((1 and 256))", 18);
+    fails("Jr.Control(1024, Jr.Stop())", 14);
+    fails("Jr.Await((1 and 1024))", 19);
     fails("Jr.Await((1 xor 2))", 12);
     fails("Jr.Await((1 and 2 and 3))", 17);
     fails("Jr.Await((1))", 11);
@@ -112,12 +112,13 @@ fn f1_offsets() {
 #[test]
 fn limits_of_numbers() {
     reads("Jr.Await(255)", 256, wait(event(255)));
-    reads("Jr.Generate(255)", 256, generate(255));
+    reads("Jr.Await(1023)", 1_024, wait(event(1_023)));
+    reads("Jr.Generate(1023)", 1_024, generate(1_023));
     reads("Jr.Atom(0)", 1, atom(0));
     reads("Jr.Atom(65535)", 1, atom(65_535));
     reads("Jr.Repeat(65535, Jr.Stop())", 1, repeat(65_535, stop()));
     reads("Jr.Repeat(0, Jr.Stop())", 1, repeat(0, stop()));
-    for (text, offset) in [("Jr.Generate(256)", 14), ("Jr.Local(256, Jr.Stop())", 11), ("Jr.Await((not 256))", 16)] {
+    for (text, offset) in [("Jr.Generate(1024)", 15), ("Jr.Local(1024, Jr.Stop())", 12), ("Jr.Await((not 1024))", 17)] {
         fails(text, offset);
     }
 }

@@ -9,12 +9,12 @@ use crate::table::{self, Node, Written};
 use crate::words::read_hex;
 
 /// The fields of an instant that waits.
-pub fn at(node: usize, event: u8) -> Option<Wait> {
+pub fn at(node: usize, event: u16) -> Option<Wait> {
     Some(Wait { node, event })
 }
 
 /// Fresh states run with these events each wait so.
-fn fresh(events: u16, program: Draft, cases: &[(&[u8], Option<Wait>)]) {
+fn fresh(events: u16, program: Draft, cases: &[(&[u16], Option<Wait>)]) {
     for (handed, wanted) in cases {
         let report = Play::new(events, program.clone()).call(handed).expect("no refusal");
         assert_eq!(report.waits, *wanted, "{handed:?}");
@@ -110,12 +110,12 @@ fn refused_calls() {
     let table = "08000000000100000001000100010001000a0004";
     assert_eq!(
         lines::answer(format!("instant {table} 00000000 0,3 -").as_bytes()),
-        "11 3 - 0 256 0 0 0 4096 256 00000000 -"
+        "11 3 - 0 1024 0 0 0 4096 1024 00000000 -"
     );
-    assert_eq!(lines::answer(format!("instant {table} 00000000 - -").as_bytes()), "0 0 - 0 256 0 0 2 0 0 00000000 -");
+    assert_eq!(lines::answer(format!("instant {table} 00000000 - -").as_bytes()), "0 0 - 0 1024 0 0 2 0 0 00000000 -");
     assert_eq!(
         lines::answer(format!("instant {table} 00000000 0 -").as_bytes()),
-        "0 0 0 1 0 0 1 1 4096 256 03000000 -"
+        "0 0 0 1 0 0 1 1 4096 1024 03000000 -"
     );
 }
 
@@ -168,7 +168,7 @@ fn not_the_pass_after_the_end() {
 }
 
 /// The node at an index, with the names that Locals around it bind.
-fn find(node: &Node, index: usize, mut bound: Vec<u8>) -> Option<(&Node, Vec<u8>)> {
+fn find(node: &Node, index: usize, mut bound: Vec<u16>) -> Option<(&Node, Vec<u16>)> {
     if node.at == index {
         return Some((node, bound));
     }
@@ -195,7 +195,7 @@ fn the_fields_fit() {
         let answer = lines::answer(line.as_bytes());
         let (asked, told): (Vec<&str>, Vec<&str>) = (line.split(' ').collect(), answer.split(' ').collect());
         if asked[0] != "instant" || told.len() != 12 || told[8] == "4096" {
-            assert!(told.len() != 12 || told[9] == "256");
+            assert!(told.len() != 12 || told[9] == "1024");
             continue;
         }
         let program = table::read(&read_hex(asked[1].as_bytes()).expect("hexadecimal")).expect("accepted");

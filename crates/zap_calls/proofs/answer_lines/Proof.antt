@@ -1,4 +1,4 @@
--- `answer_lines` is safe and ends: the rooms keep their lengths, and a block holds at most 160,001 bytes back.
+-- `answer_lines` is safe and ends: the rooms keep their lengths, and a block holds at most 400,001 bytes back.
 use mathlib.Core.Path.{_≡_, refl, sym, _∙_}
 use Prim.Native.Nat.{_-_, _≤_}
 use native.Mathlib.Omega.{arith}
@@ -17,7 +17,7 @@ Inv-loop table₀ state₀ row₀ text₀ input₀ output₀ held₀ counter₀ 
     × (length text ≡ length text₀)
     × (length input ≡ length input₀)
     × (length output ≡ length output₀)
-    × (held ≤ 160001)
+    × (held ≤ 400001)
     × (counter ≤ 140737488355328)
 
 abbrev μ-loop : tie.MeasureT-loop

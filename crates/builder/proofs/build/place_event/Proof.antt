@@ -6,7 +6,7 @@ use mathlib.Core.Path.{sym, _∙_}
 use Rattle.builder.proofs.TableHolds.{ready-in, places-in, places-none}
 use Rattle.builder.proofs.PlacedByFunctions.{event-here, event-none}
 
--- return place_test(table, 0, e, 1, front);
+-- return place_test(table, (16 * (e / 256 % 16)) as u8, e, 1, front);
 place-test-requires : tie.Need-place-test-requires
 place-test-requires c κs =
     let start = c .before .before .before .before .before .before .before in
@@ -43,6 +43,8 @@ place-event-spec =
     (λ c κs. search needs)  -- byte-at-requires: if is_digit(byte_at(text, i)) {
     (λ c κs. search needs)  -- is-digit-requires
     (λ c κs. search needs)  -- number-at-requires: let e = number_at(text, i);
+    (λ c. search needs)  -- mul-place-test: return place_test(table, (16 * (e / 256 % 16)) as u8,..
+    (λ c. search needs)  -- cast-place-test
     place-test-requires
     (λ c. search needs)  -- same-length
     returns
