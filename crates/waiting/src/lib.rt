@@ -1,9 +1,14 @@
 // What an instant waits for (request L1): found once, when the end is declared, by one way down from node 0. The state shows which parts are
 // suspended, and a Local's sign whether its event is present.
 ghost use mathlib.Core.Path.{_≡_};
-ghost use Rattle.events.specs.Members.{places, members};
+ghost use Prim.Native.Nat.{_*_};
+ghost use lib.ListN.{length};
+ghost use Rattle.events.specs.Members.{places, marks, members};
 ghost use Rattle.waiting.specs.Down.{SomeStands, SomeLeads, LeadsTo, isTest, OwnWait, goesSecond, nextOf, insideOf};
 use events::EventSet;
+use events::WORDS;
+use events::mark;
+use events::marked;
 use lacking::lacking_event;
 use steps::kinds;
 use steps::phases::FLAGS;
@@ -41,31 +46,31 @@ pub fn waiting(table: &[u8], state: &[u8], events: EventSet) -> Wait
     requires { ⌜ SomeLeads (now table) (now state) 0 (members events) ⌝ }
     ensures { λ r. ⌜ LeadsTo (now (table .entry)) (now (state .entry)) (members events) r ⌝ }
 {
-    let mut present = events;
+    let mut words = events.words;
     let mut i = 0;
     loop {
-        let event = own_wait(table, state, i, present);
+        let event = own_wait(table, state, i, &words);
         if event < EventSet::PLACES {
             return Wait { node: i, event };
         }
-        present = inside(table, state, i, present);
+        enter(table, state, i, &mut words);
         i = next_node(table, state, i);
     }
 }
 
-// The event that node i itself waits for; `PLACES` if it doesn't.
-fn own_wait(table: &[u8], state: &[u8], i: usize, present: EventSet) -> usize
-    requires { ⌜ SomeLeads (now table) (now state) i (members present) ⌝ }
-    ensures { λ r. ⌜ OwnWait (now (table .entry)) (now (state .entry)) i (members present) r ⌝ }
+// The event that node i itself waits for, the words' events being present; `PLACES` if it doesn't.
+fn own_wait(table: &[u8], state: &[u8], i: usize, words: &[u64; WORDS]) -> usize
+    requires { ⌜ SomeLeads (now table) (now state) i (marks (now words)) ⌝ }
+    ensures { λ r. ⌜ OwnWait (now (table .entry)) (now (state .entry)) i (marks (now (words .entry))) r ⌝ }
 {
     let kind = kind_at(table, i);
     if is_test(kind, state[4 * i]) {
         let nodes = word_at(table, table.len() - 10);
-        return lacking_event(table, 6 * nodes + 4 * argument_at(table, i), &present.words);
+        return lacking_event(table, 6 * nodes + 4 * argument_at(table, i), words);
     }
     if kind == kinds::CONTROL {
         let event = argument_at(table, i);
-        if present.holds(event) {
+        if marked(words, event) {
             return EventSet::PLACES;
         }
         return event;
@@ -88,19 +93,15 @@ fn is_test(kind: usize, phase: u8) -> bool
     false
 }
 
-// The events that are present below node i.
-fn inside(table: &[u8], state: &[u8], i: usize, present: EventSet) -> EventSet
+// Makes the words those of the events that are present below node i.
+fn enter(table: &[u8], state: &[u8], i: usize, words: &mut [u64])
     requires { ⌜ SomeStands (now table) (now state) i ⌝ }
-    ensures { λ r. ⌜ members r ≡ insideOf (now (table .entry)) (now (state .entry)) i (members present) ⌝ }
+    requires { ⌜ 64 * length (now words) ≡ places ⌝ }
+    ensures { λ r. ⌜ marks (now (words .exit)) ≡ insideOf (now (table .entry)) (now (state .entry)) i (marks (now (words .entry))) ⌝ }
 {
     if kind_at(table, i) == kinds::LOCAL {
-        let event = argument_at(table, i);
-        if state[4 * i] == PLUS {
-            return present.with(event);
-        }
-        return present.without(event);
+        mark(words, argument_at(table, i), state[4 * i] == PLUS);
     }
-    present
 }
 
 // The child of node i that waits.

@@ -4,7 +4,7 @@ use Rattle.waiting.proofs.own_wait.Tie as tie
 use borrow.Author.Needs.{needs}
 use mathlib.Core.Path.{refl, sym, _∙_}
 use native.Mathlib.Omega.{arith}
-use Rattle.events.specs.Members.{members}
+use Rattle.events.specs.Members.{marks}
 use Rattle.waiting.proofs.Standing.{own-bytes, own-record, frame-of}
 use Rattle.waiting.proofs.OneStep.{test-waits, test-there, control-waits, no-own, control-tells, control-holds, tells-not}
 
@@ -28,7 +28,7 @@ sub-word-at c =
 word-at-requires : tie.Need-word-at-requires
 word-at-requires c κs = omega (arith, frame-of (c .before .before .before .before .before .before .pre .1 .stands) .long)
 
--- return lacking_event(table, 6 * nodes + 4 * argument_at(table, i), &present.words);
+-- return lacking_event(table, 6 * nodes + 4 * argument_at(table, i), words);
 mul-lacking-event : tie.Need-mul-lacking-event
 mul-lacking-event c = omega (arith, c .word-at .ensures .1)
 
@@ -43,27 +43,27 @@ add-lacking-event c = omega (arith, c .argument-at .ensures .1, c .before .word-
 
 lacking-event-requires : tie.Need-lacking-event-requires
 lacking-event-requires c κs =
-    let start = c .before .before .before .before .before .before .before .before .before .before in
-    let kind-at = c .before .before .before .before .before .before .before .kind-at in
-    let is-test = c .before .before .before .before .before .is-test in
-    let if1 = c .before .before .before .before .if1 in
-    let word-at = c .before .before .before .word-at in
-    let argument-at = c .before .before .argument-at in
+    let start = c .before .before .before .before .before .before .before .before in
+    let kind-at = c .before .before .before .before .before .kind-at in
+    let is-test = c .before .before .before .is-test in
+    let if1 = c .before .before .if1 in
+    let word-at = c .before .word-at in
+    let argument-at = c .argument-at in
     let (w, l) = start .pre in
     rw (word-at .ensures .0, argument-at .ensures .0)
-    (test-there (l .stands) (members (start .args .t4)) (l .leads) (kind-at .ensures .0) refl (sym (is-test .ensures) ∙ if1 .taken))
+    (test-there (l .stands) (marks (start .args .words .now)) (l .leads) (kind-at .ensures .0) refl (sym (is-test .ensures) ∙ if1 .taken))
 
 returns : tie.Need-returns
 returns c =
-    let start = c .before .before .before .before .before .before .before .before .before .before .before in
-    let kind-at = c .before .before .before .before .before .before .before .before .kind-at in
-    let is-test = c .before .before .before .before .before .before .is-test in
-    let if1 = c .before .before .before .before .before .if1 in
-    let word-at = c .before .before .before .before .word-at in
-    let argument-at = c .before .before .before .argument-at in
+    let start = c .before .before .before .before .before .before .before .before .before in
+    let kind-at = c .before .before .before .before .before .before .kind-at in
+    let is-test = c .before .before .before .before .is-test in
+    let if1 = c .before .before .before .if1 in
+    let word-at = c .before .before .word-at in
+    let argument-at = c .before .argument-at in
     let lacking-event = c .lacking-event in
     let read = rw (word-at .ensures .0, argument-at .ensures .0) at (lacking-event .ensures) in
-    λ x w h e. test-waits h (members (start .args .t4)) e (kind-at .ensures .0) refl (sym (is-test .ensures) ∙ if1 .taken) _ read
+    λ x w h e. test-waits h (marks (start .args .words .now)) e (kind-at .ensures .0) refl (sym (is-test .ensures) ∙ if1 .taken) _ read
 
 -- let event = argument_at(table, i);
 argument-at-requires-2 : tie.Need-argument-at-requires-2
@@ -72,34 +72,34 @@ argument-at-requires-2 c κs = omega (arith, own-record (c .before .before .befo
 -- return EventSet::PLACES;
 returns-2 : tie.Need-returns-2
 returns-2 c =
-    let start = c .before .before .before .before .before .before .before .before .before .before in
-    let kind-at = c .before .before .before .before .before .before .before .kind-at in
-    let is-test = c .before .before .before .before .before .is-test in
-    let if1 = c .before .before .before .before .if1 in
-    let if2 = c .before .before .before .if2 in
-    let argument-at2 = c .before .before .argument-at2 in
-    let holds = c .before .holds in
+    let start = c .before .before .before .before .before .before .before .before .before .before .before in
+    let kind-at = c .before .before .before .before .before .before .before .before .kind-at in
+    let is-test = c .before .before .before .before .before .before .is-test in
+    let if1 = c .before .before .before .before .before .if1 in
+    let if2 = c .before .before .before .before .if2 in
+    let argument-at2 = c .before .before .before .argument-at2 in
+    let marked = c .before .marked in
     let if3 = c .if3 in
     λ x w h e.
-    let X = members (start .args .t4) in
+    let X = marks (start .args .words .now) in
     control-holds X (control-waits h X e (kind-at .ensures .0) refl (sym (is-test .ensures) ∙ if1 .left) (if2 .taken))
-    (rw (argument-at2 .ensures .0) at (sym (holds .ensures) ∙ if3 .taken))
+    (rw (argument-at2 .ensures .0) at (sym (marked .ensures) ∙ if3 .taken))
 
 -- return event;
 returns-3 : tie.Need-returns-3
 returns-3 c =
-    let start = c .before .before .before .before .before .before .before .before .before .before in
-    let kind-at = c .before .before .before .before .before .before .before .kind-at in
-    let is-test = c .before .before .before .before .before .is-test in
-    let if1 = c .before .before .before .before .if1 in
-    let if2 = c .before .before .before .if2 in
-    let argument-at2 = c .before .before .argument-at2 in
-    let holds = c .before .holds in
+    let start = c .before .before .before .before .before .before .before .before .before .before .before in
+    let kind-at = c .before .before .before .before .before .before .before .before .kind-at in
+    let is-test = c .before .before .before .before .before .before .is-test in
+    let if1 = c .before .before .before .before .before .if1 in
+    let if2 = c .before .before .before .before .if2 in
+    let argument-at2 = c .before .before .before .argument-at2 in
+    let marked = c .before .marked in
     let if3 = c .if3 in
     λ x w h e.
-    control-tells h (kind-at .ensures .0) (if2 .taken) (argument-at2 .ensures .0) (members (start .args .t4))
-    (control-waits h (members (start .args .t4)) e (kind-at .ensures .0) refl (sym (is-test .ensures) ∙ if1 .left) (if2 .taken))
-    (rw (argument-at2 .ensures .0) at (sym (holds .ensures) ∙ if3 .left))
+    control-tells h (kind-at .ensures .0) (if2 .taken) (argument-at2 .ensures .0) (marks (start .args .words .now))
+    (control-waits h (marks (start .args .words .now)) e (kind-at .ensures .0) refl (sym (is-test .ensures) ∙ if1 .left) (if2 .taken))
+    (rw (argument-at2 .ensures .0) at (sym (marked .ensures) ∙ if3 .left))
 
 -- fn own_wait
 returns-4 : tie.Need-returns-4
@@ -109,7 +109,7 @@ returns-4 c =
     let is-test = c .before .before .is-test in
     let if1 = c .before .if1 in
     let if2 = c .if2 in
-    λ x w h e. tells-not (no-own h (members (start .args .t4)) e (kind-at .ensures .0) refl (sym (is-test .ensures) ∙ if1 .left) (if2 .left))
+    λ x w h e. tells-not (no-own h (marks (start .args .words .now)) e (kind-at .ensures .0) refl (sym (is-test .ensures) ∙ if1 .left) (if2 .left))
 
 pub own-wait-spec : {M : Type 1} → statement M
 own-wait-spec =
@@ -127,7 +127,7 @@ own-wait-spec =
     lacking-event-requires
     returns
     argument-at-requires-2
-    (λ c κs. search needs)  -- holds-requires: if present.holds(event) {
+    (λ c κs. search needs)  -- marked-requires: if marked(words, event) {
     returns-2
     returns-3
     returns-4)
