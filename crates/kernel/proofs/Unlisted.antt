@@ -1,5 +1,5 @@
 -- The lowest event from v on that words mark, found by the trailing zeros of the words from there on.
-use mathlib.Core.Path.{_≡_, refl, sym, ap, _∙_}
+use mathlib.Core.Path.{_≡_, refl, sym, ap, subst, _∙_}
 use mathlib.Core.Bool.{Bool, true, false, _&&_, and-false, false≢true}
 use mathlib.Core.List.{List}
 use Prim.Native.Nat.{ℕ, _+_, _-_, _*_, _/_, _%_, _^_, _≤_, _<_}
@@ -30,6 +30,14 @@ onward l n = getD l (n / 64) 0 / 2 ^ (n % 64)
 
 abbrev pub gap : List ℕ → ℕ → ℕ
 gap l n = trailingZeros 64 (onward l n)
+
+-- of a whole word its trailing zeros
+gap-whole : (l : List ℕ) (q : ℕ) → gap l (64 * q) ≡ trailingZeros 64 (getD l q 0)
+gap-whole l q =
+    let word : 64 * q / 64 ≡ q = omega arith in
+    let place : 64 * q % 64 ≡ 0 = omega arith in
+    let all : getD l q 0 / 2 ^ 0 ≡ getD l q 0 = omega arith in
+    rw (word, place, all)
 
 -- none is marked from v on and before n
 abbrev pub Unmarked : List ℕ → ℕ → ℕ → Type 0
@@ -95,3 +103,15 @@ module _ (l : List ℕ) (n : ℕ) where
         lowest-is places places (λ e. marks l e && leb v e) (omega arith)
         (unmarked-so places (λ k a b. u k a (omega arith)))
         (λ z. absurd (omega arith))
+
+-- the same of a whole word
+module _ (l : List ℕ) (q v : ℕ) (u : Unmarked l v (64 * q)) where
+  pub over-whole : 64 ≤ trailingZeros 64 (getD l q 0) → Unmarked l v (64 * (q + 1))
+  over-whole h k a b = over-word l (64 * q) v u (subst (λ g. 64 ≤ g) (sym (gap-whole l q)) h) k a (omega arith)
+
+  pub found-whole : getD l q 0 < 2 ^ 64 → trailingZeros 64 (getD l q 0) < 64 → v ≤ 64 * q → 64 * q < places
+      → 64 * q + trailingZeros 64 (getD l q 0) ≡ lowest places (λ e. marks l e && leb v e)
+  found-whole f h a b =
+      let word : q ≡ 64 * q / 64 = omega arith in
+      ap (λ g. 64 * q + g) (sym (gap-whole l q))
+      ∙ found l (64 * q) v u (subst (λ n. getD l n 0 < 2 ^ 64) word f) (subst (λ g. g < 64) (sym (gap-whole l q)) h) a b

@@ -8,6 +8,7 @@ ghost use Rattle.events.specs.Members.{places, members};
 ghost use Rattle.kernel.specs.Answer.{Started, instantOutcome, Answered, Refused};
 use crate::passes::run_passes;
 use events::EventSet;
+use events::WORDS;
 use state::clear;
 use state::resting::first_blamed;
 use table::Checked;
@@ -121,13 +122,19 @@ fn outcome_of(table: &[u8], state: &[u8], events: EventSet, atoms: &[u16]) -> Ou
 fn lowest_from(events: EventSet, v: usize) -> usize
     ensures { λ r. ⌜ r ≡ lowest places (λ e. members events e && leb v e) ⌝ }
 {
-    let mut from = v;
-    while from < EventSet::PLACES {
-        let low = u64::trailing_zeros(events.words[from / 64] >> (from % 64)) as usize;
+    if v < EventSet::PLACES {
+        let low = u64::trailing_zeros(events.words[v / 64] >> (v % 64)) as usize;
         if low < 64 {
-            return from + low;
+            return v + low;
         }
-        from = 64 * (from / 64 + 1);
+        let mut at = v / 64 + 1;
+        while at < WORDS {
+            let low = u64::trailing_zeros(events.words[at]) as usize;
+            if low < 64 {
+                return 64 * at + low;
+            }
+            at += 1;
+        }
     }
     EventSet::PLACES
 }
