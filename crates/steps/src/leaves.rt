@@ -4,9 +4,12 @@ ghost use mathlib.Core.Bool.{true};
 ghost use mathlib.Core.Logic.{_≢_};
 ghost use Prim.Native.Nat.{_+_, _*_, _<_};
 ghost use lib.ListN.{length, getD, set};
+ghost use Rattle.table.specs.Inside.Ranks.{unranked};
 ghost use Rattle.state.specs.Kinds.{nothing-kind, stop-kind, atom-kind, generate-kind, await-kind};
 ghost use Rattle.steps.specs.Kinds.{OfKind, all-seen};
 ghost use Rattle.steps.specs.Lent.{held, CanRun, HasRun, Named};
+ghost use Rattle.steps.specs.Numbers.{wordsOf, tallyOf};
+ghost use Rattle.steps.specs.Running.{TestRead};
 ghost use Rattle.steps.specs.Tests.{CanTest, TestRanked, loneEvent};
 use crate::flags::STOP;
 use crate::flags::SUSP;
@@ -149,7 +152,7 @@ pub fn run_await(
     if lone_event(*table, i, phase, numbers) {
         return run_lone(table, i, state, numbers, atoms);
     }
-    let rank = test_rank(*table, i, numbers);
+    let rank = rank_of(read_test(*table, i, numbers));
     if rank == UNKNOWN {
         return SUSP;
     }
@@ -205,9 +208,23 @@ pub fn test_rank(table: &[u8], i: usize, numbers: &[u64; NUMBERS]) -> u8
     requires { ⌜ CanTest (now table) i (now numbers) ⌝ }
     ensures { λ r. ⌜ TestRanked (now (table .entry)) i (now (numbers .entry)) r ⌝ }
 {
+    rank_of(read_test(table, i, numbers))
+}
+
+// The same as a verdict. An Await reads its test by this and not by `test_rank`: so the compiler puts the reading into `run_await`, and that
+// into nothing.
+fn read_test(table: &[u8], i: usize, numbers: &[u64; NUMBERS]) -> Verdict
+    requires { ⌜ CanTest (now table) i (now numbers) ⌝ }
+    ensures { λ r. ⌜ TestRead (now (table .entry)) i (wordsOf (now (numbers .entry))) (tallyOf (now (numbers .entry))) r ⌝ }
+{
     let c = numbers[BASE] as usize + 4 * argument_at(table, i);
     let ended = numbers[ENDED] != 0;
-    let v = read_configuration(table, c, numbers, ended);
+    read_configuration(table, c, numbers, ended)
+}
+
+fn rank_of(v: Verdict) -> u8
+    ensures { λ r. ⌜ v ≡ unranked r ⌝ }
+{
     match v {
         Verdict::Unsat => UNSAT,
         Verdict::Unknown => UNKNOWN,

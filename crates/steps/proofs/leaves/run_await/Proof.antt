@@ -15,9 +15,9 @@ run-lone-requires c κs =
     let if2 = c .before .before .before .if2 in
     (start .pre, sym (lone-event .ensures) ∙ if2 .taken)
 
--- let rank = test_rank(*table, i, numbers);
-test-rank-requires : tie.Need-test-rank-requires
-test-rank-requires c κs =
+-- let rank = rank_of(read_test(*table, i, numbers));
+read-test-requires : tie.Need-read-test-requires
+read-test-requires c κs =
     let start = c .before .before .before .before .before .before .before .before in
     let if1 = c .before .before .before .before .before .before .if1 in
     await-tests (if1 .left) (start .pre)
@@ -25,44 +25,48 @@ test-rank-requires c κs =
 -- return SUSP;
 returns-3 : tie.Need-returns-3
 returns-3 c =
-    let if1 = c .before .before .before .before .before .before .before .before .if1 in
-    let test-rank = c .before .test-rank in
+    let if1 = c .before .before .before .before .before .before .before .before .before .if1 in
+    let read-test = c .before .before .read-test in
+    let rank-of = c .before .rank-of in
     let if3 = c .if3 in
-    (await-suspends (if1 .left) (test-rank .ensures) (if3 .taken), (refl, refl))
+    (await-suspends (if1 .left) (λ d s. sym (rank-of .ensures) ∙ read-test .ensures d s) (if3 .taken), (refl, refl))
 
 -- return STOP;
 returns-4 : tie.Need-returns-4
 returns-4 c =
-    let if1 = c .before .before .before .before .before .before .before .before .before .if1 in
-    let test-rank = c .before .before .test-rank in
+    let if1 = c .before .before .before .before .before .before .before .before .before .before .if1 in
+    let read-test = c .before .before .before .read-test in
+    let rank-of = c .before .before .rank-of in
     let if4 = c .if4 in
-    (await-refused (if1 .left) (test-rank .ensures) (if4 .taken), (refl, refl))
+    (await-refused (if1 .left) (λ d s. sym (rank-of .ensures) ∙ read-test .ensures d s) (if4 .taken), (refl, refl))
 
 -- return TERM;
 returns-5 : tie.Need-returns-5
 returns-5 c =
-    let if1 = c .before .before .before .before .before .before .before .before .before .before .before .if1 in
-    let test-rank = c .before .before .before .before .test-rank in
+    let if1 = c .before .before .before .before .before .before .before .before .before .before .before .before .if1 in
+    let read-test = c .before .before .before .before .before .read-test in
+    let rank-of = c .before .before .before .before .rank-of in
     let if3 = c .before .before .before .if3 in
     let if4 = c .before .before .if4 in
     let if5 = c .if5 in
-    (await-met (if1 .left) (test-rank .ensures) (if3 .left) (if4 .left) (if5 .taken), (refl, refl))
+    (await-met (if1 .left) (λ d s. sym (rank-of .ensures) ∙ read-test .ensures d s) (if3 .left) (if4 .left) (if5 .taken), (refl, refl))
 
 -- state[4 * i] = GONE;
 index-1-state-2 : tie.Need-index-1-state-2
 index-1-state-2 c =
-    let start = c .before .before .before .before .before .before .before .before .before .before .before .before .before in
+    let start = c .before .before .before .before .before .before .before .before .before .before .before .before .before .before in
     phase-reads (start .pre)
 
 -- pub fn run_await
 returns-6 : tie.Need-returns-6
 returns-6 c =
-    let if1 = c .before .before .before .before .before .before .before .before .before .before .before .if1 in
-    let test-rank = c .before .before .before .before .test-rank in
+    let if1 = c .before .before .before .before .before .before .before .before .before .before .before .before .if1 in
+    let read-test = c .before .before .before .before .before .read-test in
+    let rank-of = c .before .before .before .before .rank-of in
     let if3 = c .before .before .before .if3 in
     let if4 = c .before .before .if4 in
     let if5 = c .if5 in
-    (await-met-late (if1 .left) (test-rank .ensures) (if3 .left) (if4 .left) (if5 .left), (refl, refl))
+    (await-met-late (if1 .left) (λ d s. sym (rank-of .ensures) ∙ read-test .ensures d s) (if3 .left) (if4 .left) (if5 .left), (refl, refl))
 
 pub run-await-spec : {M : Type 1} → statement M
 run-await-spec =
@@ -75,7 +79,8 @@ run-await-spec =
     (λ c κs on. await-tests on (c .before .before .before .before .pre))  -- lone-event-requires: if lone_event(*table, i, phase, numbers) {
     run-lone-requires
     (λ c. (c .run-lone .ensures .0, c .run-lone .ensures .1))  -- returns-2
-    test-rank-requires
+    read-test-requires
+    (λ c κs. search needs)  -- rank-of-requires
     returns-3
     returns-4
     (λ c. search needs)  -- element-copy-out-if5: if numbers[ENDED] == 0 {
