@@ -1,5 +1,6 @@
 //! Call lines at every limit of 01, at every kind of fault, and of every rule.
 
+use super::configuration_edges;
 use super::draft::short::*;
 use super::draft::{Cond, Draft, Records};
 use super::event_edges;
@@ -38,6 +39,7 @@ pub fn lines() -> Vec<String> {
     loop_edges::add(&mut edges);
     wait_edges::add(&mut edges);
     event_edges::add(&mut edges);
+    configuration_edges::add(&mut edges);
     let mut met = HashSet::new();
     edges.0.retain(|line| met.insert(line.clone()));
     edges.0

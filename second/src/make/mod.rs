@@ -1,6 +1,7 @@
 //! The generator: random and edge cases, each a line of the calls program or a listing.
 
 pub mod calls;
+mod configuration_edges;
 pub mod draft;
 pub mod edges;
 mod event_edges;

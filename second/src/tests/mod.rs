@@ -2,6 +2,7 @@
 //! over random calls.
 
 mod bench;
+mod configurations;
 mod early;
 mod events;
 mod laws;
