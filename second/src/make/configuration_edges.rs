@@ -54,8 +54,11 @@ fn each(edges: &mut Edges, program: &Draft, sets: &[&[u16]]) {
     }
 }
 
-// Heights 1 to 16, and 17, which is refused.
+// Heights 1 to 16, and 17, which is refused; nots alone, and not, and, or in turn.
 fn heights(edges: &mut Edges) {
+    for times in 0..16 {
+        each(edges, &form(times, nots(times, event(0))), &[&[], &[0]]);
+    }
     for lean in [Lean::Left, Lean::Right] {
         for height in 1..=16 {
             each(edges, &form(height, tower(height, height, lean)), &[&[0, 1], &[1]]);
@@ -112,6 +115,7 @@ fn passed_over(edges: &mut Edges) {
             each(edges, &form(number, cond), &[&[0], &[0, 1], &[1]]);
         }
         each(edges, &form(number, and(event(0), large())), &[&all]);
+        each(edges, &form(number, or(event(0), large())), &[&all, &all[1..]]);
         each(edges, &form(number, or(large(), event(0))), &[&all[1..], &[0]]);
     }
 }
