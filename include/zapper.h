@@ -35,7 +35,8 @@ enum { ZAPPER_NUMBER = 0, ZAPPER_INDEX = 1 };
  * ZAPPER_GENERATIONS + 2 passes, so it runs at most (ZAPPER_GENERATIONS + 2) * ZAPPER_WEIGHT nodes. Nodes are counted as the rules run them;
  * checking the table and the state, reading a configuration and clearing a preempted body are not counted. All three are 0 if the table is refused.
  * A Repeat whose body can't end in the instant that begins it counts the body twice at most. What can't is worked out from the tests too: an Await
- * whose test can't be true before the instant's end, a When or Until whose parts that can be reached before it can't.
+ * whose test can't be true before the instant's end, a When or Until whose parts that can be reached before it can't. Values are not known here: of an
+ * If the larger branch counts, and a RepeatExt counts as a Repeat of its cap.
  */
 enum { ZAPPER_GENERATIONS = 2, ZAPPER_MOST_ATOMS = 3, ZAPPER_WEIGHT = 4, ZAPPER_CHECK_PLACES = 5 };
 
@@ -47,6 +48,12 @@ enum { ZAPPER_START_PLACES = 2 };
  * say that there is none.
  */
 enum { ZAPPER_EVENT_WORDS = 16, ZAPPER_NO_EVENT = 64 * ZAPPER_EVENT_WORDS, ZAPPER_NO_NODE = 4096 };
+
+/*
+ * How many values the box hands in with an instant: what a program can ask of it, whether a card is in, how often to try. Each is a byte, and has
+ * its place in the row as its number.
+ */
+enum { ZAPPER_VALUES = 16 };
 
 /*
  * An instant's answer: how many events are present at its end and which is the lowest (ZAPPER_NO_EVENT if none is), how many atoms were written,
@@ -76,12 +83,16 @@ void zapper_check(const uint8_t *table, size_t table_length, uint64_t answer[ZAP
 void zapper_start(const uint8_t *table, size_t table_length, uint8_t *state, size_t state_length, uint64_t answer[ZAPPER_START_PLACES]);
 
 /*
- * Refusals 1 to 12: runs one instant with these events handed in. The state becomes the next one; the numbers of the atoms done go into `atoms`,
- * in order. The row needs ZAPPER_MOST_ATOMS places; those behind the atoms written are not touched.
+ * Refusals 1 to 12: runs one instant with these events and values handed in. The state becomes the next one; the numbers of the atoms done go into
+ * `atoms`, in order. The row needs ZAPPER_MOST_ATOMS places; those behind the atoms written are not touched.
+ *
+ * The values are fixed throughout the instant. An If that is reached goes on with its first branch if its value isn't 0, else with its second, and
+ * keeps to it in later instants. A RepeatExt runs its body as often as the lesser of its cap and its value says, read when it begins. A program
+ * without these two forms answers the same whatever the values are.
  */
 void zapper_instant(const uint8_t *table, size_t table_length, uint8_t *state, size_t state_length,
-                    const uint64_t handed_in[ZAPPER_EVENT_WORDS], uint16_t *atoms, size_t atoms_length,
-                    uint64_t answer[ZAPPER_INSTANT_PLACES]);
+                    const uint64_t handed_in[ZAPPER_EVENT_WORDS], const uint8_t values[ZAPPER_VALUES],
+                    uint16_t *atoms, size_t atoms_length, uint64_t answer[ZAPPER_INSTANT_PLACES]);
 
 /*
  * Refusals 21, 22 and 1 to 8: reads a program in written form and puts its table at the start of the room. 21 is a text that has no reading; the

@@ -51,6 +51,12 @@ impl FromIterator<u16> for Events {
     }
 }
 
+/// How many values the box hands in with each instant (L14).
+pub const VALUES: usize = 16;
+
+/// The values themselves, fixed throughout the instant.
+pub type Values = [u8; VALUES];
+
 /// An environment E.
 #[derive(Clone, Copy, Debug, PartialEq, Eq)]
 pub struct Env {

@@ -37,6 +37,9 @@ pub fn stops(node: &Node) -> bool {
         Written::Until(c, body, handler) => stops(body) && (!c.early(true) || stops(handler)),
         Written::Control(_, body) | Written::Local(_, body) => stops(body),
         Written::Repeat(count, body) => *count >= 1 && stops(body),
+        Written::If(_, then, other) => stops(then) && stops(other),
+        // A value of 0 ends it at once (L14).
+        Written::RepeatExt(..) => false,
     }
 }
 
@@ -45,12 +48,15 @@ fn endless_loop(node: &Node) -> Option<usize> {
     match &node.written {
         Written::Loop(body) if !stops(body) => Some(node.at),
         Written::Nothing | Written::Stop | Written::Atom(_) | Written::Generate(_) | Written::Await(_) => None,
-        Written::Loop(body) | Written::Repeat(_, body) | Written::Control(_, body) | Written::Local(_, body) => {
-            endless_loop(body)
-        }
+        Written::Loop(body)
+        | Written::Repeat(_, body)
+        | Written::RepeatExt(.., body)
+        | Written::Control(_, body)
+        | Written::Local(_, body) => endless_loop(body),
         Written::Seq(first, second)
         | Written::Par(first, second)
         | Written::When(_, first, second)
+        | Written::If(_, first, second)
         | Written::Until(_, first, second) => endless_loop(first).or_else(|| endless_loop(second)),
     }
 }
@@ -59,18 +65,21 @@ fn endless_loop(node: &Node) -> Option<usize> {
 /// beyond every limit and still gives 0 when taken 0 times.
 fn figure(node: &Node, weight: &dyn Fn(&Written) -> u64) -> u64 {
     let of = |child: &Node| figure(child, weight);
+    // A count or a cap, of which a body that stops is begun at most twice in an instant.
+    let repeated = |most: u16, body: &Node| {
+        let times = if stops(body) { most.min(2) } else { most };
+        of(body).saturating_mul(u64::from(times))
+    };
     let below = match &node.written {
         Written::Nothing | Written::Stop | Written::Atom(_) | Written::Generate(_) | Written::Await(_) => 0,
         Written::Seq(first, second) | Written::Par(first, second) | Written::Until(_, first, second) => {
             of(first).saturating_add(of(second))
         }
-        Written::When(_, then, other) => of(then).max(of(other)),
+        Written::When(_, then, other) | Written::If(_, then, other) => of(then).max(of(other)),
         Written::Control(_, body) | Written::Local(_, body) => of(body),
         Written::Loop(body) => of(body).saturating_mul(2),
-        Written::Repeat(count, body) => {
-            let times = if stops(body) { (*count).min(2) } else { *count };
-            of(body).saturating_mul(u64::from(times))
-        }
+        Written::Repeat(count, body) => repeated(*count, body),
+        Written::RepeatExt(_, cap, body) => repeated(u16::from(*cap), body),
     };
     weight(&node.written).saturating_add(below)
 }

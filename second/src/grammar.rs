@@ -22,9 +22,11 @@ pub enum Piece {
     Par,
     Loop,
     Repeat,
+    RepeatExt,
     Generate,
     Await,
     When,
+    If,
     Until,
     Control,
     Local,
@@ -58,6 +60,9 @@ type Choice = &'static [Symbol];
 
 const EVENT: Symbol = Decimal(1_023);
 const NUMBER: Symbol = Decimal(65_535);
+/// The number of a value, and a cap (L14).
+const VALUE: Symbol = Decimal(15);
+const CAP: Symbol = Decimal(255);
 const PROGRAM: Symbol = Any(Program);
 const CONFIG: Symbol = Any(Config);
 const COMMA: Symbol = Bytes(", ");
@@ -77,6 +82,8 @@ const PROGRAMS: &[Choice] = &[
     &[Bytes("Jr.Until("), CONFIG, COMMA, PROGRAM, COMMA, PROGRAM, CLOSE, Makes(Until)],
     &[Bytes("Jr.Control("), EVENT, COMMA, PROGRAM, CLOSE, Makes(Control)],
     &[Bytes("Jr.Local("), EVENT, COMMA, PROGRAM, CLOSE, Makes(Local)],
+    &[Bytes("Jr.If("), VALUE, COMMA, PROGRAM, COMMA, PROGRAM, CLOSE, Makes(If)],
+    &[Bytes("Jr.RepeatExt("), VALUE, COMMA, CAP, COMMA, PROGRAM, CLOSE, Makes(RepeatExt)],
 ];
 
 const CONFIGS: &[Choice] =
@@ -108,7 +115,7 @@ impl Piece {
             Number(_) | Nothing | Stop => 0,
             Event | Not | Atom | Loop | Generate | Await => 1,
             And | Or | Seq | Par | Repeat | Control | Local => 2,
-            When | Until => 3,
+            When | Until | If | RepeatExt => 3,
         }
     }
 

@@ -1,6 +1,6 @@
 //! The three calls of 01: check a table, start, and run one instant.
 
-use crate::env::{Env, Events};
+use crate::env::{Env, Events, Values};
 use crate::figures::{self, Figures};
 use crate::rules::{self, Course, Unknown};
 use crate::state;
@@ -39,8 +39,14 @@ pub fn start(table: &[u8], state: &mut [u8]) -> Result<(), Refusal> {
 }
 
 /// Runs one instant: all refusals. The first branch of a Par runs first.
-pub fn instant(table: &[u8], state: &mut [u8], handed: Events, row: &mut [u16]) -> Result<Report, Refusal> {
-    in_any_order(table, state, handed, row, &mut || false)
+pub fn instant(
+    table: &[u8],
+    state: &mut [u8],
+    handed: Events,
+    values: Values,
+    row: &mut [u16],
+) -> Result<Report, Refusal> {
+    in_any_order(table, state, handed, values, row, &mut || false)
 }
 
 /// Runs one instant in which each Par asks, in each pass where both branches are suspended, which one runs first (L6).
@@ -48,6 +54,7 @@ pub fn in_any_order(
     table: &[u8],
     state: &mut [u8],
     handed: Events,
+    values: Values,
     row: &mut [u16],
     second_first: &mut dyn FnMut() -> bool,
 ) -> Result<Report, Refusal> {
@@ -62,7 +69,7 @@ pub fn in_any_order(
     if (row.len() as u64) < figures.a {
         return Err(Refusal::new(12, 0));
     }
-    let mut course = Course::new(second_first);
+    let mut course = Course::new(values, second_first);
     let (answer, residual, report) = passes(state::read(&program.root, room), handed, &mut course);
     state::write(&program.root, answer, &residual, room);
     row[..report.atoms].copy_from_slice(&course.actions);

@@ -72,13 +72,22 @@ impl Layout {
         bytes
     }
 
-    /// A piece's number, the place of a test's configuration, otherwise 0.
+    /// A piece's number, for a RepeatExt its cap times 16 plus it (L14), the place of a test's configuration, otherwise 0.
     fn argument(&self, at: usize, places: &[Records]) -> u16 {
         let Some(&first) = self.parts[at].first() else { return 0 };
         match self.pieces[first] {
+            Piece::Number(number) if self.pieces[at] == Piece::RepeatExt => 16 * self.cap(at) + number,
             Piece::Number(number) => number,
             _ if self.pieces[at].is_test() => places[first].configs as u16,
             _ => 0,
+        }
+    }
+
+    /// The second number of a RepeatExt.
+    fn cap(&self, at: usize) -> u16 {
+        match self.pieces[self.parts[at][1]] {
+            Piece::Number(cap) => cap,
+            other => unreachable!("{other:?} is no cap"),
         }
     }
 
@@ -140,6 +149,8 @@ fn node_kind(piece: Piece) -> Option<u8> {
         Piece::Until => Some(10),
         Piece::Control => Some(11),
         Piece::Local => Some(12),
+        Piece::If => Some(14),
+        Piece::RepeatExt => Some(15),
         Piece::Number(_) | Piece::Event | Piece::Not | Piece::And | Piece::Or => None,
     }
 }

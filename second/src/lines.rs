@@ -1,7 +1,7 @@
 //! One call a line: reads the lines of the calls program and prints what each call answered
 //! and what the lent rooms hold afterwards.
 
-use crate::env::{Events, EVENTS};
+use crate::env::{Events, Values, EVENTS};
 use crate::instant::{self, Report};
 use crate::table::Refusal;
 use crate::text;
@@ -21,6 +21,7 @@ pub enum Call {
         table: Vec<u8>,
         state: Vec<u8>,
         events: Events,
+        values: Values,
         row: Vec<u16>,
     },
     /// The text and the room for its table.
@@ -53,11 +54,12 @@ pub fn print(call: &Call) -> String {
     match call {
         Call::Check { table } => format!("check {}", words::hex(table)),
         Call::Start { table, state } => format!("start {} {}", words::hex(table), words::hex(state)),
-        Call::Instant { table, state, events, row } => format!(
-            "instant {} {} {} {}",
+        Call::Instant { table, state, events, values, row } => format!(
+            "instant {} {} {} {} {}",
             words::hex(table),
             words::hex(state),
             words::list(events.rising()),
+            words::hex(values),
             words::hex(&words::row_bytes(row))
         ),
         Call::Read { text, room } => format!("read {} {}", words::hex(text), words::hex(room)),
@@ -73,10 +75,11 @@ fn read(line: &[u8]) -> Option<Call> {
     match words[..] {
         [b"check", table] => Some(Call::Check { table: read_table(table)? }),
         [b"start", table, state] => Some(Call::Start { table: read_table(table)?, state: read_state(state)? }),
-        [b"instant", table, state, events, row] => Some(Call::Instant {
+        [b"instant", table, state, events, values, row] => Some(Call::Instant {
             table: read_table(table)?,
             state: read_state(state)?,
             events: read_events(events)?,
+            values: read_values(values)?,
             row: read_row(row)?,
         }),
         [b"read", text, room] => Some(Call::Read { text: read_text(text)?, room: read_table(room)? }),
@@ -109,6 +112,11 @@ fn read_events(word: &[u8]) -> Option<Events> {
     word.split(|&byte| byte == b',').map(words::event).collect()
 }
 
+/// All values, none more and none fewer.
+fn read_values(word: &[u8]) -> Option<Values> {
+    words::read_hex(word)?.try_into().ok()
+}
+
 /// Makes the call and prints its answer.
 fn make(call: Call, second_first: &mut dyn FnMut() -> bool) -> String {
     match call {
@@ -120,8 +128,8 @@ fn make(call: Call, second_first: &mut dyn FnMut() -> bool) -> String {
             let Refusal { number, index } = instant::start(&table, &mut state).err().unwrap_or(Refusal::new(0, 0));
             format!("{number} {index} {}", words::hex(&state))
         }
-        Call::Instant { table, mut state, events, mut row } => {
-            let answer = instant::in_any_order(&table, &mut state, events, &mut row, second_first);
+        Call::Instant { table, mut state, events, values, mut row } => {
+            let answer = instant::in_any_order(&table, &mut state, events, values, &mut row, second_first);
             let Refusal { number, index } = answer.as_ref().err().copied().unwrap_or(Refusal::new(0, 0));
             let refused = Report { events: Events::none(), atoms: 0, finished: false, passes: 0, waits: None };
             let report = answer.unwrap_or(refused);
@@ -157,6 +165,9 @@ mod tests {
     /// K1's table: a lone Nothing.
     const NOTHING: &str = "00000000000100010000000100060000";
 
+    /// Sixteen values, all 0.
+    const ZEROS: &str = "00000000000000000000000000000000";
+
     fn says(line: &str, wanted: &str) {
         assert_eq!(answer(line.as_bytes()), wanted, "{line}");
     }
@@ -168,9 +179,9 @@ mod tests {
         says(&format!("start {NOTHING} 0102030405"), "0 0 0000000005");
         says(&format!("start {NOTHING} 010203"), "9 0 010203");
         says(&format!("start {NOTHING} -"), "9 0 -");
-        says(&format!("instant {NOTHING} 00000000ff 0,0 -"), "0 0 0 1 0 0 1 1 4096 1024 03000000ff -");
-        says(&format!("instant {NOTHING} 00000000 - 0007"), "0 0 - 0 1024 0 1 1 4096 1024 03000000 0007");
-        says(&format!("instant {NOTHING} 00000000 3,0,1 0007"), "11 1 - 0 1024 0 0 0 4096 1024 00000000 0007");
+        says(&format!("instant {NOTHING} 00000000ff 0,0 {ZEROS} -"), "0 0 0 1 0 0 1 1 4096 1024 03000000ff -");
+        says(&format!("instant {NOTHING} 00000000 - {ZEROS} 0007"), "0 0 - 0 1024 0 1 1 4096 1024 03000000 0007");
+        says(&format!("instant {NOTHING} 00000000 3,0,1 {ZEROS} 0007"), "11 1 - 0 1024 0 0 0 4096 1024 00000000 0007");
         // The text of the table.
         let text = words::hex(b"Jr.Nothing()");
         says(&format!("read {text} {NOTHING}0506"), &format!("0 0 16 {NOTHING}0506"));
@@ -187,17 +198,21 @@ mod tests {
         for line in ["", "check", "check  -", " check -", "check - ", "check - -", "Check -", "check 0", "check 0G"] {
             says(line, "bad-line");
         }
-        for line in ["start -", "start - - -", "instant - - -", "instant - - - - -", "instant - -  -", "check -\r"] {
+        for line in ["start -", "start - - -", "instant - - -", "instant - - - - -", "instant - -  - -", "check -\r"] {
             says(line, "bad-line");
         }
         for line in ["read", "read -", "read - - -", "read 4A -", "read - 0", "print -", "print - - -", "prints - -"] {
             says(line, "bad-line");
         }
         for events in ["", ",", "0,", ",0", "00", "1024", "0,,1", "0 1", "-,0", "+1"] {
-            says(&format!("instant - - {events} -"), "bad-line");
+            says(&format!("instant - - {events} {ZEROS} -"), "bad-line");
         }
         for row in ["", "00", "0", "000000", "000G"] {
-            says(&format!("instant - - - {row}"), "bad-line");
+            says(&format!("instant - - - {ZEROS} {row}"), "bad-line");
+        }
+        says(&format!("instant - - - {ZEROS} -"), "1 0 - 0 1024 0 0 0 4096 1024 - -");
+        for values in ["", "-", "00", &ZEROS[2..], &ZEROS[1..], &format!("{ZEROS}00"), &ZEROS.replace("00", "0A")] {
+            says(&format!("instant - - - {values} -"), "bad-line");
         }
     }
 
@@ -208,8 +223,11 @@ mod tests {
         says(&format!("check {}", zeros(33_001)), "bad-line");
         says(&format!("start - {}", zeros(17_000)), &format!("1 0 {}", zeros(17_000)));
         says(&format!("start - {}", zeros(17_001)), "bad-line");
-        says(&format!("instant - - - {}", zeros(8_400)), &format!("1 0 - 0 1024 0 0 0 4096 1024 - {}", zeros(8_400)));
-        says(&format!("instant - - - {}", zeros(8_402)), "bad-line");
+        says(
+            &format!("instant - - - {ZEROS} {}", zeros(8_400)),
+            &format!("1 0 - 0 1024 0 0 0 4096 1024 - {}", zeros(8_400)),
+        );
+        says(&format!("instant - - - {ZEROS} {}", zeros(8_402)), "bad-line");
         for word in ["read", "print"] {
             for (given, room) in [(33_001, 0), (0, 33_001)] {
                 says(&format!("{word} {} {}", words::hex(&vec![0; given]), words::hex(&vec![0; room])), "bad-line");
@@ -217,10 +235,10 @@ mod tests {
         }
         says(&format!("read {} {}", zeros(33_000), zeros(33_000)), &format!("21 0 0 {}", zeros(33_000)));
         says(&format!("print {} {}", zeros(33_000), zeros(33_000)), &format!("1 0 0 {}", zeros(33_000)));
-        // The events may be as many as the line holds: 12 + 399,986 + 2 bytes are 400,000.
-        let many = ",10".repeat(133_328);
-        says(&format!("instant - - 10{many} -"), "1 0 - 0 1024 0 0 0 4096 1024 - -");
-        says(&format!("instant - - 100{many} -"), "bad-line");
+        // The events may be as many as the line holds: 12 + 399,953 + 35 bytes are 400,000.
+        let many = ",10".repeat(133_317);
+        says(&format!("instant - - 10{many} {ZEROS} -"), "1 0 - 0 1024 0 0 0 4096 1024 - -");
+        says(&format!("instant - - 100{many} {ZEROS} -"), "bad-line");
     }
 
     #[test]
@@ -229,9 +247,10 @@ mod tests {
             table: vec![1, 2],
             state: vec![],
             events: [3, 900].into_iter().collect(),
+            values: [1, 2, 0, 0, 0, 0, 0, 0, 0, 0, 0, 0, 0, 0, 0, 255],
             row: vec![7, 65_535],
         };
-        assert_eq!(print(&call), "instant 0102 - 3,900 0007ffff");
+        assert_eq!(print(&call), "instant 0102 - 3,900 010200000000000000000000000000ff 0007ffff");
         assert_eq!(read(print(&call).as_bytes()), Some(call));
     }
 }

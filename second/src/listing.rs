@@ -1,7 +1,7 @@
 //! The listing program: one instant for each line of input, one line of output for each; and the program for people,
 //! which says under each instant whose end was declared what the program waits for (L1).
 
-use crate::env::Events;
+use crate::env::{Events, Values};
 use crate::instant::{self, Wait};
 use crate::spell;
 use crate::state;
@@ -27,7 +27,7 @@ pub fn explain(table: &[u8], input: impl BufRead, out: &mut impl Write) -> Resul
     })
 }
 
-/// Plays a table over an input; what is told of an instant's wait, the program at hand, goes under its line.
+/// Plays a table over an input, all values being 0 (L14); what is told of an instant's wait, the program at hand, goes under its line.
 fn each_instant<W: Write>(
     table: &[u8],
     input: impl BufRead,
@@ -47,7 +47,7 @@ fn each_instant<W: Write>(
         let Some(events) = read(line) else {
             return writeln!(out, "{number} bad-line");
         };
-        match instant::instant(table, &mut state, events, &mut row) {
+        match instant::instant(table, &mut state, events, Values::default(), &mut row) {
             Ok(report) => {
                 writeln!(
                     out,

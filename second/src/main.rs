@@ -28,8 +28,9 @@ use std::io::{BufWriter, Read, Result, Write};
 use std::path::Path;
 use std::process::ExitCode;
 
-const USAGE: &str = "usage: second calls | orders SEED | run | why | check | read | print | make edges | make text-edges \
-                     | make calls|loops|orders|texts|waits CASES SEED | make listing SEED DIR";
+const USAGE: &str =
+    "usage: second calls | orders SEED | run | why | check | read | print | make edges | make text-edges \
+                     | make calls|loops|orders|texts|values|waits CASES SEED | make listing SEED DIR";
 
 /// The file that holds the table, in the current folder.
 const TABLE: &str = "table.bin";

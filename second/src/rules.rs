@@ -1,14 +1,17 @@
 //! The rewriting rules of 000, each with its number beside it, with what 01 settles:
 //! Par with two suspended branches merges (rule 8, or rule 9 where L6 asks for it), Control keeps its body's environment,
-//! Until* that is false stops at any time, and a node that answers TERM leaves Nothing.
+//! Until* that is false stops at any time, and a node that answers TERM leaves Nothing. If and RepeatExt have no
+//! number in 000; their rules are those of 001 (L14).
 
 use crate::config::Config;
-use crate::env::Env;
+use crate::env::{Env, Values};
 use crate::term::{Flag, Form, Term};
 use std::rc::Rc;
 
 /// What the passes of an instant meet and leave beside the environment.
 pub struct Course<'a> {
+    /// What the box has handed in for If and RepeatExt.
+    pub values: Values,
     /// The actions that atoms have executed, in order.
     pub actions: Vec<u16>,
     /// The tests that this pass has read and found unknown.
@@ -25,8 +28,13 @@ pub struct Unknown {
 }
 
 impl Course<'_> {
-    pub fn new(second_first: &mut dyn FnMut() -> bool) -> Course<'_> {
-        Course { actions: vec![], unknown: vec![], second_first }
+    pub fn new(values: Values, second_first: &mut dyn FnMut() -> bool) -> Course<'_> {
+        Course { values, actions: vec![], unknown: vec![], second_first }
+    }
+
+    /// eval of 001: the value of a number.
+    fn value(&self, number: u8) -> u8 {
+        self.values[usize::from(number)]
     }
 
     /// A node suspends as it is, since its test is unknown.
@@ -70,12 +78,14 @@ fn step(t: &Term, e: Env, course: &mut Course) -> Conclusion {
         Form::Par(a, b, first, second) => par(t, (*a, *b), first, second, e, course),
         Form::Loop(body) => repeat_for_ever(t, body, e, course),
         Form::Repeat(n, body) => repeat(t, *n, body, e),
+        Form::RepeatExt(number, cap, body) => repeat_ext(t, course.value(*number), *cap, body, e),
         Form::Generate(s) => {
             let e = Env { present: e.present.with(*s), moved: true, ..e };
             Says(Flag::Term, t.becomes(Form::Gone), e) // (16)
         }
         Form::Await(c) => wait(t, c, e, course),
         Form::When(c, then, other) => when(t, c, then, other, e, course),
+        Form::If(number, then, other) => choose(course.value(*number), then, other, e),
         Form::Until(c, body, handler) => until(t, c, body, handler, e, course),
         Form::UntilStar(c, body, handler) => until_star(t, c, body, handler, e, course),
         Form::Control(s, body) => control(t, *s, body, e, course),
@@ -162,6 +172,20 @@ fn repeat(t: &Term, n: u16, body: &Term, e: Env) -> Conclusion {
     }
     let fewer = t.becomes(Form::Repeat(n - 1, body.clone()));
     AsRunning(t.becomes(Form::Seq(body.clone(), fewer)), e) // (15)
+}
+
+/// Goes on as Repeat, so the value is read this once: the lesser of cap and value is how often.
+fn repeat_ext(t: &Term, value: u8, cap: u8, body: &Term, e: Env) -> Conclusion {
+    let times = u16::from(value.min(cap));
+    AsRunning(t.becomes(Form::Repeat(times, body.clone())), e) // (001, RepeatExt)
+}
+
+fn choose(value: u8, then: &Term, other: &Term, e: Env) -> Conclusion {
+    if value != 0 {
+        AsRunning(then.clone(), e) // (001, If, true)
+    } else {
+        AsRunning(other.clone(), e) // (001, If, false)
+    }
 }
 
 fn when(t: &Term, c: &Rc<Config>, then: &Term, other: &Term, e: Env, course: &mut Course) -> Conclusion {

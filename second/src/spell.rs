@@ -31,6 +31,8 @@ impl Display for Node {
             Written::Until(c, t, u) => write!(f, "Jr.Until({c}, {t}, {u})"),
             Written::Control(s, t) => write!(f, "Jr.Control({s}, {t})"),
             Written::Local(s, t) => write!(f, "Jr.Local({s}, {t})"),
+            Written::If(number, t, u) => write!(f, "Jr.If({number}, {t}, {u})"),
+            Written::RepeatExt(number, cap, t) => write!(f, "Jr.RepeatExt({number}, {cap}, {t})"),
         }
     }
 }

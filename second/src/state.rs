@@ -28,12 +28,15 @@ fn put(room: &mut [u8], node: &Node, cell: Cell) {
 pub fn below(node: &Node) -> Vec<&Node> {
     match &node.written {
         Written::Nothing | Written::Stop | Written::Atom(_) | Written::Generate(_) | Written::Await(_) => vec![],
-        Written::Loop(body) | Written::Repeat(_, body) | Written::Control(_, body) | Written::Local(_, body) => {
-            vec![body]
-        }
+        Written::Loop(body)
+        | Written::Repeat(_, body)
+        | Written::RepeatExt(.., body)
+        | Written::Control(_, body)
+        | Written::Local(_, body) => vec![body],
         Written::Seq(first, second)
         | Written::Par(first, second)
         | Written::When(_, first, second)
+        | Written::If(_, first, second)
         | Written::Until(_, first, second) => vec![first, second],
     }
 }
@@ -63,10 +66,10 @@ fn in_order(node: &Node, room: &[u8]) -> bool {
     if phase == NOTHING {
         return flags == 0 && count == 0 && below(node).into_iter().all(zero);
     }
-    // Only Par uses the flags and only Repeat the count.
+    // Only Par uses the flags and only Repeat and RepeatExt the count.
     let unused = match &node.written {
         Written::Par(..) => count == 0,
-        Written::Repeat(..) => flags == 0,
+        Written::Repeat(..) | Written::RepeatExt(..) => flags == 0,
         _ => flags == 0 && count == 0,
     };
     let used = match &node.written {
@@ -81,7 +84,12 @@ fn in_order(node: &Node, room: &[u8]) -> bool {
         },
         Written::Loop(body) => phase == 0 && zero(body) || phase == 1,
         Written::Repeat(times, body) => phase == 0 && count == 0 && zero(body) || phase == 1 && count < *times,
-        Written::When(_, then, other) => match phase {
+        Written::RepeatExt(_, cap, body) => match phase {
+            0 => count == 0 && zero(body),
+            1 => count < u16::from(*cap),
+            _ => false,
+        },
+        Written::When(_, then, other) | Written::If(_, then, other) => match phase {
             0 => zero(then) && zero(other),
             1 => zero(other),
             2 => zero(then),
@@ -102,9 +110,11 @@ pub fn fresh(node: &Node) -> Term {
         Written::Par(first, second) => Form::Par(Flag::Susp, Flag::Susp, fresh(first), fresh(second)),
         Written::Loop(body) => Form::Loop(fresh(body)),
         Written::Repeat(n, body) => Form::Repeat(*n, fresh(body)),
+        Written::RepeatExt(number, cap, body) => Form::RepeatExt(*number, *cap, fresh(body)),
         Written::Generate(s) => Form::Generate(*s),
         Written::Await(c) => Form::Await(c.clone()),
         Written::When(c, then, other) => Form::When(c.clone(), fresh(then), fresh(other)),
+        Written::If(number, then, other) => Form::If(*number, fresh(then), fresh(other)),
         Written::Until(c, body, handler) => Form::Until(c.clone(), fresh(body), fresh(handler)),
         Written::Control(s, body) => Form::Control(*s, fresh(body)),
         Written::Local(s, body) => Form::LocalMinus(*s, fresh(body)),
@@ -123,8 +133,12 @@ pub fn read(node: &Node, room: &[u8]) -> Term {
         (Written::Par(first, second), _) => Form::Par(flag(flags & 3), flag(flags >> 2), rest(first), rest(second)),
         (Written::Loop(body), 1) => Form::Seq(rest(body), fresh(node)),
         (Written::Repeat(_, body), 1) => Form::Seq(rest(body), Term::new(node.at, Form::Repeat(count, fresh(body)))),
-        (Written::When(_, then, _), 1) => return rest(then),
-        (Written::When(_, _, other), 2) => return rest(other),
+        // What is left of a RepeatExt is a Repeat: its value was read when it began (L14).
+        (Written::RepeatExt(.., body), 1) => {
+            Form::Seq(rest(body), Term::new(node.at, Form::Repeat(count, fresh(body))))
+        }
+        (Written::When(_, then, _) | Written::If(_, then, _), 1) => return rest(then),
+        (Written::When(_, _, other) | Written::If(_, _, other), 2) => return rest(other),
         (Written::Until(c, body, handler), 0) => Form::Until(c.clone(), rest(body), fresh(handler)),
         (Written::Until(_, _, handler), _) => return rest(handler),
         (Written::Control(s, body), _) => Form::Control(*s, rest(body)),
@@ -163,7 +177,7 @@ fn write_term(node: &Node, term: &Term, room: &mut [u8]) {
                 phase(2);
                 write_term(second, term, room);
             }
-            Written::When(_, then, other) => {
+            Written::When(_, then, other) | Written::If(_, then, other) => {
                 let chosen = if term.at < other.at { then } else { other };
                 phase(if term.at < other.at { 1 } else { 2 });
                 write_term(chosen, term, room);
@@ -188,7 +202,7 @@ fn write_term(node: &Node, term: &Term, room: &mut [u8]) {
             phase(1);
             write_term(body, rest, room);
         }
-        (Written::Repeat(_, body), Form::Seq(rest, again)) => {
+        (Written::Repeat(_, body) | Written::RepeatExt(.., body), Form::Seq(rest, again)) => {
             let Form::Repeat(count, _) = &*again.form else { unreachable!("a Repeat goes on as a Repeat") };
             put(room, node, Cell { phase: 1, count: *count, ..Cell::default() });
             write_term(body, rest, room);

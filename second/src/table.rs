@@ -1,7 +1,7 @@
 //! The table: its bytes read into a tree of nodes, or refused (01, refusals 1 to 6).
 
 use crate::config::Config;
-use crate::env::EVENTS;
+use crate::env::{EVENTS, VALUES};
 use std::rc::Rc;
 
 /// A refusal: its number and its index.
@@ -33,7 +33,7 @@ pub struct Node {
     pub written: Written,
 }
 
-/// The thirteen forms of a table, with their children.
+/// The fifteen forms of a table, with their children.
 #[derive(Debug)]
 pub enum Written {
     Nothing,
@@ -49,6 +49,10 @@ pub enum Written {
     Until(Rc<Config>, Box<Node>, Box<Node>),
     Control(u16, Box<Node>),
     Local(u16, Box<Node>),
+    /// The number of a value and the two branches (L14).
+    If(u8, Box<Node>, Box<Node>),
+    /// The number of a value, the cap and the body (L14).
+    RepeatExt(u8, u8, Box<Node>),
 }
 
 const NODE_BYTES: usize = 6;
@@ -122,8 +126,8 @@ impl NodeRecord {
     /// How many children the kind has.
     fn children(&self) -> usize {
         match self.kind {
-            3 | 4 | 9 | 10 => 2,
-            5 | 6 | 11 | 12 => 1,
+            3 | 4 | 9 | 10 | 14 => 2,
+            5 | 6 | 11 | 12 | 15 => 1,
             _ => 0,
         }
     }
@@ -136,6 +140,9 @@ fn good_node(records: &[NodeRecord], sizes: &[usize], at: usize, m: usize, v: us
         7 | 11 | 12 => record.argument < v,
         8..=10 => record.argument < m,
         0..=12 => record.argument == 0,
+        14 => record.argument < VALUES,
+        // A cap of at most 255, times 16, plus the number of a value.
+        15 => record.argument < 256 * VALUES,
         _ => return false,
     };
     let whole = at > 0 || record.size == records.len();
@@ -172,6 +179,8 @@ fn tree(records: &[NodeRecord], sizes: &[usize], configs: &[Rc<Config>], at: usi
         9 => Written::When(test(), first(), second()),
         10 => Written::Until(test(), first(), second()),
         11 => Written::Control(event(), first()),
+        14 => Written::If(argument as u8, first(), second()),
+        15 => Written::RepeatExt((argument % VALUES) as u8, (argument / VALUES) as u8, first()),
         _ => Written::Local(event(), first()),
     };
     Node { at, size, written }

@@ -31,9 +31,13 @@ pub enum Form {
     Par(Flag, Flag, Term, Term),
     Loop(Term),
     Repeat(u16, Term),
+    /// The number of a value, the cap, the body (L14).
+    RepeatExt(u8, u8, Term),
     Generate(u16),
     Await(Rc<Config>),
     When(Rc<Config>, Term, Term),
+    /// The number of a value, the two branches (L14).
+    If(u8, Term, Term),
     Until(Rc<Config>, Term, Term),
     UntilStar(Rc<Config>, Term, Term),
     Control(u16, Term),

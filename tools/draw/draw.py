@@ -24,7 +24,10 @@ WAITING, RUNNING, NEXT, DONE = "waiting", "running", "next", "done"
 NOT_BEGUN, NOT_TAKEN = "not begun", "not taken"
 
 # The parts of a form, where they have names.
-PARTS = {"When": ("then", "else"), "Until": ("body", "handler")}
+PARTS = {"When": ("then", "else"), "If": ("then", "else"), "Until": ("body", "handler")}
+
+# The values that an instant is handed (L14), as zap_run does.
+VALUES = "00" * 16
 
 
 class Node:
@@ -91,7 +94,7 @@ def standing(root, state):
         """The program stands at this node or below it."""
         phase, _, high, low = state[4 * node.number:4 * node.number + 4]
         words[node.number], children = stands(node, phase)
-        if node.form == "Repeat" and phase == 1:
+        if node.form in ("Repeat", "RepeatExt") and phase == 1:
             remarks[node.number] = f"{256 * high + low} more to come"
         for child, word in zip(node.children, children):
             if word == RUNNING:
@@ -113,15 +116,16 @@ def stands(node, phase):
         return NEXT, ()
     if node.form == "Seq":
         return RUNNING, (RUNNING, NOT_BEGUN) if phase == 0 else (DONE, RUNNING)
-    if node.form == "When":
+    if node.form in ("When", "If"):
         return (
-            (WAITING, (NOT_BEGUN, NOT_BEGUN)),
+            # An If that has begun has chosen, so one in phase 0 waits for nothing.
+            (WAITING if node.form == "When" else NEXT, (NOT_BEGUN, NOT_BEGUN)),
             (RUNNING, (RUNNING, NOT_TAKEN)),
             (RUNNING, (NOT_TAKEN, RUNNING)),
         )[phase]
     if node.form == "Until":
         return RUNNING, (RUNNING, NOT_BEGUN) if phase < 2 else (DONE, RUNNING)
-    if node.form in ("Loop", "Repeat") and phase == 0:
+    if node.form in ("Loop", "Repeat", "RepeatExt") and phase == 0:
         return NEXT, (NOT_BEGUN,)
     return RUNNING, (RUNNING,) * len(node.children)
 
@@ -184,7 +188,7 @@ class Calls:
         return "0000" * int(self.ask("check", self.table)[3]) or "-"
 
     def instant(self, state, events, row):
-        return self.ask("instant", self.table, state.hex() or "-", events, row)
+        return self.ask("instant", self.table, state.hex() or "-", events, VALUES, row)
 
     def close(self):
         self.program.stdin.close()

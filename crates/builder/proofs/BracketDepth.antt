@@ -18,7 +18,7 @@ use Rattle.form.specs.Form.{says-nothing, says-stop, says-atom, says-seq, last-
 use Rattle.form.specs.Form.{last-of-par}
 use Rattle.form.specs.Form.{more-of-par, says-loop, says-repeat, says-generate, says-await, says-when}
 use Rattle.form.specs.Form.{says-until}
-use Rattle.form.specs.Form.{says-control, says-local}
+use Rattle.form.specs.Form.{says-control, says-local, says-if, says-repeat-ext}
 use Rattle.form.specs.Made.{tests}
 use Rattle.form.specs.Inside.Rows.{pairOf}
 use Rattle.builder.specs.Building.{relevel, levels}
@@ -110,6 +110,17 @@ closes-piece (says-control {s = n} {u = u} h d) x =
     simp append-assoc (omega (arith, closes-number n (44 ∷ 32 ∷ (u ++ (41 ∷ x))), closes-piece d (41 ∷ x)))
 closes-piece (says-local {s = n} {u = u} h d) x =
     simp append-assoc (omega (arith, closes-number n (44 ∷ 32 ∷ (u ++ (41 ∷ x))), closes-piece d (41 ∷ x)))
+closes-piece (says-if {v = n} {u = u} {w = w} h d e) x =
+    simp append-assoc
+    (omega (arith, closes-number n (44 ∷ 32 ∷ (u ++ (44 ∷ 32 ∷ (w ++ (41 ∷ x))))), closes-piece d (44 ∷ 32 ∷ (w ++ (41 ∷ x))), closes-piece e (41 ∷ x)))
+closes-piece (says-repeat-ext {v = v} {cap = n} {u = u} h g d) x =
+    simp append-assoc
+    (omega (
+      arith,
+      closes-number v (44 ∷ 32 ∷ (decimal n ++ (44 ∷ 32 ∷ (u ++ (41 ∷ x))))),
+      closes-number n (44 ∷ 32 ∷ (u ++ (41 ∷ x))),
+      closes-piece d (41 ∷ x),
+    ))
 
 pub depth-at :
     {p : Program} {text : List ℕ}

@@ -16,7 +16,7 @@ use Rattle.builder.proofs.WrittenSizes.{size-there, word-behind}
 
 -- the second list is the first with kind k for each node that has none
 pub data Spine (k : ℕ) : List ℕ → List ℕ → Type 0 where
-  ends : {l : List ℕ} → byte l 0 < 13 → Spine k l l
+  ends : {l : List ℕ} → byte l 0 < 16 → Spine k l l
   goes :
       (n j : ℕ) (p : Program) {l l′ : List ℕ}
       → Spine k l l′

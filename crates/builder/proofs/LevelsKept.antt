@@ -4,6 +4,7 @@ use mathlib.Core.Path.{_≡_, refl, ap, _∙_}
 use mathlib.Core.List.{List, _∷_, _++_, append-assoc}
 use native.Mathlib.Omega.{arith}
 use borrow.Author.Tests.{ne-eqb}
+use Rattle.form.proofs.Digits.{digit-is}
 use Rattle.form.proofs.Rows.{no-pair}
 use lib.ListN.{set, drop}
 use Rattle.junior.specs.Configuration.{Config}
@@ -16,9 +17,9 @@ use Rattle.form.specs.Form.{says-nothing, says-stop, says-atom, says-seq, last-
 use Rattle.form.specs.Form.{last-of-par}
 use Rattle.form.specs.Form.{more-of-par, says-loop, says-repeat, says-generate, says-await, says-when}
 use Rattle.form.specs.Form.{says-until}
-use Rattle.form.specs.Form.{says-control, says-local}
+use Rattle.form.specs.Form.{says-control, says-local, says-if, says-repeat-ext}
 use Rattle.builder.specs.Building.{relevel, levels}
-use Rattle.builder.proofs.ReadDigits.{past-decimal}
+use Rattle.builder.proofs.ReadDigits.{past-decimal, begins-decimal}
 use Rattle.builder.proofs.FirstBytes.{begins-test, begins}
 
 levels-digit : (d : ℕ) (x : List ℕ) → d < 10 → levels ((48 + d) ∷ x) ≡ levels x
@@ -73,6 +74,11 @@ levels-comma :
 unfolding levels relevel
 levels-comma {u = u} d x = let b = begins d x in rw (no-pair (u ++ x) (omega arith))
 
+-- a comma before a cap
+pub levels-cap : (n : ℕ) (x : List ℕ) → levels (44 ∷ 32 ∷ (decimal n ++ x)) ≡ set (levels x) 0 1
+unfolding levels relevel
+levels-cap n x = let b = digit-is (byte (decimal n ++ x) 0) (begins-decimal n x) .1 in rw (no-pair (decimal n ++ x) (omega arith), levels-number n x)
+
 -- a whole program leaves the levels; with a comma before it, what stands behind the first comma of a Seq or Par leaves its bracket's
 abbrev pub LevelsStay : Piece → List ℕ → List ℕ → Type 0
 LevelsStay (whole p) u x = levels (u ++ x) ≡ levels x
@@ -105,3 +111,9 @@ levels-kept (says-control {s = s} h d) x =
     simp append-assoc (ap (drop 1) (levels-number s _ ∙ (levels-comma d _ ∙ ap (λ l. set l 0 1) (levels-kept d (41 ∷ x)))))
 levels-kept (says-local {s = s} h d) x =
     simp append-assoc (ap (drop 1) (levels-number s _ ∙ (levels-comma d _ ∙ ap (λ l. set l 0 1) (levels-kept d (41 ∷ x)))))
+levels-kept (says-if {v = n} h d e) x =
+    let second = levels-comma e _ ∙ ap (λ l. set l 0 1) (levels-kept e (41 ∷ x)) in
+    simp append-assoc (ap (drop 1) (levels-number n _ ∙ (levels-comma d _ ∙ ap (λ l. set l 0 1) (levels-kept d _ ∙ second))))
+levels-kept (says-repeat-ext {v = v} {cap = n} h g d) x =
+    let part = levels-comma d _ ∙ ap (λ l. set l 0 1) (levels-kept d (41 ∷ x)) in
+    simp append-assoc (ap (drop 1) (levels-number v _ ∙ (levels-cap n _ ∙ ap (λ l. set l 0 1) part)))

@@ -16,7 +16,7 @@ use Rattle.letters.specs.Text.{bytes}
 use Rattle.form.specs.Form.{SaysTest, says-event, says-not, says-and, says-or}
 use Rattle.form.specs.Inside.Machine.{isDigit}
 use Rattle.form.specs.Made.{testRecords}
-use Rattle.builder.specs.Building.{SoFar, number, pair, negation, event, opening, place, relevel}
+use Rattle.builder.specs.Building.{SoFar, number, pair, negation, event, blank, opening, place, relevel}
 use Rattle.builder.specs.Building.{levels, placed}
 use Rattle.builder.proofs.ReadDigits.{past-decimal, begins-decimal, number-decimal, number-ends}
 use Rattle.builder.proofs.FirstBytes.{begins-test}
@@ -97,20 +97,21 @@ reads-not :
     → levels y ≡ 0 ∷ l
     → byte y 0 < 58
     → placed m (bytes "(not " ++ y) ≡ negation (event y (placed m y))
-unfolding placed place opening levels relevel
+unfolding placed place blank opening levels relevel
 reads-not m y l e b = rw (levels-blank y (omega arith), e)
 
 reads-pair : (m k : ℕ) (y l : List ℕ) → levels y ≡ k ∷ l → 1 < k → placed m (40 ∷ y) ≡ pair k (event y (placed m y))
 unfolding placed place opening
 reads-pair m k y l e b = rw (e, lt-ltb 1 k b)
 
-reads-and : (m : ℕ) (y : List ℕ) → placed m (bytes " and " ++ y) ≡ event y (placed m y)
-unfolding placed place event
-reads-and m y = refl
+module _ (m : ℕ) (y l : List ℕ) (e : levels y ≡ 0 ∷ l) (b : byte y 0 < 58) where
+  reads-and : placed m (bytes " and " ++ y) ≡ event y (placed m y)
+  unfolding placed place blank event levels relevel
+  reads-and = rw (levels-blank y (omega arith), e)
 
-reads-or : (m : ℕ) (y : List ℕ) → placed m (bytes " or " ++ y) ≡ event y (placed m y)
-unfolding placed place event
-reads-or m y = refl
+  reads-or : placed m (bytes " or " ++ y) ≡ event y (placed m y)
+  unfolding placed place blank event levels relevel
+  reads-or = rw (levels-blank y (omega arith), e)
 
 pub reads-close : (m : ℕ) (x : List ℕ) → placed m (41 ∷ x) ≡ placed m x
 unfolding placed place
@@ -153,7 +154,7 @@ test-placed m (says-and {c = c} {d = c′} {u = u} {v = v} d e) x j w b l =
     let n = begins-test e (41 ∷ x) in
     let i : ℕ = j + 1 + weight c in
     let h : placed m (41 ∷ x) .left ≡ i + weight c′ = ap (λ s. s .left) (reads-close m x) ∙ (l ∙ omega arith) in
-    let g : placed m z ≡ overTest c′ i (placed m x) = reads-and m v′ ∙
+    let g : placed m z ≡ overTest c′ i (placed m x) = reads-and m v′ (levels x) (levels-test e (41 ∷ x) ∙ levels-close x) n ∙
     (test-placed m e (41 ∷ x) i (omega arith) refl h ∙ ap (overTest c′ i) (reads-close m x)) in
     let f = test-placed m d z (j + 1) (omega arith) refl (ap (λ s. s .left) g) in
     let k : levels (u ++ z) ≡ 2 ∷ levels x = levels-test d z ∙ (levels-and v′ (omega arith) ∙ ap (λ l. set l 0 2) (levels-test e (41 ∷ x) ∙ levels-close x)) in
@@ -164,7 +165,7 @@ test-placed m (says-or {c = c} {d = c′} {u = u} {v = v} d e) x j w b l =
     let n = begins-test e (41 ∷ x) in
     let i : ℕ = j + 1 + weight c in
     let h : placed m (41 ∷ x) .left ≡ i + weight c′ = ap (λ s. s .left) (reads-close m x) ∙ (l ∙ omega arith) in
-    let g : placed m z ≡ overTest c′ i (placed m x) = reads-or m v′ ∙
+    let g : placed m z ≡ overTest c′ i (placed m x) = reads-or m v′ (levels x) (levels-test e (41 ∷ x) ∙ levels-close x) n ∙
     (test-placed m e (41 ∷ x) i (omega arith) refl h ∙ ap (overTest c′ i) (reads-close m x)) in
     let f = test-placed m d z (j + 1) (omega arith) refl (ap (λ s. s .left) g) in
     let k : levels (u ++ z) ≡ 3 ∷ levels x = levels-test d z ∙ (levels-or v′ (omega arith) ∙ ap (λ l. set l 0 3) (levels-test e (41 ∷ x) ∙ levels-close x)) in

@@ -4,21 +4,24 @@ use mathlib.Core.Bool.{Bool, true, false, cond, _||_}
 use mathlib.Core.Path.{_≡_, sym, ap, subst, _∙_}
 use mathlib.Core.List.{List, _++_}
 use native.Mathlib.Nat.{add-zero}
-use lib.Dec.{eqb}
+use lib.Dec.{eqb, ltb}
 use borrow.Author.Tests.{eq-eqb, ne-eqb, lt-ltb, le-ltb}
 use lib.ListN.{length, take, drop}
-use lib.Seq.{sets, getD-drop}
+use lib.Seq.{sets, getD-drop, drop-drop}
 use Rattle.table.specs.Records.{byte, word}
 use Rattle.builder.specs.declared.build.Front.{Front}
 use Rattle.form.specs.Made.{big}
+use Rattle.form.specs.Names.{kindOfForm}
 use Rattle.form.specs.Inside.Machine.{isDigit}
-use Rattle.form.specs.Inside.Rows.{wordRow, formRow, codeAt, nameEnd, inside, named, kindOf}
+use Rattle.form.specs.Inside.Rows.{wordRow, rowOf, codeAt, nameEnd, inside, named, formIn, kindOf}
 use Rattle.builder.specs.Building.{SoFar, withNode, withTest, number, joinedSize, joint, pair}
 use Rattle.builder.specs.Building.{negation, event}
-use Rattle.builder.specs.Building.{opening, labelled, row, choice, await, hasPart, ownSize, single, behindJ}
+use Rattle.builder.specs.Building.{blank, opening, labelled, row, branches, choice, await, hasPart, ownSize, cappedNumber, capped}
+use Rattle.builder.specs.Building.{asking, single, behindJ}
 use Rattle.builder.specs.Building.{form, name}
 use Rattle.builder.specs.Building.{comma, place, Holds, Room, CanPlace, Places}
-use Rattle.builder.proofs.PlacedGrows.{room-before, length-spread, grows-row-joint, choice-length, grows-choice}
+use Rattle.form.proofs.Rows.{form-of-kind}
+use Rattle.builder.proofs.PlacedGrows.{room-before, length-spread, grows-row-joint, branches-length, grows-choice}
 use Rattle.builder.proofs.PlacedGrows.{grows-await}
 use Rattle.builder.proofs.TableHolds.{nodes-part, tests-part, nodes-anew}
 
@@ -55,10 +58,20 @@ module _ {n m : ℕ} {t : List ℕ} {f : Front} {s : SoFar} (h : Holds n m t f s
   unfolding negation
   negation-here e = rw (e, tests-part h)
 
+  pub capped-here : (k a : ℕ) (w : List ℕ) → z ≡ 1 + word nodes-of 4 → a ≡ cappedNumber w → withNode k a z s ≡ capped k w s
+  unfolding capped
+  capped-here k a w e g = rw (e, g, nodes-part h)
+
   pub single-here : (k a : ℕ) {b : Bool} (w : List ℕ) → b ≡ hasPart k → z ≡ cond b (1 + word nodes-of 4) 1 → a ≡ number 0 w
       → withNode k a z s ≡ single k w s
   unfolding single ownSize
   single-here k a w p e g = rw (e, p, g, nodes-part h)
+
+-- the two numbers of a RepeatExt
+pub capped-is : (text : List ℕ) (i v r cap : ℕ) → v ≡ number 0 (drop i text) → r ≡ cond (ltb v 10) 3 4 → cap ≡ number 0 (drop (i + r) text)
+    → cap % 256 * 16 + v % 16 ≡ cappedNumber (drop i text)
+unfolding cappedNumber
+capped-is text i v r cap e f g = rw (g, f, ← e, drop-drop (cond (ltb v 10) 3 4) i text)
 
 -- an Await: its event, then its node
 module _ (k : ℕ) (w : List ℕ) {t : List ℕ} {f : Front} where
@@ -107,25 +120,49 @@ module _ (k : ℕ) {t : List ℕ} {f : Front} where
       let i = e ∙ ap (labelled k) (nodes-part g) in
       rw (← i) (nodes-anew g w (ap length i ∙ length-spread (length (joint s .nodes)) k 0 (joint s .nodes)))
 
+-- the labels and the argument of a node in front
+pub branches-done :
+    (k a : ℕ) {t : List ℕ} {f : Front} (w : List ℕ)
+    → w ≡ sets (labelled k (take (f .middle - f .node) (drop (f .node) t))) 2 (big (a % 65536))
+    → Places (branches k a) t f (take (f .node) t ++ (w ++ drop (f .middle - f .node) (drop (f .node) t))) f
+unfolding branches
+branches-done k a w e n m s h r =
+    let i : w ≡ branches k a s .nodes = rw (nodes-part h) at e in
+    rw (← i) (nodes-anew h w (ap length i ∙ branches-length k a s))
+
 -- a choice: its event, then the labels and the argument
 module _ (k : ℕ) (y : List ℕ) {t : List ℕ} {f : Front} where
   pub choice-first : CanPlace (choice k y) t f → CanPlace (event y) t f
   choice-first (n, m, s, h, r) = (n, m, s, h, room-before (grows-choice k y s) r)
 
-  pub choice-held :
-      {t′ : List ℕ} {f′ : Front} (r : CanPlace (choice k y) t f) → Places (event y) t f t′ f′ → Holds (r .0) (r .1) t′ f′ (event y (r .2))
-  choice-held (n, m, s, h, r) p = p n m s h (room-before (grows-choice k y s) r)
+  pub choice-second :
+      {t′ : List ℕ} {f′ : Front} → CanPlace (choice k y) t f → Places (event y) t f t′ f′ → CanPlace (branches k (f′ .left)) t′ f′
+  unfolding choice
+  choice-second (n, m, s, h, r) p =
+      let g = p n m s h (room-before (grows-choice k y s) r) in
+      (n, m, event y s, g, rw (g .left-is) r)
 
   pub choice-done :
-      {t′ : List ℕ} {f′ : Front} (w : List ℕ)
+      {t′ : List ℕ} {f′ : Front} {t″ : List ℕ} {f″ : Front}
       → Places (event y) t f t′ f′
-      → w ≡ sets (labelled k (take (f′ .middle - f′ .node) (drop (f′ .node) t′))) 2 (big (f′ .left % 65536))
-      → Places (choice k y) t f (take (f′ .node) t′ ++ (w ++ drop (f′ .middle - f′ .node) (drop (f′ .node) t′))) f′
+      → Places (branches k (f′ .left)) t′ f′ t″ f″
+      → Places (choice k y) t f t″ f″
   unfolding choice
-  choice-done w p e n m s h r =
+  choice-done {t″ = t″} {f″ = f″} p q n m s h r =
       let g = p n m s h (room-before (grows-choice k y s) r) in
-      let i : w ≡ choice k y s .nodes = rw (nodes-part g, g .left-is) at e in
-      rw (← i) (nodes-anew g w (ap length i ∙ choice-length k y s))
+      let e = g .left-is in
+      subst (λ (x : ℕ). Holds n m t″ f″ (branches k x (event y s))) e
+      (q n m (event y s) g (subst (λ (x : ℕ). Room n m (branches k x (event y s))) (sym e) r))
+
+-- a value's number
+module _ (behind k : ℕ) (w : List ℕ) (s : SoFar) where
+  pub asking-capped : behind ≡ 141 → capped k w s ≡ asking behind k w s
+  unfolding asking
+  asking-capped e = rw (eq-eqb behind 141 e)
+
+  pub asking-branches : (a : ℕ) → (behind ≡ 141 → ⊥) → a ≡ number 0 w → branches k a s ≡ asking behind k w s
+  unfolding asking
+  asking-branches a e n = rw (ne-eqb behind 141 e, n)
 
 -- `(`
 module _ (level : ℕ) (w : List ℕ) (s : SoFar) where
@@ -142,17 +179,31 @@ module _ (level : ℕ) (w : List ℕ) (s : SoFar) where
   opening-none h e = rw (le-ltb 1 level h, e)
 
 -- `,`
-module _ (level : ℕ) (s : SoFar) where
-  pub comma-joint : level ≡ 1 → joint s ≡ comma level s
+module _ (level : ℕ) (w : List ℕ) (s : SoFar) where
+  pub comma-joint : level ≡ 1 → byte w 1 ≡ 74 → joint s ≡ comma level w s
   unfolding comma
-  comma-joint e = rw e
+  comma-joint e f = rw (e, f)
 
-  pub comma-none : (level ≡ 1 → ⊥) → comma level s ≡ s
+  pub comma-cap : level ≡ 1 → (byte w 1 ≡ 74 → ⊥) → comma level w s ≡ s
+  unfolding comma
+  comma-cap e f = rw (e, ne-eqb (byte w 1) 74 f)
+
+  pub comma-none : (level ≡ 1 → ⊥) → comma level w s ≡ s
   unfolding comma
   comma-none e = rw (ne-eqb level 1 e)
 
+-- a blank
+module _ (level : ℕ) (w : List ℕ) (s : SoFar) where
+  pub blank-cap : level ≡ 1 → blank level w s ≡ s
+  unfolding blank
+  blank-cap e = rw e
+
+  pub blank-event : (level ≡ 1 → ⊥) → event w s ≡ blank level w s
+  unfolding blank
+  blank-event e = rw (ne-eqb level 1 e)
+
 -- the form of a kind, by the codes in its brackets, which begin at place n of the table of names
-module _ (k n : ℕ) (is : n ≡ nameEnd (formRow k)) (w : List ℕ) (s : SoFar) where
+module _ (k n : ℕ) (is : n ≡ nameEnd (rowOf k)) (w : List ℕ) (s : SoFar) where
   code-at : (j : ℕ) → codeAt (n + j) ≡ inside k j
   unfolding inside
   code-at j = rw is
@@ -176,30 +227,39 @@ module _ (k n : ℕ) (is : n ≡ nameEnd (formRow k)) (w : List ℕ) (s : SoFar)
     unfolding form
     form-await e f = rw (no-row, eq-eqb (inside k 0) 134 (sym first-at ∙ e), ne-eqb (inside k 1) 44 (λ z. f (code-at 1 ∙ z)))
 
-    pub form-single : (codeAt n ≡ 134 → ⊥) → single k w s ≡ form k w s
-    unfolding form
-    form-single e = rw (no-row, ne-eqb (inside k 0) 134 (λ z. e (first-at ∙ z)))
+    module _ (q : codeAt n ≡ 134 → ⊥) where
+      no-test : eqb (inside k 0) 134 ≡ false
+      no-test = ne-eqb (inside k 0) 134 (λ z. q (first-at ∙ z))
+
+      pub form-asking : codeAt n ≡ 140 → (x : ℕ) → x ≡ codeAt (n + 3) → asking x k w s ≡ form k w s
+      unfolding form
+      form-asking e x f = rw (f, code-at 3, no-row, no-test, eq-eqb (inside k 0) 140 (sym first-at ∙ e))
+
+      pub form-single : (codeAt n ≡ 140 → ⊥) → single k w s ≡ form k w s
+      unfolding form
+      form-single e = rw (no-row, no-test, ne-eqb (inside k 0) 140 (λ z. e (first-at ∙ z)))
 
   pub part-is : {b : Bool} → b ≡ (eqb (codeAt n) 128 || eqb (codeAt (n + 3)) 128) → b ≡ hasPart k
   unfolding hasPart
   part-is e = e ∙ rw (first-at, code-at 3)
 
-pub behind-is : (k n x : ℕ) → n ≡ nameEnd (6 + x) → x ≡ k → 2 + (n - 20 * (6 + x)) ≡ behindJ k
+pub behind-is : (i n : ℕ) → n ≡ nameEnd (6 + i) → 2 + (n - 20 * (6 + i)) ≡ behindJ (kindOfForm i)
 unfolding behindJ
-behind-is k n x e f = rw (e, f)
+behind-is i n e = rw (e, form-of-kind i)
 
 -- `J`
 pub name-here :
-    (w : List ℕ) (k i : ℕ) (s : SoFar)
-    → k ≡ kindOf (drop 2 w)
-    → i ≡ behindJ k
-    → form k (drop i w) s ≡ name w s
-unfolding name
-name-here w k i s e f = rw (f, e)
+    (w : List ℕ) (i k e : ℕ) (s : SoFar)
+    → i ≡ formIn (drop 2 w)
+    → k ≡ kindOfForm i
+    → e ≡ behindJ (kindOfForm i)
+    → form k (drop e w) s ≡ name w s
+unfolding name kindOf
+name-here w i k e s f g h = rw (g, h, f)
 
 -- a byte
 module _ (b level : ℕ) (w : List ℕ) (s : SoFar) where
-  pub place-blank : b ≡ 32 → event w s ≡ place b level w s
+  pub place-blank : b ≡ 32 → blank level w s ≡ place b level w s
   unfolding place
   place-blank e = rw e
 
@@ -207,7 +267,7 @@ module _ (b level : ℕ) (w : List ℕ) (s : SoFar) where
   unfolding place
   place-opens e = rw e
 
-  pub place-separates : b ≡ 44 → comma level s ≡ place b level w s
+  pub place-separates : b ≡ 44 → comma level w s ≡ place b level w s
   unfolding place
   place-separates e = rw e
 

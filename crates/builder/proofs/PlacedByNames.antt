@@ -11,14 +11,14 @@ use borrow.Author.Tests.{eqb-false, ne-eqb, le-ltb, leb-true}
 use Rattle.junior.specs.Configuration.{Config}
 use Rattle.junior.specs.Program.{Program, Seq, Par, size, kind}
 use Rattle.table.specs.Records.{byte, word}
-use Rattle.form.specs.Names.{formOf, opening as opened}
+use Rattle.form.specs.Names.{kindOfForm, formOf, opening as opened}
 use Rattle.form.specs.Made.{big, tests, nodesFrom, testRecords, testsOf}
 use Rattle.form.specs.Inside.Machine.{isDigit}
-use Rattle.form.specs.Inside.Rows.{rowAt, formRow, kinds, nameEnd}
+use Rattle.form.specs.Inside.Rows.{rowAt, rowOf, formCount, nameEnd}
 use Rattle.form.proofs.ComputedTests.{both, all, all-at}
-use Rattle.form.proofs.Rows.{name-long, kind-told, no-not}
-use Rattle.builder.specs.Building.{SoFar, number, joint, event, opening, labelled, row, choice}
-use Rattle.builder.specs.Building.{await, ownSize, single}
+use Rattle.form.proofs.Rows.{name-long, kind-told, form-of-kind, no-not}
+use Rattle.builder.specs.Building.{SoFar, number, joint, event, blank, opening, labelled, row, branches, choice}
+use Rattle.builder.specs.Building.{await, ownSize, cappedNumber, capped, single}
 use Rattle.builder.specs.Building.{behindJ, form, name, comma, place, levels, placed}
 use Rattle.builder.proofs.LevelsKept.{levels-blank}
 use Rattle.builder.proofs.WrittenSizes.{size-there, kind-small, joined-nodes}
@@ -49,9 +49,9 @@ not-J b r = go (eqb b 74) refl
     go true f e = absurd (false≢true e)
     go false f e = (eqb-false b 74 f, e)
 
-quiet-name : (k : ℕ) → k < kinds → quiet (formOf k .name) ≡ true
+quiet-name : (k : ℕ) → k < formCount → quiet (formOf k .name) ≡ true
 unfolding all quiet formOf
-quiet-name = all-at kinds (λ k. quiet (formOf k .name)) refl
+quiet-name = all-at formCount (λ k. quiet (formOf k .name)) refl
 
 past : (u y : List ℕ) → drop (suc (length u)) (u ++ (40 ∷ y)) ≡ y
 past [] y = refl
@@ -71,25 +71,30 @@ module _ (m : ℕ) (y : List ℕ) (g : Enclosed y) where
       let (n, r) = not-J b (quiet u) (both {a = leb 45 b} e .1) in
       simp (ne-eqb b 32 (λ x. omega arith), ne-eqb b 40 (λ x. omega arith), ne-eqb b 44 (λ x. omega arith), ne-eqb b 74 n) (letters u z r)
 
-  -- the name of kind k before this text
-  pub reads : (k : ℕ) → k < kinds → placed m (opened k ++ y) ≡ form k y (placed m y)
+  -- the name of form k before this text
+  pub reads : (k : ℕ) → k < formCount → placed m (opened k ++ y) ≡ form (kindOfForm k) y (placed m y)
   unfolding opened placed place name behindJ
   reads k h =
       let u : List ℕ = formOf k .name in
       let e : (u ++ (40 ∷ [])) ++ y ≡ u ++ (40 ∷ y) = append-assoc u (40 ∷ []) y in
-      let d : nameEnd (formRow k) - rowAt (formRow k) ≡ suc (length u) = let l = name-long k h in omega arith in
+      let d : nameEnd (rowOf (kindOfForm k)) - rowAt (rowOf (kindOfForm k)) ≡ suc (length u) = rw (form-of-kind k) (let l = name-long k h in omega arith) in
       let f : 2 + suc (length u) ≡ suc (suc (suc (length u))) = omega arith in
-      rw (e, kind-told k h y, d, f, past u y) (ap (form k y) (letters u (40 ∷ y) (quiet-name k h) ∙ plain))
+      rw (e, kind-told k h y, d, f, past u y) (ap (form (kindOfForm k) y) (letters u (40 ∷ y) (quiet-name k h) ∙ plain))
 
 -- a comma before a program: the last of its bracket, or another
 module _ (m : ℕ) (y l : List ℕ) (b : byte y 0 ≡ 74) where
   pub comma-last : levels y ≡ 0 ∷ l → placed m (44 ∷ 32 ∷ y) ≡ placed m y
-  unfolding placed place comma
-  comma-last e = rw (no-event y (placed m y) (ap isDigit b), levels-blank y (omega arith), e)
+  unfolding placed place blank comma
+  comma-last e = rw (levels-blank y (omega arith), e, no-event y (placed m y) (ap isDigit b))
 
   pub comma-more : levels y ≡ 1 ∷ l → placed m (44 ∷ 32 ∷ y) ≡ joint (placed m y)
-  unfolding placed place comma
-  comma-more e = rw (no-event y (placed m y) (ap isDigit b), levels-blank y (omega arith), e)
+  unfolding placed place blank comma
+  comma-more e = rw (levels-blank y (omega arith), e, b)
+
+-- and before a cap
+pub comma-cap : (m : ℕ) (y l : List ℕ) → byte y 0 < 58 → levels y ≡ 1 ∷ l → placed m (44 ∷ 32 ∷ y) ≡ placed m y
+unfolding placed place blank comma
+comma-cap m y l b e = rw (levels-blank y (omega arith), e, ne-eqb (byte y 0) 74 (λ z. omega arith))
 
 -- a form without parts or with one
 pub singled :
@@ -101,6 +106,17 @@ pub singled :
     → single k y s ≡ made (k ∷ 0 ∷ (big a ++ (big n ++ s .nodes))) (s .tests) (s .left)
 unfolding single
 singled k a n y s e h f g = rw (e, f, small-mod a 65536 (omega arith), small-mod n 65536 (omega arith))
+
+-- a RepeatExt
+pub capped-placed :
+    (k a n : ℕ) (y : List ℕ) (s : SoFar)
+    → cappedNumber y ≡ a
+    → a ≤ 65535
+    → 1 + word (s .nodes) 4 ≡ n
+    → n ≤ 65535
+    → capped k y s ≡ made (k ∷ 0 ∷ (big a ++ (big n ++ s .nodes))) (s .tests) (s .left)
+unfolding capped
+capped-placed k a n y s e h f g = rw (e, f, small-mod a 65536 (omega arith), small-mod n 65536 (omega arith))
 
 -- the parts of a row behind its first comma
 pub record Joined (k : ℕ) (q : Program) (j : ℕ) (s r : SoFar) : Type 0 where
@@ -189,6 +205,18 @@ pub await-placed :
 unfolding await
 await-placed k c j y s r e h = rw (e, small-mod j 65536 (omega arith))
 
+-- a node that is not labelled yet
+pub branches-placed :
+    (k a n i h : ℕ) (p q : Program) (x t : List ℕ) (l : ℕ)
+    → a ≤ 65535
+    → branches k a (made (255 ∷ 0 ∷ 0 ∷ 0 ∷ (big n ++ (nodesFrom i p ++ (nodesFrom h q ++ x)))) t l)
+    ≡ made (k ∷ 0 ∷ (big a ++ (big n ++ (nodesFrom i p ++ (nodesFrom h q ++ x))))) t l
+unfolding branches
+branches-placed k a n i h p q x t l b =
+    let d : List ℕ = big n ++ (nodesFrom i p ++ (nodesFrom h q ++ x)) in
+    let f : labelled k (255 ∷ 0 ∷ 0 ∷ 0 ∷ d) ≡ k ∷ 0 ∷ 0 ∷ 0 ∷ d = labels (goes n i p (ends (kind-small h q x))) in
+    rw (f, small-mod a 65536 (omega arith))
+
 -- a When or an Until whose node is not labelled yet
 pub choice-placed :
     (k : ℕ) (c : Config) (j n i h : ℕ) (p q : Program) (x t y : List ℕ) (l : ℕ) (s : SoFar)
@@ -196,7 +224,4 @@ pub choice-placed :
     → j ≤ 65535
     → choice k y s ≡ made (k ∷ 0 ∷ (big j ++ (big n ++ (nodesFrom i p ++ (nodesFrom h q ++ x))))) (testRecords c ++ t) j
 unfolding choice
-choice-placed k c j n i h p q x t y l s e b =
-    let d : List ℕ = big n ++ (nodesFrom i p ++ (nodesFrom h q ++ x)) in
-    let f : labelled k (255 ∷ 0 ∷ 0 ∷ 0 ∷ d) ≡ k ∷ 0 ∷ 0 ∷ 0 ∷ d = labels (goes n i p (ends (kind-small h q x))) in
-    rw (e, f, small-mod j 65536 (omega arith))
+choice-placed k c j n i h p q x t y l s e b = rw e (branches-placed k j n i h p q x (testRecords c ++ t) j b)

@@ -1,38 +1,43 @@
 -- Reading a program places its records in front of those that are placed.
-use Prim.Native.Nat.{ℕ, _+_, _≤_, _<_}
-use mathlib.Core.Bool.{false}
+use Prim.Native.Nat.{ℕ, _+_, _*_, _/_, _≤_, _<_}
+use mathlib.Core.Bool.{Bool, true, false, cond}
 use mathlib.Core.Path.{_≡_, refl, ap, _∙_}
 use mathlib.Core.List.{List, [], _∷_, _++_, append-assoc, append-nil}
 use native.Mathlib.Nat.{add-zero}
 use native.Mathlib.Omega.{arith}
+use lib.Dec.{ltb}
+use lib.ListN.{drop, set}
+use borrow.Author.Tests.{ltb-true, ltb-false}
 use Rattle.events.specs.Members.{places}
 use Rattle.junior.specs.Configuration.{Config}
 use Rattle.junior.specs.Program.{Program, Nothing, Stop, Atom, Seq, Par, Loop, Repeat, Generate, Await, When, Until}
-use Rattle.junior.specs.Program.{Control, Local, size, kind}
+use Rattle.junior.specs.Program.{Control, Local, If, size, kind}
+use Rattle.junior.specs.Values.{exactly, asked}
 use Rattle.table.specs.Records.{byte, word}
 use Rattle.table.specs.Spells.{weight}
 use Rattle.letters.specs.Decimal.{decimal}
 use Rattle.letters.specs.Text.{bytes}
+use Rattle.letters.proofs.Decimal.{decimal-digit, decimal-more}
 use Rattle.form.specs.Names.{opening}
 use Rattle.form.specs.Form.{SaysTest, Piece, whole, later-seq, later-par, Says}
 use Rattle.form.specs.Form.{says-nothing, says-stop, says-atom, says-seq, last-of-seq, more-of-seq, says-par}
 use Rattle.form.specs.Form.{last-of-par}
 use Rattle.form.specs.Form.{more-of-par, says-loop, says-repeat, says-generate, says-await, says-when}
 use Rattle.form.specs.Form.{says-until}
-use Rattle.form.specs.Form.{says-control, says-local}
+use Rattle.form.specs.Form.{says-control, says-local, says-if, says-repeat-ext}
 use Rattle.form.specs.Inside.Machine.{isDigit}
 use Rattle.form.specs.Made.{big, tests, nodesFrom, testRecords, testsOf}
 use Rattle.form.proofs.Digits.{digit-is}
-use Rattle.builder.specs.Building.{SoFar, number, joint, row, choice, ownSize, single, form, levels}
+use Rattle.builder.specs.Building.{SoFar, number, joint, row, branches, choice, ownSize, cappedNumber, capped, asking, single, form, levels}
 use Rattle.builder.specs.Building.{placed}
 use Rattle.builder.proofs.ReadDigits.{begins-decimal, number-decimal, number-ends}
 use Rattle.builder.proofs.FirstBytes.{begins-test, begins}
-use Rattle.builder.proofs.LevelsKept.{levels-number, levels-close, levels-test, levels-kept}
+use Rattle.builder.proofs.LevelsKept.{levels-number, levels-close, levels-test, levels-cap, levels-kept}
 use Rattle.builder.proofs.WrittenSizes.{size-there}
-use Rattle.builder.proofs.PlacedByConfigurations.{made, overTest, placed-number, reads-close, test-placed}
-use Rattle.builder.proofs.PlacedByNames.{over, Enclosed, reads, comma-last, comma-more, singled, Joined, joined-last}
+use Rattle.builder.proofs.PlacedByConfigurations.{made, small-mod, overTest, placed-number, reads-close, test-placed}
+use Rattle.builder.proofs.PlacedByNames.{over, Enclosed, reads, comma-last, comma-more, comma-cap, singled, capped-placed, Joined, joined-last}
 use Rattle.builder.proofs.PlacedByNames.{joint-is, Row, seq-row}
-use Rattle.builder.proofs.PlacedByNames.{par-row, joined-more, row-placed, await-placed, choice-placed}
+use Rattle.builder.proofs.PlacedByNames.{par-row, joined-more, row-placed, await-placed, branches-placed, choice-placed}
 
 -- equal by parts
 alike : {a b t u : List ℕ} {j l : ℕ} → a ≡ b → t ≡ u → j ≡ l → made a t j ≡ made b u l
@@ -80,6 +85,32 @@ module _ (c : Config) (p q : Program) (j : ℕ) (s : SoFar) where
   over-until : by-parts 10 ≡ over (Until c p q) j s
   unfolding size tests nodesFrom testsOf kind
   over-until = simp append-assoc
+
+-- the same of an If
+over-if : (v : ℕ) (p q : Program) (j : ℕ) (s : SoFar)
+    → made (14 ∷ 0 ∷ (big v ++ (big (1 + size p + size q) ++ (nodesFrom j p ++ (nodesFrom (j + tests p) q ++ s .nodes)))))
+    (testsOf p ++ (testsOf q ++ s .tests)) j ≡ over (If v p q) j s
+unfolding size tests nodesFrom testsOf kind
+over-if v p q j s = simp append-assoc
+
+-- the text behind a value's number, a comma and a blank
+behind-value : (v : ℕ) (r : List ℕ) → v ≤ 15 → drop (cond (ltb v 10) 3 4) (decimal v ++ (44 ∷ 32 ∷ r)) ≡ r
+behind-value v r h = go (ltb v 10) refl
+  where
+    go : (b : Bool) → ltb v 10 ≡ b → drop (cond b 3 4) (decimal v ++ (44 ∷ 32 ∷ r)) ≡ r
+    go true e = rw (decimal-digit v (ltb-true v 10 e))
+    go false e =
+        let l = ltb-false v 10 e in
+        let one : v / 10 ≡ 1 = omega arith in
+        rw (decimal-more v l, one, decimal-digit 1 (omega arith))
+
+-- the two numbers of a RepeatExt
+capped-number : (v n : ℕ) (z : List ℕ) → v ≤ 15 → n ≤ 255 → isDigit (byte z 0) ≡ false
+    → cappedNumber (decimal v ++ (44 ∷ 32 ∷ (decimal n ++ z))) ≡ n * 16 + v
+unfolding cappedNumber
+capped-number v n z h g e =
+    let first : number 0 (decimal v ++ (44 ∷ 32 ∷ (decimal n ++ z))) ≡ v = given v (44 ∷ 32 ∷ (decimal n ++ z)) (omega arith) refl in
+    rw (first, behind-value v (decimal n ++ z) h, given n z (omega arith) e, small-mod n 256 (omega arith), small-mod v 16 (omega arith))
 
 module _ (m : ℕ) where
   -- a form without parts, its number in the bracket
@@ -180,6 +211,31 @@ module _ (m : ℕ) where
         let c = begins d (44 ∷ 32 ∷ (v ++ x)) in
         parted _ x (levels-kept d _ ∙ l x) (omega arith)
 
+  -- two programs, a comma before each
+  two-placed :
+      {p q : Program} {v w : List ℕ}
+      → Says (whole p) v
+      → Says (whole q) w
+      → Whole p v
+      → Whole q w
+      → (x : List ℕ) (j : ℕ)
+      → 1 + size p + size q ≤ 65535
+      → j + (tests p + tests q) ≤ 65535
+      → placed m x .left ≡ j + (tests p + tests q)
+      → placed m (44 ∷ 32 ∷ (v ++ (44 ∷ 32 ∷ (w ++ (41 ∷ x)))))
+      ≡ made (255 ∷ 0 ∷ 0 ∷ 0 ∷ (big (1 + size p + size q) ++ (nodesFrom j p ++ (nodesFrom (j + tests p) q ++ placed m x .nodes))))
+      (testsOf p ++ (testsOf q ++ placed m x .tests)) j
+  two-placed {p} {q} {v} {w} d e f g x j n b h =
+      let zq : List ℕ = 44 ∷ 32 ∷ (w ++ (41 ∷ x)) in
+      let jq : ℕ = j + tests p in
+      let s : SoFar = placed m x in
+      let second : placed m zq ≡ over q jq s =
+      comma-last m (w ++ (41 ∷ x)) (levels x) (begins e _) (end-levels e x) ∙ at-close q w x jq g (omega arith) (omega arith) (h ∙ omega arith) in
+      let first : placed m (v ++ zq) ≡ over p j (over q jq s) =
+      f zq j (omega arith) (omega arith) (ap (λ r. r .left) second) ∙ ap (over p j) second in
+      comma-more m (v ++ zq) (levels x) (begins d _) (levels-kept d zq ∙ last-levels e x)
+      ∙ (ap joint first ∙ joint-is j (size q) p (nodesFrom jq q ++ s .nodes) (testsOf p ++ (testsOf q ++ s .tests)) j (size-there jq q (s .nodes)) n)
+
   -- a test and two programs
   chosen :
       (k : ℕ) {c : Config} {p q : Program} {u v w : List ℕ}
@@ -201,14 +257,7 @@ module _ (m : ℕ) where
       let jp : ℕ = j + weight c in
       let jq : ℕ = j + weight c + tests p in
       let s : SoFar = placed m x in
-      let second : placed m zq ≡ over q jq s =
-      comma-last m (w ++ (41 ∷ x)) (levels x) (begins e _) (end-levels e x) ∙ at-close q w x jq g (omega arith) (omega arith) (h ∙ omega arith) in
-      let first : placed m (v ++ zq) ≡ over p jp (over q jq s) =
-      f zq jp (omega arith) (omega arith) (ap (λ r. r .left) second) ∙ ap (over p jp) second in
-      let both : placed m zp ≡ made (255 ∷ 0 ∷ 0 ∷ 0 ∷ (big (1 + size p + size q) ++ (nodesFrom jp p ++ (nodesFrom jq q ++ s .nodes))))
-      (testsOf p ++ (testsOf q ++ s .tests)) jp =
-      comma-more m (v ++ zq) (levels x) (begins d _) (levels-kept d zq ∙ last-levels e x)
-      ∙ (ap joint first ∙ joint-is jp (size q) p (nodesFrom jq q ++ s .nodes) (testsOf p ++ (testsOf q ++ s .tests)) jp (size-there jq q (s .nodes)) n) in
+      let both = two-placed d e f g x jp n (omega arith) (h ∙ omega arith) in
       let tested = test-placed m t zp j (omega arith) refl (ap (λ r. r .left) both) ∙ ap (overTest c j) both in
       rw is (choice-placed k c j (1 + size p + size q) jp jq p q (s .nodes) (testsOf p ++ (testsOf q ++ s .tests)) (u ++ zp) jp
       (placed m (u ++ zp)) tested (omega arith))
@@ -277,7 +326,7 @@ module _ (m : ℕ) where
       ∙ singled 5 0 (1 + size p) (u ++ (41 ∷ x)) s (number-ends 0 _ (ap isDigit c)) (omega arith) (ap (λ n. 1 + n) (size-there j p (placed m x .nodes))) a))
 
   repeat-placed : (n : ℕ) {p : Program} {u : List ℕ} → n ≤ 65535 → Says (whole p) u → Whole p u
-      → Whole (Repeat n p) (bytes "Jr.Repeat(" ++ (decimal n ++ (bytes ", " ++ (u ++ bytes ")"))))
+      → Whole (Repeat (exactly n) p) (bytes "Jr.Repeat(" ++ (decimal n ++ (bytes ", " ++ (u ++ bytes ")"))))
   unfolding opening form ownSize size tests nodesFrom testsOf kind
   repeat-placed n {p} {u} l d f x j a b h =
       rw (append-assoc (decimal n) (44 ∷ 32 ∷ (u ++ (41 ∷ []))) x, append-assoc u (41 ∷ []) x)
@@ -340,6 +389,52 @@ module _ (m : ℕ) where
       rw (three-before u v w x)
       (reads m _ (enclosed-chosen t d e x) 10 (omega arith) ∙ (chosen 10 t d e f g x j a b h _ refl ∙ over-until c p q j (placed m x)))
 
+  -- the text of a value's number, a cap and a program, before x
+  abbrev asked-text : ℕ → ℕ → List ℕ → List ℕ → List ℕ
+  asked-text v n u x = decimal v ++ (44 ∷ 32 ∷ (decimal n ++ (44 ∷ 32 ∷ (u ++ (41 ∷ x)))))
+
+  asked-before : (v n : ℕ) (u x : List ℕ) → (asked-text v n u []) ++ x ≡ asked-text v n u x
+  asked-before v n u x = simp append-assoc
+
+  if-placed :
+      (v : ℕ) {p q : Program} {u w : List ℕ}
+      → v ≤ 15
+      → Says (whole p) u
+      → Says (whole q) w
+      → Whole p u
+      → Whole q w
+      → Whole (If v p q) (bytes "Jr.If(" ++ (three (decimal v) u w []))
+  unfolding opening form asking size tests
+  if-placed v {p} {q} {u} {w} l d e f g x j a b h =
+      let zp : List ℕ = 44 ∷ 32 ∷ (u ++ (44 ∷ 32 ∷ (w ++ (41 ∷ x)))) in
+      let s : SoFar = placed m x in
+      let enclosed = parted (decimal v ++ zp) x (levels-number v zp ∙ (simp append-assoc at (levels-kept (more-of-seq d (last-of-seq e)) x))) (before v zp) in
+      rw (three-before (decimal v) u w x)
+      (reads m _ enclosed 13 (omega arith)
+      ∙ (rw (given v zp (omega arith) refl) (ap (branches 14 v) (placed-number m v zp ∙ two-placed d e f g x j a b h))
+      ∙ (branches-placed 14 v (1 + size p + size q) j (j + tests p) p q (s .nodes) (testsOf p ++ (testsOf q ++ s .tests)) j (omega arith)
+      ∙ over-if v p q j s)))
+
+  repeat-ext-placed : (v n : ℕ) {p : Program} {u : List ℕ} → v ≤ 15 → n ≤ 255 → Says (whole p) u → Whole p u
+      → Whole (Repeat (asked v n) p) (bytes "Jr.RepeatExt(" ++ (asked-text v n u []))
+  unfolding opening form asking size tests nodesFrom testsOf kind
+  repeat-ext-placed v n {p} {u} l k d f x j a b h =
+      let z : List ℕ = 44 ∷ 32 ∷ (u ++ (41 ∷ x)) in
+      let y : List ℕ = 44 ∷ 32 ∷ (decimal n ++ z) in
+      let s : SoFar = over p j (placed m x) in
+      let c = digit-is (byte (decimal n ++ z) 0) (begins-decimal n z) .1 in
+      let inner : levels (decimal n ++ z) ≡ 1 ∷ levels x = levels-number n z ∙ last-levels d x in
+      let part : placed m z ≡ s =
+      comma-last m (u ++ (41 ∷ x)) (levels x) (begins d _) (end-levels d x) ∙ at-close p u x j f (omega arith) b h in
+      let all-placed : placed m (decimal v ++ y) ≡ s =
+      placed-number m v y ∙ (comma-cap m (decimal n ++ z) (levels x) (omega arith) inner ∙ (placed-number m n z ∙ part)) in
+      let enclosed = parted (decimal v ++ y) x (levels-number v y ∙ (levels-cap n z ∙ ap (λ q. set q 0 1) (last-levels d x))) (before v y) in
+      rw (asked-before v n u x)
+      (reads m _ enclosed 14 (omega arith)
+      ∙ (ap (capped 15 (decimal v ++ y)) all-placed
+      ∙ capped-placed 15 (n * 16 + v) (1 + size p) (decimal v ++ y) s (capped-number v n z l k refl) (omega arith)
+      (ap (λ q. 1 + q) (size-there j p (placed m x .nodes))) a))
+
   pub piece-placed : {s : Piece} {u : List ℕ} → Says s u → Outcome s u
   piece-placed says-nothing = nothing-placed
   piece-placed says-stop = stop-placed
@@ -358,3 +453,5 @@ module _ (m : ℕ) where
   piece-placed (says-until t d e) = until-placed t d e (piece-placed d) (piece-placed e)
   piece-placed (says-control {s = n} l d) = control-placed n l d (piece-placed d)
   piece-placed (says-local {s = n} l d) = local-placed n l d (piece-placed d)
+  piece-placed (says-if {v = n} l d e) = if-placed n l d e (piece-placed d) (piece-placed e)
+  piece-placed (says-repeat-ext {v = v} {cap = n} l k d) = repeat-ext-placed v n l k d (piece-placed d)

@@ -13,7 +13,7 @@ use Rattle.form.specs.Inside.Machine.{isDigit}
 use Rattle.form.specs.Inside.Rows.{wordRow, inside, named, kindOf}
 use Rattle.builder.specs.Building.{SoFar, withNode, withTest, number, joint, pair, negation, event}
 use Rattle.builder.specs.Building.{opening, spread, labelled, row}
-use Rattle.builder.specs.Building.{choice, await, single, behindJ, form, name, comma, place, levels}
+use Rattle.builder.specs.Building.{blank, branches, choice, await, capped, asking, single, behindJ, form, name, comma, place, levels}
 use Rattle.builder.specs.Building.{placed, Room}
 
 pub record Grows (s t : SoFar) : Type 0 where
@@ -87,21 +87,28 @@ grows-row k s =
     let g = grows-joint s .nodes-grow in
     record { nodes-grow = rw (row-length k s) g; tests-grow = omega arith }
 
--- a choice has the records of its event
-pub choice-length : (k : ℕ) (w : List ℕ) (s : SoFar) → length (choice k w s .nodes) ≡ length (event w s .nodes)
-unfolding choice
-choice-length k w s = length-sets (labelled k (event w s .nodes)) 2 (big (event w s .left % 65536)) ∙ length-spread (length (event w s .nodes)) k 0
-    (event w s .nodes)
+-- labels change no length
+pub branches-length : (k a : ℕ) (s : SoFar) → length (branches k a s .nodes) ≡ length (s .nodes)
+unfolding branches
+branches-length k a s = length-sets (labelled k (s .nodes)) 2 (big (a % 65536)) ∙ length-spread (length (s .nodes)) k 0 (s .nodes)
+
+grows-branches : (k a : ℕ) (s : SoFar) → Grows s (branches k a s)
+unfolding branches
+grows-branches k a s =
+    let e = branches-length k a s in
+    record { nodes-grow = omega arith; tests-grow = omega arith }
 
 pub grows-choice : (k : ℕ) (w : List ℕ) (s : SoFar) → Grows (event w s) (choice k w s)
 unfolding choice
-grows-choice k w s =
-    let e = choice-length k w s in
-    record { nodes-grow = omega arith; tests-grow = omega arith }
+grows-choice k w s = grows-branches k (event w s .left) (event w s)
 
 pub grows-await : (k : ℕ) (w : List ℕ) (s : SoFar) → Grows (event w s) (await k w s)
 unfolding await
 grows-await k w s = grows-node k _ 1 (event w s)
+
+grows-asking : (behind k : ℕ) (w : List ℕ) (s : SoFar) → Grows s (asking behind k w s)
+unfolding asking capped
+grows-asking behind k w s = grows-either (eqb behind 141) (grows-node k _ _ s) (grows-branches k (number 0 w) s)
 
 grows-single : (k : ℕ) (w : List ℕ) (s : SoFar) → Grows s (single k w s)
 unfolding single
@@ -116,11 +123,15 @@ grows-form k w s =
     (grows-either
     (eqb (inside k 0) 134)
     (grows-then (grows-event w s) (grows-either (eqb (inside k 1) 44) (grows-choice k w s) (grows-await k w s)))
-    (grows-single k w s))
+    (grows-either (eqb (inside k 0) 140) (grows-asking (inside k 3) k w s) (grows-single k w s)))
 
-grows-comma : (level : ℕ) (s : SoFar) → Grows s (comma level s)
+grows-comma : (level : ℕ) (w : List ℕ) (s : SoFar) → Grows s (comma level w s)
 unfolding comma
-grows-comma level s = grows-either (eqb level 1) (grows-joint s) (grows-self s)
+grows-comma level w s = grows-either (eqb level 1) (grows-either (eqb (byte w 1) 74) (grows-joint s) (grows-self s)) (grows-self s)
+
+grows-blank : (level : ℕ) (w : List ℕ) (s : SoFar) → Grows s (blank level w s)
+unfolding blank
+grows-blank level w s = grows-either (eqb level 1) (grows-self s) (grows-event w s)
 
 grows-place : (b level : ℕ) (w : List ℕ) (s : SoFar) → Grows s (place b level w s)
 unfolding place name
@@ -128,13 +139,13 @@ grows-place b level w s =
     let k : ℕ = kindOf (drop 2 w) in
     grows-either
     (eqb b 32)
-    (grows-event w s)
+    (grows-blank level w s)
     (grows-either
     (eqb b 40)
     (grows-opening level w s)
     (grows-either
     (eqb b 44)
-    (grows-comma level s)
+    (grows-comma level w s)
     (grows-either (eqb b 74) (grows-form k (drop (behindJ k) w) s) (grows-self s))))
 
 grows-text : (m : ℕ) (w x : List ℕ) → Grows (placed m x) (placed m (w ++ x))

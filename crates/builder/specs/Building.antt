@@ -13,7 +13,7 @@ use Rattle.table.specs.Records.{byte, word}
 use Rattle.builder.specs.declared.build.Front.{Front}
 use Rattle.form.specs.Form.{Says, whole}
 use Rattle.form.specs.Inside.Machine.{isDigit}
-use Rattle.form.specs.Inside.Rows.{rowAt, wordRow, formRow, nameEnd, inside, named, kindOf, pairOf}
+use Rattle.form.specs.Inside.Rows.{rowAt, wordRow, rowOf, nameEnd, inside, named, kindOf, pairOf}
 use Rattle.form.specs.Made.{big, named as eventsOf, tests, tableOf, needed}
 
 -- the records that are placed, and how many configurations are still to come
@@ -69,6 +69,12 @@ event w s =
     let e = number 0 w in
     cond (isDigit (byte w 0)) (withTest (16 * (e / 256 % 16)) e 1 s) s
 
+-- a blank at this level, before this text: a number behind it is an event's, or where a comma is read in the bracket a cap
+unfoldable pub blank : ℕ → List ℕ → SoFar → SoFar
+blank level w s =
+    let e = event w s in
+    cond (eqb level 1) s e
+
 -- `(` at this level, before this text
 unfoldable pub opening : ℕ → List ℕ → SoFar → SoFar
 unfolding named
@@ -93,11 +99,15 @@ row k s =
     let j = joint s in
     record { nodes = labelled k (j .nodes); tests = s .tests; left = s .left }
 
--- a When or an Until whose node is placed and not labelled; w is the text of its test
+-- a When, an Until or an If whose node is placed and not labelled, with its argument
+unfoldable pub branches : ℕ → ℕ → SoFar → SoFar
+branches k a s = record { nodes = sets (labelled k (s .nodes)) 2 (big (a % 65536)); tests = s .tests; left = s .left }
+
+-- a When or an Until; w is the text of its test
 unfoldable pub choice : ℕ → List ℕ → SoFar → SoFar
 choice k w s =
     let e = event w s in
-    record { nodes = sets (labelled k (e .nodes)) 2 (big (e .left % 65536)); tests = e .tests; left = e .left }
+    branches k (e .left) e
 
 -- an Await
 unfoldable pub await : ℕ → List ℕ → SoFar → SoFar
@@ -115,24 +125,45 @@ unfoldable pub ownSize : ℕ → List ℕ → ℕ
 unfolding hasPart
 ownSize k l = cond (hasPart k) (1 + word l 4) 1
 
+-- a RepeatExt's argument; w begins with a value's number, of one digit or two, and its cap stands behind that, a comma and a blank
+unfoldable pub cappedNumber : List ℕ → ℕ
+cappedNumber w =
+    let v = number 0 w in
+    number 0 (drop (cond (ltb v 10) 3 4) w) % 256 * 16 + v % 16
+
+unfoldable pub capped : ℕ → List ℕ → SoFar → SoFar
+capped k w s = withNode k (cappedNumber w) (1 + word (s .nodes) 4) s
+
+-- a form that begins with a value's number: a cap is behind it, or programs are
+unfoldable pub asking : ℕ → ℕ → List ℕ → SoFar → SoFar
+asking behind k w s =
+    let p = capped k w s in
+    let b = branches k (number 0 w) s in
+    cond (eqb behind 141) p b
+
 -- any other form; w begins with its number
 unfoldable pub single : ℕ → List ℕ → SoFar → SoFar
 single k w s = withNode k (number 0 w) (ownSize k (s .nodes)) s
 
--- the form of kind k by what stands in its brackets: parts; a configuration, and programs behind it or none; the text inside them being w
+-- the form of kind k by what stands in its brackets: parts; a configuration, and programs behind it or none; a value's number, and a cap
+-- behind it or programs; the text inside them being w
 unfoldable pub form : ℕ → List ℕ → SoFar → SoFar
 unfolding inside
 form k w s =
     let r = row k s in
     let a = await k w s in
     let c = choice k w s in
+    let v = asking (inside k 3) k w s in
     let o = single k w s in
-    cond (eqb (inside k 4) 133) r (cond (eqb (inside k 0) 134) (cond (eqb (inside k 1) 44) c a) o)
+    cond
+    (eqb (inside k 4) 133)
+    r
+    (cond (eqb (inside k 0) 134) (cond (eqb (inside k 1) 44) c a) (cond (eqb (inside k 0) 140) v o))
 
 -- how far behind the `J` of a name the text inside its bracket begins
 unfoldable pub behindJ : ℕ → ℕ
 unfolding nameEnd
-behindJ k = 2 + (nameEnd (formRow k) - rowAt (formRow k))
+behindJ k = 2 + (nameEnd (rowOf k) - rowAt (rowOf k))
 
 -- `J` before this text
 unfoldable pub name : List ℕ → SoFar → SoFar
@@ -141,11 +172,11 @@ name w s =
     let k = kindOf (drop 2 w) in
     form k (drop (behindJ k) w) s
 
--- `,` at this level
-unfoldable pub comma : ℕ → SoFar → SoFar
-comma level s =
+-- `,` at this level, before this text: a program behind it, or a cap
+unfoldable pub comma : ℕ → List ℕ → SoFar → SoFar
+comma level w s =
     let j = joint s in
-    cond (eqb level 1) j s
+    cond (eqb level 1) (cond (eqb (byte w 1) 74) j s) s
 
 -- a byte that can place something or change a level: any before the digits, and `J`
 unfoldable pub acting : ℕ → Bool
@@ -159,9 +190,9 @@ pub record Idle (text : List ℕ) (i j : ℕ) : Type 0 where
 -- byte b at this level, before this text
 unfoldable pub place : ℕ → ℕ → List ℕ → SoFar → SoFar
 place b level w s =
-    let e = event w s in
+    let e = blank level w s in
     let o = opening level w s in
-    let c = comma level s in
+    let c = comma level w s in
     let n = name w s in
     cond (eqb b 32) e (cond (eqb b 40) o (cond (eqb b 44) c (cond (eqb b 74) n s)))
 

@@ -4,17 +4,18 @@ ghost use mathlib.Core.Path.{_≡_};
 ghost use Prim.Native.Nat.{_+_, _*_, _%_, _<_, _≤_};
 ghost use lib.ListN.{length, set, drop};
 ghost use lib.Seq.{sets};
-ghost use lib.Dec.{eqb};
+ghost use lib.Dec.{eqb, ltb};
 ghost use mathlib.Core.Bool.{cond, _||_};
 ghost use mathlib.Core.List.{_++_};
 ghost use Rattle.table.specs.Records.{byte, word};
 ghost use Rattle.form.specs.Made.{big};
 ghost use Rattle.builder.specs.Building.{nodeBytes, testBytes, trailerBytes, withPair, withNode, withTest, number, joinedSize};
-ghost use Rattle.form.specs.Inside.Rows.{TheNames, formRow, kinds, long, codeAt, nameEnd, kindOf, pairOf};
-ghost use Rattle.builder.specs.Building.{joint, pair, negation, event, opening, labelled, row, choice, await, single};
-ghost use Rattle.builder.specs.Building.{form, name, comma, acting, place as placing, relevel as leveling};
+ghost use Rattle.form.specs.Inside.Rows.{TheNames, rowOf, long, codeAt, nameEnd, pairOf};
+ghost use Rattle.builder.specs.Building.{joint, pair, negation, event, blank, opening, labelled, row, branches, choice, await};
+ghost use Rattle.builder.specs.Building.{cappedNumber, capped, asking, single, form, name, comma, acting, place as placing, relevel as leveling};
 ghost use Rattle.builder.specs.Building.{Idle, CanPlace, Places, LevelReady, Levels, Buildable, Builds};
 use form::is_digit;
+use form::names::CAP;
 use form::names::FIRST_FORM;
 use form::names::FIRST_WORD;
 use form::names::LONG;
@@ -22,9 +23,11 @@ use form::names::PARTS;
 use form::names::PROGRAM;
 use form::names::ROW;
 use form::names::TEST;
+use form::names::VALUE;
 use form::names::code;
+use form::names::form_named;
 use form::names::is_named;
-use form::names::kind_named;
+use form::names::kind_of_form;
 use form::names::name_end;
 use form::names::pair_named;
 use form::names::table_of_names;
@@ -125,12 +128,24 @@ fn number_at(text: &[u8], i: usize) -> usize
     v
 }
 
-// The kind of the name behind a `J`.
-fn kind_of(names: &[u8; LONG], text: &[u8]) -> u8
-    requires { ⌜ TheNames (now names) ⌝ }
-    ensures { λ r. ⌜ (r ≡ kindOf (drop 2 (now (text .entry)))) × (r ≤ kinds) ⌝ }
+// How far behind the first digit of a value's number its cap begins.
+fn behind_value(v: usize) -> usize
+    ensures { λ r. ⌜ (r ≡ cond (ltb v 10) 3 4) × (r ≤ 4) ⌝ }
 {
-    kind_named(names, text, 2) as u8
+    if v < 10 {
+        return 3;
+    }
+    4
+}
+
+// The argument of a RepeatExt, whose two numbers begin at byte i.
+fn capped_at(text: &[u8], i: usize) -> usize
+    requires { ⌜ i ≤ 1000 ⌝ }
+    ensures { λ r. ⌜ r ≡ cappedNumber (drop i (now (text .entry))) ⌝ }
+{
+    let v = number_at(text, i);
+    let cap = number_at(text, i + behind_value(v));
+    cap % 256 * 16 + v % 16
 }
 
 // The number of 16 bits at byte i; bytes behind the end are 0.
@@ -231,7 +246,7 @@ fn spread(nodes: &mut [u8], kind: u8)
     }
 }
 
-// The same for a When or an Until, and the first node's argument.
+// The same for a When, an Until or an If, and the first node's argument.
 fn label(nodes: &mut [u8], kind: u8, argument: usize)
     requires { ⌜ length (now nodes) ≤ 32778 ⌝ }
     ensures { λ r. ⌜ now (nodes .exit) ≡ sets (labelled kind (now (nodes .entry))) 2 (big (argument % 65536)) ⌝ }
@@ -346,16 +361,24 @@ fn place_row(kind: u8, table: &mut [u8], front: Front) -> Front
     next
 }
 
+// A When, an Until or an If whose node is in front.
+fn place_branches(kind: u8, argument: usize, table: &mut [u8], front: Front) -> Front
+    requires { ⌜ CanPlace (branches kind argument) (now table) front ⌝ }
+    ensures { λ r. ⌜ Places (branches kind argument) (now (table .entry)) front (now (table .exit)) r ⌝ }
+{
+    let node = front.node;
+    let middle = front.middle;
+    label(&mut table[node..middle], kind, argument);
+    front
+}
+
 // A When or an Until whose node is in front, its test beginning at byte i.
 fn place_choice(kind: u8, text: &[u8], i: usize, table: &mut [u8], front: Front) -> Front
     requires { ⌜ CanPlace (choice kind (drop i (now text))) (now table) front ⌝ }
     ensures { λ r. ⌜ Places (choice kind (drop i (now (text .entry)))) (now (table .entry)) front (now (table .exit)) r ⌝ }
 {
     let next = place_event(text, i, table, front);
-    let node = next.node;
-    let middle = next.middle;
-    label(&mut table[node..middle], kind, next.left);
-    next
+    place_branches(kind, next.left, table, next)
 }
 
 // An Await, its test beginning at byte i.
@@ -365,6 +388,39 @@ fn place_await(kind: u8, text: &[u8], i: usize, table: &mut [u8], front: Front) 
 {
     let next = place_event(text, i, table, front);
     place_node(table, kind, next.left, 1, next)
+}
+
+// A RepeatExt, its two numbers beginning at byte i.
+fn place_capped(kind: u8, text: &[u8], i: usize, table: &mut [u8], front: Front) -> Front
+    requires { ⌜ i ≤ 1000 ⌝ }
+    requires { ⌜ CanPlace (capped kind (drop i (now text))) (now table) front ⌝ }
+    ensures { λ r. ⌜ Places (capped kind (drop i (now (text .entry)))) (now (table .entry)) front (now (table .exit)) r ⌝ }
+{
+    let node = front.node;
+    let middle = front.middle;
+    let size = own_size(&table[node..middle], true);
+    let argument = capped_at(text, i);
+    place_node(table, kind, argument, size, front)
+}
+
+// A form that begins with a value's number at byte i, by the code behind it in the table of names.
+fn place_asking(
+    behind: u8,
+    kind: u8,
+    text: &[u8],
+    i: usize,
+    table: &mut [u8],
+    front: Front,
+) -> Front
+    requires { ⌜ i ≤ 1000 ⌝ }
+    requires { ⌜ CanPlace (asking behind kind (drop i (now text))) (now table) front ⌝ }
+    ensures { λ r. ⌜ Places (asking behind kind (drop i (now (text .entry)))) (now (table .entry)) front (now (table .exit)) r ⌝ }
+{
+    if behind == CAP {
+        return place_capped(kind, text, i, table, front);
+    }
+    let argument = number_at(text, i);
+    place_branches(kind, argument, table, front)
 }
 
 // Any other form; its number begins at byte i if it has one.
@@ -378,7 +434,7 @@ fn place_single(
     front: Front,
 ) -> Front
     requires { ⌜ TheNames (now names) ⌝ }
-    requires { ⌜ (end ≡ nameEnd (formRow kind)) × (end ≤ long) ⌝ }
+    requires { ⌜ (end ≡ nameEnd (rowOf kind)) × (end ≤ long) ⌝ }
     requires { ⌜ CanPlace (single kind (drop i (now text))) (now table) front ⌝ }
     ensures { λ r. ⌜ Places (single kind (drop i (now (text .entry)))) (now (table .entry)) front (now (table .exit)) r ⌝ }
 {
@@ -401,7 +457,8 @@ fn place_form(
     front: Front,
 ) -> Front
     requires { ⌜ TheNames (now names) ⌝ }
-    requires { ⌜ (end ≡ nameEnd (formRow kind)) × (end ≤ long) ⌝ }
+    requires { ⌜ (end ≡ nameEnd (rowOf kind)) × (end ≤ long) ⌝ }
+    requires { ⌜ i ≤ 1000 ⌝ }
     requires { ⌜ CanPlace (form kind (drop i (now text))) (now table) front ⌝ }
     ensures { λ r. ⌜ Places (form kind (drop i (now (text .entry)))) (now (table .entry)) front (now (table .exit)) r ⌝ }
 {
@@ -414,6 +471,9 @@ fn place_form(
         }
         return place_await(kind, text, i, table, front);
     }
+    if code(names, end) == VALUE {
+        return place_asking(code(names, end + 3), kind, text, i, table, front);
+    }
     place_single(names, kind, end, text, i, table, front)
 }
 
@@ -423,21 +483,36 @@ fn place_name(names: &[u8; LONG], text: &[u8], table: &mut [u8], front: Front) -
     requires { ⌜ CanPlace (name (now text)) (now table) front ⌝ }
     ensures { λ r. ⌜ Places (name (now (text .entry))) (now (table .entry)) front (now (table .exit)) r ⌝ }
 {
-    let kind = kind_of(names, text);
-    let row = FIRST_FORM + wide(kind);
+    let i = form_named(names, text, 2);
+    let row = FIRST_FORM + i;
     let end = name_end(names, row);
+    let kind = kind_of_form(i) as u8;
     place_form(names, kind, end, text, 2 + (end - ROW * row), table, front)
 }
 
-// `,` at this level.
-fn place_comma(level: u8, table: &mut [u8], front: Front) -> Front
-    requires { ⌜ CanPlace (comma level) (now table) front ⌝ }
-    ensures { λ r. ⌜ Places (comma level) (now (table .entry)) front (now (table .exit)) r ⌝ }
+// `,` at this level, before this text: a program behind it, or a cap.
+fn place_comma(level: u8, text: &[u8], table: &mut [u8], front: Front) -> Front
+    requires { ⌜ CanPlace (comma level (now text)) (now table) front ⌝ }
+    ensures { λ r. ⌜ Places (comma level (now (text .entry))) (now (table .entry)) front (now (table .exit)) r ⌝ }
 {
     if level == 1 {
-        return place_joint(table, front);
+        if byte_at(text, 1) == b'J' {
+            return place_joint(table, front);
+        }
+        return front;
     }
     front
+}
+
+// A blank at this level, before this text: an event, or where a comma is read a cap.
+fn place_blank(level: u8, text: &[u8], table: &mut [u8], front: Front) -> Front
+    requires { ⌜ CanPlace (blank level (now text)) (now table) front ⌝ }
+    ensures { λ r. ⌜ Places (blank level (now (text .entry))) (now (table .entry)) front (now (table .exit)) r ⌝ }
+{
+    if level == 1 {
+        return front;
+    }
+    place_event(text, 0, table, front)
 }
 
 // What byte b places at this level, before this text.
@@ -447,9 +522,9 @@ fn place(names: &[u8; LONG], b: u8, level: u8, text: &[u8], table: &mut [u8], fr
     ensures { λ r. ⌜ Places (placing b level (now (text .entry))) (now (table .entry)) front (now (table .exit)) r ⌝ }
 {
     match b {
-        b' ' => place_event(text, 0, table, front),
+        b' ' => place_blank(level, text, table, front),
         b'(' => place_opening(names, level, text, table, front),
-        b',' => place_comma(level, table, front),
+        b',' => place_comma(level, text, table, front),
         b'J' => place_name(names, text, table, front),
         _ => front,
     }

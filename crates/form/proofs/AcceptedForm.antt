@@ -5,7 +5,7 @@ use mathlib.Core.Path.{_≡_, refl, sym, ap, _∙_}
 use mathlib.Core.List.{List}
 use native.Mathlib.Omega.{arith}
 use Rattle.junior.specs.Configuration.{Config, Event, Not, And, Or}
-use Rattle.junior.specs.Program.{Program, Argument, no-argument, number, event, configuration, argument, kind}
+use Rattle.junior.specs.Program.{Program, Argument, no-argument, number, event, configuration, value, capped, argument, kind}
 use Rattle.junior.specs.Program.{Parts as PartsOf, no-part, one-part, two-parts, parts as taken-apart}
 use Rattle.table.specs.Records.{nodes, configurations, argumentAt, sizeAt, secondAt, configurationAt}
 use Rattle.table.specs.Records.{partKind, secondPart}
@@ -82,6 +82,8 @@ module _ {t : List ℕ} (a : Loaded t) where
   argument-form i (number n) l h = (omega arith, tt)
   argument-form i (event s) l h = (omega (arith, a .framed .v-most), tt)
   argument-form i (configuration c) l h = let f = tested-form i c l h in (f .in-form, f .low)
+  argument-form i (value v) l h = (omega arith, tt)
+  argument-form i (capped v cap) l (h, g) = ((omega arith, omega arith), tt)
 
   own-form : (i : ℕ) {p : Program} (v : PartsOf p) → i < nodes t → SpellsParts t i v
       → ArgumentInForm (argument p) × LowArgument (argument p)

@@ -7,7 +7,7 @@ use native.Mathlib.Omega.{arith}
 use lib.Dec.{eqb}
 use borrow.Author.Tests.{eqb-true, eqb-false, eq-eqb, ne-eqb}
 use Rattle.letters.specs.Text.{bytes}
-use Rattle.form.specs.Names.{Part, number, event, test, program, programs, formOf}
+use Rattle.form.specs.Names.{Part, number, event, value, cap, test, program, programs, formOf}
 use Rattle.form.specs.Inside.Rows.{codeAt, codesOf, codes, inName}
 use Rattle.form.specs.Inside.Machine.{endByte, Sym, Stack, then, byte, prog, name, parts, conf, inner, joint}
 use Rattle.form.specs.Inside.Machine.{num, tail, syms, Next, dead, on, step, run}
@@ -18,6 +18,8 @@ use Rattle.form.proofs.Accepts.{run-byte, run-end}
 abbrev finishPart : Part → List ℕ → List ℕ
 finishPart number t = 48 ∷ t
 finishPart event t = 48 ∷ t
+finishPart value t = 48 ∷ t
+finishPart cap t = 48 ∷ t
 finishPart test t = 48 ∷ t
 finishPart program t = bytes "Jr.Stop()" ++ t
 finishPart programs t = bytes "Jr.Stop())"
@@ -32,11 +34,15 @@ unfolding run syms codesOf finishParts
 finishes-parts [] σ x = refl
 finishes-parts (number ∷ []) σ x = refl
 finishes-parts (event ∷ []) σ x = refl
+finishes-parts (value ∷ []) σ x = refl
+finishes-parts (cap ∷ []) σ x = refl
 finishes-parts (test ∷ []) σ x = refl
 finishes-parts (program ∷ []) σ x = refl
 finishes-parts (programs ∷ []) σ x = refl
 finishes-parts (number ∷ q ∷ l) σ x = finishes-parts (q ∷ l) σ x
 finishes-parts (event ∷ q ∷ l) σ x = finishes-parts (q ∷ l) σ x
+finishes-parts (value ∷ q ∷ l) σ x = finishes-parts (q ∷ l) σ x
+finishes-parts (cap ∷ q ∷ l) σ x = finishes-parts (q ∷ l) σ x
 finishes-parts (test ∷ q ∷ l) σ x = finishes-parts (q ∷ l) σ x
 finishes-parts (program ∷ q ∷ l) σ x = finishes-parts (q ∷ l) σ x
 finishes-parts (programs ∷ q ∷ l) σ x = refl
@@ -53,10 +59,10 @@ module _ (p : ℕ) (h : inName p ≡ true) where
   at-bracket e =
       let o = opened p e in
       record {
-        text = 40 ∷ finishParts (formOf (o .kind) .inside);
+        text = 40 ∷ finishParts (formOf (o .form) .inside);
         reads = λ σ x.
-            rw (h, eq-eqb 40 (codeAt p) (sym e), ne-eqb p 0 (not-first p h), o .end-is, codes-inside (o .kind) (o .known))
-            (finishes-parts (formOf (o .kind) .inside) σ x);
+            rw (h, eq-eqb 40 (codeAt p) (sym e), ne-eqb p 0 (not-first p h), o .end-is, codes-inside (o .form) (o .known))
+            (finishes-parts (formOf (o .form) .inside) σ x);
       }
 
   at-letter : (codeAt p ≡ 40 → ⊥) → Finish (name (suc p)) → Finish (name p)

@@ -12,9 +12,10 @@ use Rattle.table.specs.Spells.{weight}
 use Rattle.form.specs.Form.{SaysTest, says-event, says-not, says-and, says-or, Piece, whole, later-seq}
 use Rattle.form.specs.Form.{later-par, Says, says-nothing, says-stop, says-atom, says-seq, last-of-seq}
 use Rattle.form.specs.Form.{more-of-seq, says-par, last-of-par, more-of-par, says-loop, says-repeat}
-use Rattle.form.specs.Form.{says-generate, says-await, says-when, says-until, says-control, says-local}
+use Rattle.form.specs.Form.{says-generate, says-await, says-when, says-until, says-control, says-local, says-if}
+use Rattle.form.specs.Form.{says-repeat-ext}
 use Rattle.form.specs.Made.{larger, namedIn, named, tests}
-use Rattle.form.specs.Inside.Machine.{End, close, comma, space, endByte, Number, event, plain, limit, Stack}
+use Rattle.form.specs.Inside.Machine.{End, close, comma, space, endByte, Number, event, plain, value, cap, limit, Stack}
 use Rattle.form.specs.Inside.Machine.{byte, prog, conf, inner, joint, num, tail, on, step}
 use Rattle.form.specs.Inside.Counted.{Counts, counts, none, a-node, a-test, an-event, counted, tally}
 use Rattle.letters.proofs.ReadsDecimal.{Reader, reads-decimal}
@@ -54,10 +55,22 @@ tally-end : (v : ℕ) (e : End) (σ : Stack) (x : List ℕ) (k : Counts)
 unfolding tally
 tally-end v e σ x k = rw (step-end event v e σ) (simp (eq-eqb (endByte e) (endByte e) refl))
 
-tally-plain : (v : ℕ) (e : End) (σ : Stack) (x : List ℕ) (k : Counts)
-    → tally (tail plain v e ∷ σ) (endByte e ∷ x) k ≡ tally σ x k
+-- a number that is no event's
+data NoEvent : Number → Type 0 where
+  is-plain : NoEvent plain
+  is-value : NoEvent value
+  is-cap : NoEvent cap
+
+counts-nothing : {n : Number} → NoEvent n → (v : ℕ) (e : End) (σ : Stack) (b : ℕ) (k : Counts) → counted (tail n v e ∷ σ) b k ≡ k
+unfolding counted
+counts-nothing is-plain v e σ b k = refl
+counts-nothing is-value v e σ b k = refl
+counts-nothing is-cap v e σ b k = refl
+
+tally-other : {n : Number} → NoEvent n → (v : ℕ) (e : End) (σ : Stack) (x : List ℕ) (k : Counts)
+    → tally (tail n v e ∷ σ) (endByte e ∷ x) k ≡ tally σ x k
 unfolding tally
-tally-plain v e σ x k = simp (step-end plain v e σ)
+tally-other {n} o v e σ x k = rw (step-end n v e σ, counts-nothing o v e σ (endByte e) k)
 
 -- digits of a number under way count nothing
 counted-digit : (n : Number) (v : ℕ) (e : End) (σ : Stack) (d : ℕ) (k : Counts)
@@ -65,6 +78,8 @@ counted-digit : (n : Number) (v : ℕ) (e : End) (σ : Stack) (d : ℕ) (k : Cou
 unfolding counted
 counted-digit event v e σ d k = simp (ne-eqb (48 + d) (endByte e) (no-end e d))
 counted-digit plain v e σ d k = refl
+counted-digit value v e σ d k = refl
+counted-digit cap v e σ d k = refl
 
 number-reader : (n : Number) (e : End) (σ τ : Stack) (k k′ : Counts)
     → ((d : ℕ) → d < 10 → step σ (digit d) ≡ on (tail n d e ∷ τ))
@@ -84,12 +99,12 @@ tally-event e σ x k s h =
     let r = number-reader event e (num event e ∷ σ) σ k k (step-num event e σ) (λ d _. refl) in
     reads-decimal r s (omega arith) (endByte e ∷ x) ∙ tally-end s e σ x k
 
-tally-number : (e : End) (σ : Stack) (x : List ℕ) (k : Counts) (a : ℕ) → a ≤ 65535
-    → tally (num plain e ∷ σ) (decimal a ++ (endByte e ∷ x)) k ≡ tally σ x k
+tally-number : {n : Number} → NoEvent n → (e : End) (σ : Stack) (x : List ℕ) (k : Counts) (a : ℕ) → a ≤ limit n
+    → tally (num n e ∷ σ) (decimal a ++ (endByte e ∷ x)) k ≡ tally σ x k
 unfolding counted
-tally-number e σ x k a h =
-    let r = number-reader plain e (num plain e ∷ σ) σ k k (step-num plain e σ) (λ d _. refl) in
-    reads-decimal r a h (endByte e ∷ x) ∙ tally-plain a e σ x k
+tally-number {n} o e σ x k a h =
+    let r = number-reader n e (num n e ∷ σ) σ k k (step-num n e σ) (λ d _. refl) in
+    reads-decimal r a h (endByte e ∷ x) ∙ tally-other o a e σ x k
 
 conf-reader : (e : End) (σ : Stack) (k : Counts)
     → Reader (places - 1) (λ w. tally (conf e ∷ σ) w k) (λ v w. tally (tail event v e ∷ σ) w (a-test k))
@@ -158,7 +173,7 @@ counts-piece says-nothing σ x k h = alike σ x (omega arith) (omega arith) (sym
 counts-piece says-stop σ x k h = alike σ x (omega arith) (omega arith) (sym (larger-one (k .events) h))
 counts-piece (says-atom {a} l) σ x k h =
     simp append-assoc
-    (tally-number close σ x (a-node k) a l ∙ alike σ x (omega arith) (omega arith) (sym (larger-one (k .events) h)))
+    (tally-number is-plain close σ x (a-node k) a l ∙ alike σ x (omega arith) (omega arith) (sym (larger-one (k .events) h)))
 counts-piece (says-seq {p} {q} d e) σ x k h =
     simp append-assoc
     (counts-piece d _ _ (a-node k) h
@@ -185,7 +200,7 @@ counts-piece (says-loop d) σ x k h =
     simp append-assoc (counts-piece d _ _ (a-node k) h ∙ alike σ x (omega arith) (omega arith) refl)
 counts-piece (says-repeat {n} l d) σ x k h =
     simp append-assoc
-    (tally-number comma _ _ (a-node k) n l
+    (tally-number is-plain comma _ _ (a-node k) n l
     ∙ (counts-piece d _ _ (a-node k) h ∙ alike σ x (omega arith) (omega arith) refl))
 counts-piece (says-generate {s} l) σ x k h =
     simp append-assoc
@@ -217,6 +232,17 @@ counts-piece (says-local {s} {p} l d) σ x k h =
     (tally-event comma _ _ (a-node k) s l
     ∙ (counts-piece d _ _ (an-event s (a-node k)) (larger-least (k .events) (suc s) h)
     ∙ alike σ x (omega arith) (omega arith) (larger-assoc (k .events) (suc s) (named p))))
+counts-piece (says-if {v} {p} {q} l d e) σ x k h =
+    simp append-assoc
+    (tally-number is-value comma _ _ (a-node k) v l
+    ∙ (counts-piece d _ _ (a-node k) h
+    ∙ (counts-piece e _ _ (with (a-node k) p) (larger-least (k .events) (named p) h)
+    ∙ alike σ x (omega arith) (omega arith) (larger-assoc (k .events) (named p) (named q)))))
+counts-piece (says-repeat-ext {v} {cap} l m d) σ x k h =
+    simp append-assoc
+    (tally-number is-value comma _ _ (a-node k) v l
+    ∙ (tally-number is-cap comma _ _ (a-node k) cap m
+    ∙ (counts-piece d _ _ (a-node k) h ∙ alike σ x (omega arith) (omega arith) refl)))
 
 -- the counts of a whole text
 pub tallied : {p : Program} {w : List ℕ} → Says (whole p) w

@@ -5,12 +5,12 @@ use mathlib.Core.Path.{_≡_, sym, _∙_}
 use mathlib.Core.List.{List}
 use native.Mathlib.Omega.{arith}
 use lib.Dec.{eqb, ltb}
-use borrow.Author.Tests.{lt-ltb, le-leb, eq-eqb}
-use Rattle.junior.specs.Program.{Program, Argument, no-argument, number, event, configuration, argument, kind}
+use borrow.Author.Tests.{lt-ltb, eq-eqb}
+use Rattle.junior.specs.Program.{Program, Argument, no-argument, number, event, configuration, value, capped, argument, kind}
 use Rattle.junior.specs.Program.{Parts, no-part, one-part, two-parts, parts, sizeOf, size}
 use Rattle.junior.proofs.Parts.{size-by, some-nodes}
 use Rattle.table.specs.Records.{nodes, configurations, events, sizeAt}
-use Rattle.table.specs.Good.{last-kind, laidOut, goodNode}
+use Rattle.table.specs.Good.{laidOut, goodNode}
 use Rattle.table.proofs.ByParts.{some-record}
 use Rattle.table.proofs.Laid.{Laid, one, two}
 use Rattle.table.proofs.Parts.{partCount, children-are, limitOf, by-kind}
@@ -48,7 +48,7 @@ module _ (t : List ℕ) (whole : sizeAt t 0 ≡ nodes t) where
         o .argument-is,
         children-are v,
         by-kind p .limit-is t,
-        le-leb (kind p) last-kind (by-kind p .known),
+        by-kind p .known-kind,
         lt-ltb a (limitOf t (argument p)) w,
         laid-out l,
         root-good i,
@@ -61,6 +61,8 @@ module _ (t : List ℕ) (whole : sizeAt t 0 ≡ nodes t) where
   argument-below (number k) j n v f m l = omega arith
   argument-below (event s) j n v f m l = larger-first (suc s) v _ l
   argument-below (configuration c) j n v f m l = omega (arith, some-record c)
+  argument-below (value k) j n v f m l = omega arith
+  argument-below (capped k cap) j n v (f, g) m l = omega arith
 
   -- the parts' tests are within the table, and their events are named
   tests-behind : (a : Argument) (j n : ℕ) → j + testsWith a n ≤ configurations t → behind j a + n ≤ configurations t
@@ -68,6 +70,8 @@ module _ (t : List ℕ) (whole : sizeAt t 0 ≡ nodes t) where
   tests-behind (number k) j n m = m
   tests-behind (event s) j n m = m
   tests-behind (configuration c) j n m = omega arith
+  tests-behind (value v) j n m = m
+  tests-behind (capped v cap) j n m = m
 
   -- all nodes of p are good wherever they stand
   abbrev GoodWhere : {p : Program} → Parts p → Type 0

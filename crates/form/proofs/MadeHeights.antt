@@ -7,7 +7,7 @@ use native.Mathlib.Omega.{arith}
 use lib.Dec.{leb}
 use borrow.Author.Tests.{le-leb, lt-leb, leb-true, leb-false}
 use Rattle.junior.specs.Configuration.{Config, Event, Not, And, Or}
-use Rattle.junior.specs.Program.{Program, Argument, no-argument, number, event, configuration, argument}
+use Rattle.junior.specs.Program.{Program, Argument, no-argument, number, event, configuration, value, capped, argument}
 use Rattle.junior.specs.Program.{Parts as PartsOf, no-part, one-part, two-parts, parts as taken-apart}
 use Rattle.table.specs.Records.{configurationAt}
 use Rattle.table.specs.Good.{parts, goodButHeight, heightAtMost, goodConfiguration}
@@ -41,6 +41,8 @@ LowArgument no-argument = Unit {0}
 LowArgument (number n) = Unit {0}
 LowArgument (event s) = Unit {0}
 LowArgument (configuration c) = tall c ≤ 16
+LowArgument (value v) = Unit {0}
+LowArgument (capped v cap) = Unit {0}
 
 abbrev pub LowParts : {p : Program} → PartsOf p → Type 0
 LowParts {p} (no-part f) = LowArgument (argument p) × Unit {0}
@@ -196,6 +198,8 @@ module _ (t : List ℕ) where
   argument-exactly (configuration c) j n w h g more =
       let x : There c j = record { records = tested-there j c w h; good = first-of (GoodTest t) j (weight c) n g } in
       both-exactly j (weight c) n (test-exactly c j x) (more (second-of (GoodTest t) j (weight c) n g))
+  argument-exactly (value v) j n w h g more = beside (more g)
+  argument-exactly (capped v cap) j n w h g more = beside (more g)
 
   low-exactly : {p : Program} (v : PartsOf p) (j : ℕ) → Has t (configurationAt t j) (testsOfParts v)
       → All (GoodTest t) j (testsParts v) → Exactly j (testsParts v) (LowParts v)

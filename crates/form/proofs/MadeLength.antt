@@ -5,7 +5,7 @@ use mathlib.Core.List.{List, [], _++_}
 use native.Mathlib.Omega.{arith}
 use lib.ListN.{length, length-append}
 use Rattle.junior.specs.Configuration.{Config, Event, Not, And, Or}
-use Rattle.junior.specs.Program.{Program, Argument, no-argument, number, event, configuration, argument}
+use Rattle.junior.specs.Program.{Program, Argument, no-argument, number, event, configuration, value, capped, argument}
 use Rattle.junior.specs.Program.{Parts, no-part, one-part, two-parts, parts, sizeOf, size}
 use Rattle.table.specs.Spells.{weight}
 use Rattle.form.specs.Made.{testsWith, testsParts, tests, behind, nodesFromParts, nodesFrom, testRecords, recordsWith}
@@ -34,6 +34,8 @@ with-length no-argument l n e = e
 with-length (number m) l n e = e
 with-length (event s) l n e = e
 with-length (configuration c) l n e = simp length-append (omega (arith, test-length c))
+with-length (value v) l n e = e
+with-length (capped v cap) l n e = e
 
 pub tests-long : {p : Program} (v : Parts p) → length (testsOfParts v) ≡ 4 * testsParts v
 tests-long {p} (no-part f) = with-length (argument p) [] 0 (omega arith)

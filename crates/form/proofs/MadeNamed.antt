@@ -7,7 +7,7 @@ use lib.Dec.{leb}
 use borrow.Author.Tests.{leb-true, leb-false}
 use Rattle.events.specs.Members.{places}
 use Rattle.junior.specs.Configuration.{Config, Event, Not, And, Or}
-use Rattle.junior.specs.Program.{Program, Argument, no-argument, number, event, configuration, argument}
+use Rattle.junior.specs.Program.{Program, Argument, no-argument, number, event, configuration, value, capped, argument}
 use Rattle.junior.specs.Program.{Parts, no-part, one-part, two-parts, parts}
 use Rattle.form.specs.Made.{larger, namedIn, namedWith, namedParts, named}
 use Rattle.form.specs.InForm.{TestInForm, ArgumentInForm, PartsInForm, InForm}
@@ -32,12 +32,16 @@ named-rest no-argument m v h = h
 named-rest (number n) m v h = h
 named-rest (event s) m v h = larger-second (suc s) m v h
 named-rest (configuration c) m v h = larger-second (namedIn c) m v h
+named-rest (value n) m v h = h
+named-rest (capped n cap) m v h = h
 
 with-least : (a : Argument) (v : ℕ) → 1 ≤ v → 1 ≤ namedWith a v
 with-least no-argument v h = h
 with-least (number n) v h = h
 with-least (event s) v h = omega (arith, larger-max (suc s) v)
 with-least (configuration c) v h = omega (arith, larger-max (namedIn c) v)
+with-least (value n) v h = h
+with-least (capped n cap) v h = h
 
 least : {p : Program} (v : Parts p) → 1 ≤ namedParts v
 least {p} (no-part f) = with-least (argument p) 1 (omega arith)
@@ -65,6 +69,8 @@ with-most no-argument v h l = l
 with-most (number n) v h l = l
 with-most (event s) v h l = at-most places _ _ h l
 with-most (configuration c) v h l = at-most places _ _ (named-in-most c h) l
+with-most (value n) v h l = l
+with-most (capped n cap) v h l = l
 
 most : {p : Program} (v : Parts p) → PartsInForm v → namedParts v ≤ places
 most {p} (no-part f) h = with-most (argument p) 1 h (omega arith)

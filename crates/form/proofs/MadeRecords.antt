@@ -6,7 +6,7 @@ use native.Mathlib.Omega.{arith}
 use native.Mathlib.Nat.{add-zero}
 use Rattle.events.specs.Members.{places}
 use Rattle.junior.specs.Configuration.{Config}
-use Rattle.junior.specs.Program.{Program, Argument, no-argument, number, event, configuration, argument, kind}
+use Rattle.junior.specs.Program.{Program, Argument, no-argument, number, event, configuration, value, capped, argument, kind}
 use Rattle.junior.specs.Program.{Leaf, One, Two, Parts, no-part, one-part, two-parts, sizeOf, size}
 use Rattle.table.specs.Records.{byte, kindAt, zeroAt, argumentAt, sizeAt, configurationAt, kindByte, partKind, partEvent, partSize}
 use Rattle.table.specs.Spells.{weight}
@@ -94,6 +94,8 @@ behind-argument j no-argument w h = h
 behind-argument j (number n) w h = h
 behind-argument j (event s) w h = h
 behind-argument j (configuration c) w h = behind-tested j c w h
+behind-argument j (value v) w h = h
+behind-argument j (capped v cap) w h = h
 
 -- configuration j with two parts
 pub record BothTests (t : List ℕ) (j k : ℕ) (d e : Config) : Type 0 where

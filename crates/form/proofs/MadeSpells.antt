@@ -5,7 +5,7 @@ use mathlib.Core.List.{List, [], _++_}
 use native.Mathlib.Omega.{arith}
 use lib.ListN.{length}
 use Rattle.junior.specs.Configuration.{Config, Event, Not, And, Or}
-use Rattle.junior.specs.Program.{Program, Argument, no-argument, number, event, configuration, argument}
+use Rattle.junior.specs.Program.{Program, Argument, no-argument, number, event, configuration, value, capped, argument}
 use Rattle.junior.specs.Program.{Parts, no-part, one-part, two-parts, parts, size}
 use Rattle.table.specs.Records.{argumentAt, configurationAt, partKind, partSize, secondPart}
 use Rattle.table.specs.Spells.{weight, Configured, Argues, SpellsParts, Spells}
@@ -51,6 +51,8 @@ module _ (t : List ℕ) where
   argues i j (number n) w x e h = e
   argues i j (event s) w x e h = e
   argues i j (configuration c) w x e h = rw e (configured c _ x (tested-there j c w h))
+  argues i j (value v) w x e h = e
+  argues i j (capped v cap) w (x, y) e h = (omega arith, omega arith)
 
   -- p, in form, is spelled wherever its records stand
   pub spells : {p : Program} (v : Parts p) (i j : ℕ) → PartsInForm v → RecordsAt t i j v → SpellsParts t i v

@@ -8,7 +8,7 @@ use lib.Dec.{eqb}
 use borrow.Author.Tests.{lt-ltb, le-leb}
 use Rattle.events.specs.Members.{places}
 use Rattle.junior.specs.Configuration.{Config, Event, Not, And, Or}
-use Rattle.junior.specs.Program.{Program, Argument, no-argument, number, event, configuration, argument}
+use Rattle.junior.specs.Program.{Program, Argument, no-argument, number, event, configuration, value, capped, argument}
 use Rattle.junior.specs.Program.{Parts, no-part, one-part, two-parts, parts as taken-apart}
 use Rattle.table.specs.Records.{configurations, events, configurationAt, kindByte, partEvent}
 use Rattle.table.specs.Good.{parts, goodButHeight}
@@ -117,6 +117,8 @@ module _ (t : List ℕ) where
   argument-good (configuration c) j n m w x h l v more =
       let f = good-test c j x (tested-there j c w h) (omega arith) (larger-first (namedIn c) m _ v) in
       both GoodTest j (weight c) n f (more (omega arith))
+  argument-good (value a) j n m w x h l v more = more l
+  argument-good (capped a cap) j n m w x h l v more = more l
 
   -- all tests of p are good wherever they stand
   good-tests : {p : Program} (v : Parts p) (j : ℕ) → PartsInForm v → Has t (configurationAt t j) (testsOfParts v)

@@ -8,7 +8,7 @@ use lib.Dec.{eqb, ltb, leb}
 use lib.ListN.{getD, drop}
 use borrow.Author.Tests.{eqb-true, eqb-false, eq-eqb, ne-eqb, leb-true, ltb-true, ltb-false, le-ltb}
 use Rattle.form.specs.Names.{formOf}
-use Rattle.form.specs.Inside.Rows.{names, codeAt, rowAt, formRow, kinds, long, nameEnd, same, codesOf, cut, codes, opens}
+use Rattle.form.specs.Inside.Rows.{names, codeAt, rowAt, formRow, formCount, long, nameEnd, same, codesOf, cut, codes, opens}
 use Rattle.form.specs.Inside.Rows.{inName, firstName, home, codesFrom, letters, agree, placeFrom, placeOf}
 use Rattle.form.proofs.ComputedTests.{both, all, all-at, same-list}
 use Rattle.form.proofs.Rows.{behind}
@@ -212,14 +212,14 @@ unfoldable alike-at : ℕ → ℕ → Bool
 alike-at p j = cond (agree (p % 20) (p - p % 20) (rowAt (formRow j))) (inName (rowAt (formRow j) + p % 20)) true
 
 unfoldable alike-all : ℕ → Bool
-alike-all p = cond (inName p) (all kinds (alike-at p)) true
+alike-all p = cond (inName p) (all formCount (alike-at p)) true
 
-named-alike : (p j : ℕ) → inName p ≡ true → j < kinds → agree (p % 20) (p - p % 20) (rowAt (formRow j)) ≡ true
+named-alike : (p j : ℕ) → inName p ≡ true → j < formCount → agree (p % 20) (p - p % 20) (rowAt (formRow j)) ≡ true
     → inName (rowAt (formRow j) + p % 20) ≡ true
 unfolding all alike-at alike-all inName agree
 named-alike p j h l e =
-    let a : all kinds (alike-at p) ≡ true = rw h at (all-at long alike-all refl p (in-names p (name-code p h))) in
-    rw e at (all-at kinds (alike-at p) a j l)
+    let a : all formCount (alike-at p) ≡ true = rw h at (all-at long alike-all refl p (in-names p (name-code p h))) in
+    rw e at (all-at formCount (alike-at p) a j l)
 
 -- where a byte is read in a name: it stands there, and the same letters before it
 pub record Read (p b q : ℕ) : Type 0 where
@@ -227,12 +227,12 @@ pub record Read (p b q : ℕ) : Type 0 where
   pub in-name : inName q ≡ true
   pub letters-are : letters q ≡ letters p
 
-pub read-other : (p b q : ℕ) → inName p ≡ true → Found (formRow 0) kinds p b q → Read p b q
+pub read-other : (p b q : ℕ) → inName p ≡ true → Found (formRow 0) formCount p b q → Read p b q
 unfolding letters
 read-other p b q h o =
     let k : ℕ = p % 20 in
     let s : formRow (o .row - 6) ≡ o .row = omega arith in
-    let l : o .row - 6 < kinds = omega arith in
+    let l : o .row - 6 < formCount = omega arith in
     let a : agree k (p - k) (rowAt (formRow (o .row - 6))) ≡ true = rw s (o .alike) in
     let m : (rowAt (o .row) + k) % 20 ≡ k = omega arith in
     let d : rowAt (o .row) + k - k ≡ rowAt (o .row) = omega arith in
@@ -246,34 +246,34 @@ pub read : (p b : ℕ) → inName p ≡ true → (placeOf p b ≡ 0 → ⊥) →
 unfolding placeOf
 read p b h z = go (eqb b (codeAt p)) refl z
   where
-    go : (s : Bool) → eqb b (codeAt p) ≡ s → (cond s p (placeFrom kinds (formRow 0) p b) ≡ 0 → ⊥)
-        → Read p b (cond s p (placeFrom kinds (formRow 0) p b))
+    go : (s : Bool) → eqb b (codeAt p) ≡ s → (cond s p (placeFrom formCount (formRow 0) p b) ≡ 0 → ⊥)
+        → Read p b (cond s p (placeFrom formCount (formRow 0) p b))
     go true e y = record { code-is = sym (eqb-true b (codeAt p) e); in-name = h; letters-are = refl }
-    go false e y = read-other p b _ h (found kinds (formRow 0) p b y)
+    go false e y = read-other p b _ h (found formCount (formRow 0) p b y)
 
 -- a bracket ends the name of its row
 unfoldable bracketed : ℕ → Bool
 bracketed q =
-    (leb 6 (q / 20) && ltb (q / 20 - 6) kinds)
+    (leb 6 (q / 20) && ltb (q / 20 - 6) formCount)
     && (eqb (suc q) (nameEnd (formRow (q / 20 - 6))) && same (letters q) (formOf (q / 20 - 6) .name))
 
 pub record Opened (q : ℕ) : Type 0 where
-  pub kind : ℕ
-  pub known : kind < kinds
-  pub row-is : q / 20 - 6 ≡ kind
-  pub end-is : suc q ≡ nameEnd (formRow kind)
-  pub name-is : letters q ≡ formOf kind .name
+  pub form : ℕ
+  pub known : form < formCount
+  pub row-is : q / 20 - 6 ≡ form
+  pub end-is : suc q ≡ nameEnd (formRow form)
+  pub name-is : letters q ≡ formOf form .name
 
 pub opened : (q : ℕ) → codeAt q ≡ 40 → Opened q
 unfolding all at-code bracketed codeAt nameEnd same letters formOf
 opened q e =
     let k : ℕ = q / 20 - 6 in
     let t : bracketed q ≡ true = by-code 40 bracketed (λ z. omega arith) refl q e in
-    let u = both {a = leb 6 (q / 20) && ltb k kinds} t in
+    let u = both {a = leb 6 (q / 20) && ltb k formCount} t in
     let v = both {a = eqb (suc q) (nameEnd (formRow k))} (u .1) in
     record {
-      kind = k;
-      known = ltb-true k kinds (both {a = leb 6 (q / 20)} (u .0) .1);
+      form = k;
+      known = ltb-true k formCount (both {a = leb 6 (q / 20)} (u .0) .1);
       row-is = refl;
       end-is = eqb-true _ _ (v .0);
       name-is = same-list _ _ (v .1);
@@ -283,32 +283,32 @@ opened q e =
 unfoldable filled-in : ℕ → Bool
 filled-in k = same (codes (nameEnd (formRow k))) (codesOf (formOf k .inside))
 
-pub codes-inside : (k : ℕ) → k < kinds → codes (nameEnd (formRow k)) ≡ codesOf (formOf k .inside)
+pub codes-inside : (k : ℕ) → k < formCount → codes (nameEnd (formRow k)) ≡ codesOf (formOf k .inside)
 unfolding all filled-in codes nameEnd codesOf same formOf
-codes-inside k h = same-list _ _ (all-at kinds filled-in refl k h)
+codes-inside k h = same-list _ _ (all-at formCount filled-in refl k h)
 
 -- behind its bracket no other row begins as its own does
 unfoldable sole-at : ℕ → ℕ → Bool
 sole-at p j = cond (agree (p % 20) (p - p % 20) (rowAt (formRow j))) (eqb (rowAt (formRow j) + p % 20) p) true
 
 unfoldable sole-all : ℕ → Bool
-sole-all p = cond (inName p) true (cond (ltb p firstName) true (cond (eqb (codeAt p) 0) true (all kinds (sole-at p))))
+sole-all p = cond (inName p) true (cond (ltb p firstName) true (cond (eqb (codeAt p) 0) true (all formCount (sole-at p))))
 
-pub sole : (p b : ℕ) → inName p ≡ false → firstName ≤ p → (codeAt p ≡ 0 → ⊥) → (b ≡ codeAt p → ⊥) → placeFrom kinds (formRow 0) p b ≡ 0
+pub sole : (p b : ℕ) → inName p ≡ false → firstName ≤ p → (codeAt p ≡ 0 → ⊥) → (b ≡ codeAt p → ⊥) → placeFrom formCount (formRow 0) p b ≡ 0
 unfolding all sole-at sole-all inName agree codeAt
-sole p b h l e n = go (eqb (placeFrom kinds (formRow 0) p b) 0) refl
+sole p b h l e n = go (eqb (placeFrom formCount (formRow 0) p b) 0) refl
   where
-    a : all kinds (sole-at p) ≡ true
+    a : all formCount (sole-at p) ≡ true
     a = simp (h, le-ltb p firstName l, ne-eqb (codeAt p) 0 e) at (all-at long sole-all refl p (in-names p e))
 
-    other : {q : ℕ} → Found (formRow 0) kinds p b q → ⊥
+    other : {q : ℕ} → Found (formRow 0) formCount p b q → ⊥
     other {q} o =
         let s : formRow (o .row - 6) ≡ o .row = omega arith in
         let i : agree (p % 20) (p - p % 20) (rowAt (formRow (o .row - 6))) ≡ true = rw s (o .alike) in
-        let t : eqb (rowAt (formRow (o .row - 6)) + p % 20) p ≡ true = rw i at (all-at kinds (sole-at p) a (o .row - 6) (omega arith)) in
+        let t : eqb (rowAt (formRow (o .row - 6)) + p % 20) p ≡ true = rw i at (all-at formCount (sole-at p) a (o .row - 6) (omega arith)) in
         let k : q ≡ p = o .place-is ∙ (rw s at (eqb-true _ p t)) in
         n (sym (o .code-is) ∙ ap codeAt k)
 
-    go : (s : Bool) → eqb (placeFrom kinds (formRow 0) p b) 0 ≡ s → placeFrom kinds (formRow 0) p b ≡ 0
+    go : (s : Bool) → eqb (placeFrom formCount (formRow 0) p b) 0 ≡ s → placeFrom formCount (formRow 0) p b ≡ 0
     go true f = eqb-true _ 0 f
-    go false f = absurd (other (found kinds (formRow 0) p b (eqb-false _ 0 f)))
+    go false f = absurd (other (found formCount (formRow 0) p b (eqb-false _ 0 f)))

@@ -13,18 +13,19 @@ use Rattle.junior.specs.Program.{Program, Nothing, Seq, Par, Await, When, Until
 use Rattle.form.specs.Form.{SaysTest, says-event, says-not, says-and, says-or, Piece, whole, later-seq}
 use Rattle.form.specs.Form.{later-par, Says, says-nothing, says-stop, says-atom, says-seq, last-of-seq}
 use Rattle.form.specs.Form.{more-of-seq, says-par, last-of-par, more-of-par, says-loop, says-repeat}
-use Rattle.form.specs.Form.{says-generate, says-await, says-when, says-until, says-control, says-local}
-use Rattle.form.specs.Inside.Machine.{End, close, comma, space, endByte, Number, event, plain, limit, Stack}
+use Rattle.form.specs.Form.{says-generate, says-await, says-when, says-until, says-control, says-local, says-if}
+use Rattle.form.specs.Form.{says-repeat-ext}
+use Rattle.form.specs.Inside.Machine.{End, close, comma, space, endByte, Number, event, plain, value, cap, limit, Stack}
 use Rattle.form.specs.Inside.Machine.{byte, prog, conf, inner, joint, num, tail, on, step}
 use Rattle.letters.proofs.ReadsDecimal.{Reader, reads-decimal}
 use Rattle.form.proofs.Steps.{digit, step-num, step-conf, step-inner, step-tail, step-end, no-end}
 use Rattle.form.proofs.Accepts.{wants}
-use Rattle.form.proofs.MadeByReading.{Item, program, test, value, programOf, testOf, item, Maker, nested, Bracket}
+use Rattle.form.proofs.MadeByReading.{Item, program, test, number, programOf, testOf, item, Maker, nested, Bracket}
 use Rattle.form.proofs.MadeByReading.{bracket, severalOf, add, ending, marked, make}
 
 -- a number's end
 make-end : (n : Number) (v : ℕ) (e : End) (σ : Stack) (x : List ℕ) (k : List Bracket)
-    → make (tail n v e ∷ σ) (endByte e ∷ x) k ≡ make σ x (ending (endByte e) (add (value v) k))
+    → make (tail n v e ∷ σ) (endByte e ∷ x) k ≡ make σ x (ending (endByte e) (add (number v) k))
 unfolding make
 make-end n v e σ x k = rw (step-end n v e σ) (simp (eq-eqb (endByte e) (endByte e) refl))
 
@@ -44,7 +45,7 @@ number-reader n e σ τ k f g =
     }
 
 make-number : (n : Number) (e : End) (σ : Stack) (x : List ℕ) (k : List Bracket) (a : ℕ) → a ≤ limit n
-    → make (num n e ∷ σ) (decimal a ++ (endByte e ∷ x)) k ≡ make σ x (ending (endByte e) (add (value a) k))
+    → make (num n e ∷ σ) (decimal a ++ (endByte e ∷ x)) k ≡ make σ x (ending (endByte e) (add (number a) k))
 unfolding marked
 make-number n e σ x k a h =
     let r = number-reader n e (num n e ∷ σ) σ k (step-num n e σ) (λ d _. simp (no-bracket d)) in
@@ -77,7 +78,7 @@ as-conf (says-or c d) σ x k = refl
 
 -- a configuration as an item: an event is its number
 abbrev itemOf : Config → Item
-itemOf (Event s) = value s
+itemOf (Event s) = number s
 itemOf (Not c) = test (Not c)
 itemOf (And c d) = test (And c d)
 itemOf (Or c d) = test (Or c d)
@@ -155,7 +156,7 @@ make-piece (more-of-par {p} d e) σ x f l k =
     simp append-assoc (make-piece d _ _ _ l k ∙ make-piece e σ x f (program p ∷ l) k)
 make-piece (says-loop d) σ x f l k = simp append-assoc (make-piece d _ _ _ [] _)
 make-piece (says-repeat {n} h d) σ x f l k =
-    simp append-assoc (make-number plain comma _ _ _ n h ∙ make-piece d _ _ _ (value n ∷ []) _)
+    simp append-assoc (make-number plain comma _ _ _ n h ∙ make-piece d _ _ _ (number n ∷ []) _)
 make-piece (says-generate {s} h) σ x f l k = simp append-assoc (make-number event close σ x _ s (omega arith))
 make-piece (says-await {c} t) σ x f l k =
     simp append-assoc (make-conf t close σ x _ [] _ ∙ said σ x f l k (ap Await (test-item c)))
@@ -172,13 +173,21 @@ make-piece (says-until {c} {p} {q} t d e) σ x f l k =
     ∙ (make-piece e _ _ _ (program p ∷ itemOf c ∷ []) _
     ∙ said σ x f l k (ap (λ z. Until z p q) (test-item c)))))
 make-piece (says-control {s} h d) σ x f l k =
-    simp append-assoc (make-number event comma _ _ _ s (omega arith) ∙ make-piece d _ _ _ (value s ∷ []) _)
+    simp append-assoc (make-number event comma _ _ _ s (omega arith) ∙ make-piece d _ _ _ (number s ∷ []) _)
 make-piece (says-local {s} h d) σ x f l k =
-    simp append-assoc (make-number event comma _ _ _ s (omega arith) ∙ make-piece d _ _ _ (value s ∷ []) _)
+    simp append-assoc (make-number event comma _ _ _ s (omega arith) ∙ make-piece d _ _ _ (number s ∷ []) _)
+make-piece (says-if {v} {p} h d e) σ x f l k =
+    simp append-assoc
+    (make-number value comma _ _ _ v h
+    ∙ (make-piece d _ _ _ (number v ∷ []) _ ∙ make-piece e _ _ _ (program p ∷ number v ∷ []) _))
+make-piece (says-repeat-ext {v} {cap = n} h g d) σ x f l k =
+    simp append-assoc
+    (make-number value comma _ _ _ v h
+    ∙ (make-number cap comma _ _ _ n g ∙ make-piece d _ _ _ (number n ∷ number v ∷ []) _))
 
 -- the outermost bracket, which no byte opens
 abbrev outside : List Bracket
-outside = bracket (λ l. value 0) [] ∷ []
+outside = bracket (λ l. number 0) [] ∷ []
 
 abbrev lastProgram : List Bracket → Program
 lastProgram [] = Nothing
@@ -186,7 +195,7 @@ lastProgram (bracket f l ∷ k) = programOf (item l 0)
 
 made : (p : Program) (w : List ℕ) → Says (whole p) w → lastProgram (make (prog ∷ []) w outside) ≡ p
 unfolding make
-made p w d = ap lastProgram (rw append-nil at (make-piece d [] [] (λ l. value 0) [] []))
+made p w d = ap lastProgram (rw append-nil at (make-piece d [] [] (λ l. number 0) [] []))
 
 pub one-reading : (p q : Program) (w : List ℕ) → Says (whole p) w → Says (whole q) w → p ≡ q
 one-reading p q w d e = sym (made p w d) ∙ made q w e

@@ -1,17 +1,17 @@
 -- The table of names in bytes: going along a row, and what each row says, by computed tests over the whole table.
 use Prim.Native.Nat.{ℕ, zero, suc, _+_, _-_, _≤_, _<_}
 use mathlib.Core.Bool.{Bool, true, false, cond, _&&_, _||_}
-use mathlib.Core.Path.{_≡_, refl, _∙_}
+use mathlib.Core.Path.{_≡_, refl, ap, _∙_}
 use mathlib.Core.List.{List, [], _∷_, _++_}
 use native.Mathlib.Omega.{arith}
-use lib.Dec.{eqb, leb}
+use lib.Dec.{eqb, ltb, leb}
 use lib.ListN.{length, getD, take, drop, drop-of-length-le, List·getD-eq-default}
 use lib.Seq.{drop-cons}
-use borrow.Author.Tests.{eqb-true, leb-true, eq-eqb, ne-eqb}
+use borrow.Author.Tests.{eqb-true, leb-true, ltb-true, ltb-false, le-leb, lt-leb, eq-eqb, ne-eqb}
 use Rattle.letters.specs.Text.{bytes}
-use Rattle.form.specs.Names.{formOf}
-use Rattle.form.specs.Inside.Rows.{names, rowAt, formRow, kinds, long, codeAt, endsName, behindName, nameEnd, starts, named}
-use Rattle.form.specs.Inside.Rows.{wordRow, kindFrom, kindOf, pairOf, same}
+use Rattle.form.specs.Names.{kindOfForm, formOfKind, formOf}
+use Rattle.form.specs.Inside.Rows.{names, rowAt, formRow, formCount, long, codeAt, endsName, behindName, nameEnd, starts, named}
+use Rattle.form.specs.Inside.Rows.{wordRow, formFrom, formIn, kindOf, pairOf, same}
 use Rattle.form.proofs.ComputedTests.{both, all, all-at, same-list}
 
 pub length-names : length names ≡ long
@@ -80,42 +80,42 @@ unfolding nameEnd
 name-after r = behind-le (rowAt r) (drop (rowAt r) names)
 
 -- the search for a name, form by form
-left-over : (k : ℕ) → k < kinds → kinds - k ≡ suc (kinds - suc k)
+left-over : (k : ℕ) → k < formCount → formCount - k ≡ suc (formCount - suc k)
 left-over k h = omega arith
 
 module _ (w : List ℕ) (k : ℕ) where
-  pub kind-here : k < kinds → named (formRow k) w ≡ true → kindFrom (kinds - k) k w ≡ k
-  unfolding kindFrom
-  kind-here h e = rw (left-over k h, e)
+  pub form-here : k < formCount → named (formRow k) w ≡ true → formFrom (formCount - k) k w ≡ k
+  unfolding formFrom
+  form-here h e = rw (left-over k h, e)
 
-  pub kind-next : k < kinds → named (formRow k) w ≡ false → kindFrom (kinds - k) k w ≡ kindFrom (kinds - suc k) (suc k) w
-  unfolding kindFrom
-  kind-next h e = rw (left-over k h, e)
+  pub form-next : k < formCount → named (formRow k) w ≡ false → formFrom (formCount - k) k w ≡ formFrom (formCount - suc k) (suc k) w
+  unfolding formFrom
+  form-next h e = rw (left-over k h, e)
 
-  pub kind-none : kinds ≤ k → kindFrom (kinds - k) k w ≡ k
-  unfolding kindFrom
-  kind-none h = let e : kinds - k ≡ 0 = omega arith in rw e
+  pub form-none : formCount ≤ k → formFrom (formCount - k) k w ≡ k
+  unfolding formFrom
+  form-none h = let e : formCount - k ≡ 0 = omega arith in rw e
 
--- what the bytes say of the form of kind k, each by a test over all kinds: its name and bracket stand before what is inside
+-- what the bytes say of form k, each by a test over all forms: its name and bracket stand before what is inside
 unfoldable spelt : ℕ → Bool
 spelt k = same (take (nameEnd (formRow k) - rowAt (formRow k)) (drop (rowAt (formRow k)) names)) (formOf k .name ++ bytes "(")
 
-pub name-there : (k : ℕ) → k < kinds
+pub name-there : (k : ℕ) → k < formCount
     → take (nameEnd (formRow k) - rowAt (formRow k)) (drop (rowAt (formRow k)) names) ≡ formOf k .name ++ bytes "("
 unfolding all spelt same names nameEnd formOf
-name-there k h = same-list _ _ (all-at kinds spelt refl k h)
+name-there k h = same-list _ _ (all-at formCount spelt refl k h)
 
--- so far behind its row's beginning, and two codes more are in the table
+-- so far behind its row's beginning, and four codes more are in the table
 unfoldable apart : ℕ → Bool
-apart k = eqb (nameEnd (formRow k)) (rowAt (formRow k) + (length (formOf k .name) + 1)) && leb (nameEnd (formRow k)) (long - 2)
+apart k = eqb (nameEnd (formRow k)) (rowAt (formRow k) + (length (formOf k .name) + 1)) && leb (nameEnd (formRow k)) (long - 4)
 
-pub name-long : (k : ℕ) → k < kinds → nameEnd (formRow k) ≡ rowAt (formRow k) + (length (formOf k .name) + 1)
+pub name-long : (k : ℕ) → k < formCount → nameEnd (formRow k) ≡ rowAt (formRow k) + (length (formOf k .name) + 1)
 unfolding all apart nameEnd formOf
-name-long k h = eqb-true _ _ (both {b = leb (nameEnd (formRow k)) (long - 2)} (all-at kinds apart refl k h) .0)
+name-long k h = eqb-true _ _ (both {b = leb (nameEnd (formRow k)) (long - 4)} (all-at formCount apart refl k h) .0)
 
-pub name-low : (k : ℕ) → k < kinds → nameEnd (formRow k) ≤ (long - 2)
+pub name-low : (k : ℕ) → k < formCount → nameEnd (formRow k) ≤ (long - 4)
 unfolding all apart nameEnd formOf
-name-low k h = leb-true _ _ (both {a = eqb (nameEnd (formRow k)) (rowAt (formRow k) + (length (formOf k .name) + 1))} (all-at kinds apart refl k h) .1)
+name-low k h = leb-true _ _ (both {a = eqb (nameEnd (formRow k)) (rowAt (formRow k) + (length (formOf k .name) + 1))} (all-at formCount apart refl k h) .1)
 
 -- a text that begins with a name is told by that alone
 starts-only : (l u y : List ℕ) → starts l (u ++ (40 ∷ y)) ≡ starts l (u ++ (40 ∷ []))
@@ -129,18 +129,30 @@ starts-only (x ∷ l) [] y = go (eqb 40 x) refl
     go false e = refl
 starts-only (x ∷ l) (b ∷ u) y = rw (starts-only l u y)
 
-kind-only : (n k : ℕ) (u y : List ℕ) → kindFrom n k (u ++ (40 ∷ y)) ≡ kindFrom n k (u ++ (40 ∷ []))
-unfolding kindFrom
-kind-only zero k u y = refl
-kind-only (suc n) k u y = rw (starts-only (drop (rowAt (formRow k)) names) u y, kind-only n (suc k) u y)
+form-only : (n k : ℕ) (u y : List ℕ) → formFrom n k (u ++ (40 ∷ y)) ≡ formFrom n k (u ++ (40 ∷ []))
+unfolding formFrom
+form-only zero k u y = refl
+form-only (suc n) k u y = rw (starts-only (drop (rowAt (formRow k)) names) u y, form-only n (suc k) u y)
 
 unfoldable told : ℕ → Bool
-told k = eqb (kindOf (formOf k .name ++ bytes "(")) k
+told k = eqb (formIn (formOf k .name ++ bytes "(")) k
+
+form-told : (k : ℕ) → k < formCount → (y : List ℕ) → formIn (formOf k .name ++ (40 ∷ y)) ≡ k
+unfolding all told formIn formOf
+form-told k h y = form-only formCount 0 (formOf k .name) y ∙ eqb-true _ _ (all-at formCount told refl k h)
 
 -- a name tells its kind
-pub kind-told : (k : ℕ) → k < kinds → (y : List ℕ) → kindOf (formOf k .name ++ (40 ∷ y)) ≡ k
-unfolding all told kindOf formOf
-kind-told k h y = kind-only kinds 0 (formOf k .name) y ∙ eqb-true _ _ (all-at kinds told refl k h)
+pub kind-told : (k : ℕ) → k < formCount → (y : List ℕ) → kindOf (formOf k .name ++ (40 ∷ y)) ≡ kindOfForm k
+unfolding kindOf
+kind-told k h y = ap kindOfForm (form-told k h y)
+
+-- the form of a form's kind
+pub form-of-kind : (i : ℕ) → formOfKind (kindOfForm i) ≡ i
+form-of-kind i = go (ltb i 13) refl
+  where
+    go : (b : Bool) → ltb i 13 ≡ b → formOfKind (cond b i (suc i)) ≡ i
+    go true e = let l = ltb-true i 13 e in rw (le-leb i 13 (omega arith))
+    go false e = let l = ltb-false i 13 e in rw (lt-leb (suc i) 13 (omega arith)) (omega arith)
 
 -- no word begins with these bytes
 pub no-pair : (x : List ℕ) → getD x 0 0 < 97 → pairOf x ≡ 0

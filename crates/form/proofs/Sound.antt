@@ -11,14 +11,15 @@ use Rattle.letters.specs.Text.{bytes}
 use Rattle.letters.proofs.Decimal.{decimal-digit, decimal-more}
 use Rattle.junior.specs.Configuration.{Config, Event, Not, And, Or}
 use Rattle.junior.specs.Program.{Program, Nothing, Stop, Atom, Seq, Par, Loop, Repeat, Generate, Await, When, Until}
-use Rattle.junior.specs.Program.{Control, Local}
+use Rattle.junior.specs.Program.{Control, Local, If}
+use Rattle.junior.specs.Values.{exactly, asked}
 use Rattle.form.specs.Names.{formOf, opening}
 use Rattle.form.specs.Form.{SaysTest, says-event, says-not, says-and, says-or, whole, later-seq, later-par}
 use Rattle.form.specs.Form.{Says, says-nothing, says-stop, says-atom, says-seq, last-of-seq, more-of-seq}
 use Rattle.form.specs.Form.{says-par, last-of-par, more-of-par, says-loop, says-repeat, says-generate}
-use Rattle.form.specs.Form.{says-await, says-when, says-until, says-control, says-local}
-use Rattle.form.specs.Inside.Rows.{formRow, kinds, nameEnd, codes, inName, firstName, home, letters, placeOf}
-use Rattle.form.specs.Inside.Machine.{End, close, comma, space, endByte, Number, event, plain, limit, isDigit}
+use Rattle.form.specs.Form.{says-await, says-when, says-until, says-control, says-local, says-if, says-repeat-ext}
+use Rattle.form.specs.Inside.Rows.{formRow, formCount, nameEnd, codes, inName, firstName, home, letters, placeOf}
+use Rattle.form.specs.Inside.Machine.{End, close, comma, space, endByte, Number, event, plain, value, cap, limit, isDigit}
 use Rattle.form.specs.Inside.Machine.{grown, Sym, Stack, byte, prog, name, parts, conf}
 use Rattle.form.specs.Inside.Machine.{inner, joint, num, tail, syms, ways, Next, dead, on}
 use Rattle.form.specs.Inside.Machine.{choose, then, run}
@@ -69,6 +70,28 @@ is-branched u (s, x, e, (c, t, d, k), (u1, v1, e1, m1, (v, v2, e2, (p, d2), (u3,
     let (u4, v4, e4, m4, (w, v5, e5, (q, d5), (u6, v6, e6, m6, r))) = y in
     (c, p, q, t, v, w, d, d2, d5, simp (e, k, append-assoc, e1, m1, e2, e3, m3, e4, m4, e5, e6, m6, r))
 
+-- a value's number and two programs
+abbrev Valued : List ℕ → Type 0
+Valued u =
+    (a : ℕ) × (p : Program) × (q : Program) × (v : List ℕ) × (w : List ℕ) × (a ≤ 15) × Says (whole p) v × Says (whole q) w
+    × (u ≡ decimal a ++ (bytes ", " ++ (v ++ (bytes ", " ++ (w ++ bytes ")")))))
+
+is-valued : (u : List ℕ) → Reads (num value comma ∷ byte 32 ∷ prog ∷ byte 44 ∷ byte 32 ∷ prog ∷ byte 41 ∷ []) u → Valued u
+is-valued u (s, x, e, (a, l, k), (u1, v1, e1, m1, (v, v2, e2, (p, d2), (u3, v3, e3, m3, y)))) =
+    let (u4, v4, e4, m4, (w, v5, e5, (q, d5), (u6, v6, e6, m6, r))) = y in
+    (a, p, q, v, w, l, d2, d5, simp (e, k, append-assoc, e1, m1, e2, e3, m3, e4, m4, e5, e6, m6, r))
+
+-- a value's number, a cap and a program
+abbrev Capped : List ℕ → Type 0
+Capped u =
+    (a : ℕ) × (c : ℕ) × (p : Program) × (v : List ℕ) × (a ≤ 15) × (c ≤ 255) × Says (whole p) v
+    × (u ≡ decimal a ++ (bytes ", " ++ (decimal c ++ (bytes ", " ++ (v ++ bytes ")")))))
+
+is-capped : (u : List ℕ) → Reads (num value comma ∷ byte 32 ∷ num cap comma ∷ byte 32 ∷ prog ∷ byte 41 ∷ []) u → Capped u
+is-capped u (s, x, e, (a, l, k), (u1, v1, e1, m1, (s2, v2, e2, (c, h, k2), (u3, v3, e3, m3, y)))) =
+    let (v, v4, e4, (p, d), (u5, v5, e5, m5, r)) = y in
+    (a, c, p, v, l, h, d, simp (e, k, append-assoc, e1, m1, e2, k2, e3, m3, e4, e5, m5, r))
+
 -- each way on gives the goal back
 abbrev Backs : List (Bool × Stack) → List ℕ → Type 0 → Type 0
 Backs [] w R = Unit {0}
@@ -88,6 +111,8 @@ backs ((false, σ) ∷ l) w R k τ e r = backs l w R (k .1) τ e r
 small : (n : Number) (d : ℕ) → d < 10 → d ≤ limit n
 small event d h = omega arith
 small plain d h = omega arith
+small value d h = omega arith
+small cap d h = omega arith
 
 -- a digit b and the rest of its number are a number
 begun : (n : Number) (e : End) (b : ℕ) (u : List ℕ) → isDigit b ≡ true
@@ -145,7 +170,7 @@ of-loop : (u : List ℕ) → Closed u → After (bytes "Jr.Loop(") u
 of-loop u (p, v, d, e) = (Loop p, rw e (says-loop d))
 
 of-repeat : (u : List ℕ) → Numbered plain u → After (bytes "Jr.Repeat(") u
-of-repeat u (a, p, v, l, d, e) = (Repeat a p, rw e (says-repeat l d))
+of-repeat u (a, p, v, l, d, e) = (Repeat (exactly a) p, rw e (says-repeat l d))
 
 of-generate : (u : List ℕ) → Means (num event close) u → After (bytes "Jr.Generate(") u
 of-generate u (a, l, e) = (Generate a, rw e (says-generate {s = a} (omega arith)))
@@ -164,6 +189,12 @@ of-control u (a, p, v, l, d, e) = (Control a p, rw e (says-control {s = a} (omeg
 
 of-local : (u : List ℕ) → Numbered event u → After (bytes "Jr.Local(") u
 of-local u (a, p, v, l, d, e) = (Local a p, rw e (says-local {s = a} (omega arith) d))
+
+of-if : (u : List ℕ) → Valued u → After (bytes "Jr.If(") u
+of-if u (a, p, q, v, w, l, d, k, e) = (If a p q, rw e (says-if l d k))
+
+of-repeat-ext : (u : List ℕ) → Capped u → After (bytes "Jr.RepeatExt(") u
+of-repeat-ext u (a, c, p, v, l, h, d, e) = (Repeat (asked a c) p, rw e (says-repeat-ext l h d))
 
 -- the same of a configuration's bracket
 of-not : (u : List ℕ) → Means (conf close) u → Means inner (bytes "not " ++ u)
@@ -204,11 +235,11 @@ a or b = (a, b)
 is-shut : (u : List ℕ) → Reads (byte 41 ∷ []) u → u ≡ bytes ")"
 is-shut u (v, x, e, m, r) = simp (e, m, r)
 
--- what stands behind the name of a kind says a program of it
+-- what stands behind the name of a form says a program of it
 abbrev Said : ℕ → Type 0
 Said k = (u : List ℕ) → Reads (syms false (codes (nameEnd (formRow k)))) u → After (opening k) u
 
-each-said : Each kinds 0 Said
+each-said : Each formCount 0 Said
 unfolding syms codes nameEnd opening
 each-said =
     (λ u r. (Nothing, rw (is-shut u r) says-nothing))
@@ -224,6 +255,8 @@ each-said =
     or (λ u r. of-until u (is-branched u r))
     or (λ u r. of-control u (is-numbered event u r))
     or (λ u r. of-local u (is-numbered event u r))
+    or (λ u r. of-if u (is-valued u r))
+    or (λ u r. of-repeat-ext u (is-capped u r))
     or tt
 
 -- a byte in a name: a letter more, or the bracket
@@ -244,9 +277,9 @@ module _ (p b : ℕ) (w : List ℕ) (σ : Stack) where
     unfolding opening
     bracket-back f u v e m t =
         let c = opened q (o .code-is ∙ f) in
-        let i : Reads (syms false (codes (nameEnd (formRow (c .kind))))) u = subst (λ (x : ℕ). Reads (syms false (codes x)) u) (c .end-is) m in
-        let k : After (opening (c .kind)) u = each-at Said kinds 0 each-said (c .kind) (omega arith) (c .known) u i in
-        let n : formOf (c .kind) .name ≡ letters (home p) = sym (c .name-is) ∙ o .letters-are in
+        let i : Reads (syms false (codes (nameEnd (formRow (c .form))))) u = subst (λ (x : ℕ). Reads (syms false (codes x)) u) (c .end-is) m in
+        let k : After (opening (c .form)) u = each-at Said formCount 0 each-said (c .form) (omega arith) (c .known) u i in
+        let n : formOf (c .form) .name ≡ letters (home p) = sym (c .name-is) ∙ o .letters-are in
         let d : Says (whole (k .0)) (bytes "Jr." ++ (letters (home p) ++ (40 ∷ u))) =
         rw (n, append-assoc (letters (home p)) (40 ∷ []) u) at (k .1) in
         let z : After (bytes "Jr." ++ letters (home p)) (b ∷ u) =

@@ -1,6 +1,6 @@
 -- The written form (01, "Written form"): the `Jr.` constructors of 000, 2.2, an event being its number. One space after each comma, after
 -- `not` and round `and` and `or`; no other blank. Numbers are decimal without leading zeros: events below 1,024 (L10), others at most
--- 65,535.
+-- 65,535; L14's If and RepeatExt have "the value's number (at most 15) first, RepeatExt's cap (at most 255) next".
 use Prim.Native.Nat.{ℕ, _<_, _≤_}
 use mathlib.Core.List.{List, _++_}
 use Rattle.events.specs.Members.{places}
@@ -8,7 +8,8 @@ use Rattle.letters.specs.Decimal.{decimal}
 use Rattle.letters.specs.Text.{bytes}
 use Rattle.junior.specs.Configuration.{Config, Event, Not, And, Or}
 use Rattle.junior.specs.Program.{Program, Nothing, Stop, Atom, Seq, Par, Loop, Repeat, Generate, Await, When, Until}
-use Rattle.junior.specs.Program.{Control, Local}
+use Rattle.junior.specs.Program.{Control, Local, If}
+use Rattle.junior.specs.Values.{exactly, asked}
 
 -- a configuration is a number, `(not C)`, `(C and C)` or `(C or C)`
 pub data SaysTest : Config → List ℕ → Type 0 where
@@ -49,7 +50,7 @@ pub data Says : Piece → List ℕ → Type 0 where
       {n : ℕ} {p : Program} {u : List ℕ}
       → n ≤ 65535
       → Says (whole p) u
-      → Says (whole (Repeat n p)) (bytes "Jr.Repeat(" ++ (decimal n ++ (bytes ", " ++ (u ++ bytes ")"))))
+      → Says (whole (Repeat (exactly n) p)) (bytes "Jr.Repeat(" ++ (decimal n ++ (bytes ", " ++ (u ++ bytes ")"))))
   says-generate : {s : ℕ} → s < places → Says (whole (Generate s)) (bytes "Jr.Generate(" ++ (decimal s ++ bytes ")"))
   says-await : {c : Config} {u : List ℕ} → SaysTest c u → Says (whole (Await c)) (bytes "Jr.Await(" ++ (u ++ bytes ")"))
   says-when :
@@ -74,3 +75,15 @@ pub data Says : Piece → List ℕ → Type 0 where
       → s < places
       → Says (whole p) u
       → Says (whole (Local s p)) (bytes "Jr.Local(" ++ (decimal s ++ (bytes ", " ++ (u ++ bytes ")"))))
+  says-if :
+      {v : ℕ} {p q : Program} {u w : List ℕ}
+      → v ≤ 15
+      → Says (whole p) u
+      → Says (whole q) w
+      → Says (whole (If v p q)) (bytes "Jr.If(" ++ (decimal v ++ (bytes ", " ++ (u ++ (bytes ", " ++ (w ++ bytes ")"))))))
+  says-repeat-ext :
+      {v cap : ℕ} {p : Program} {u : List ℕ}
+      → v ≤ 15
+      → cap ≤ 255
+      → Says (whole p) u
+      → Says (whole (Repeat (asked v cap) p)) (bytes "Jr.RepeatExt(" ++ (decimal v ++ (bytes ", " ++ (decimal cap ++ (bytes ", " ++ (u ++ bytes ")"))))))

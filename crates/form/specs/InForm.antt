@@ -2,7 +2,7 @@
 use Prim.Native.Nat.{_<_, _≤_}
 use Rattle.events.specs.Members.{places}
 use Rattle.junior.specs.Configuration.{Config, Event, Not, And, Or}
-use Rattle.junior.specs.Program.{Program, Argument, no-argument, number, event, configuration, argument}
+use Rattle.junior.specs.Program.{Program, Argument, no-argument, number, event, configuration, value, capped, argument}
 use Rattle.junior.specs.Program.{Parts, no-part, one-part, two-parts, parts}
 
 abbrev pub TestInForm : Config → Type 0
@@ -16,6 +16,8 @@ ArgumentInForm no-argument = Unit {0}
 ArgumentInForm (number n) = n ≤ 65535
 ArgumentInForm (event s) = s < places
 ArgumentInForm (configuration c) = TestInForm c
+ArgumentInForm (value v) = v ≤ 15
+ArgumentInForm (capped v cap) = (v ≤ 15) × (cap ≤ 255)
 
 -- its argument and its parts
 abbrev pub PartsInForm : {p : Program} → Parts p → Type 0

@@ -5,7 +5,7 @@ use mathlib.Core.Bool.{cond}
 use mathlib.Core.List.{List, [], _∷_, _++_}
 use lib.Dec.{leb}
 use Rattle.junior.specs.Configuration.{Config, Event, Not, And, Or}
-use Rattle.junior.specs.Program.{Program, Argument, no-argument, number, event, configuration, argument, kind}
+use Rattle.junior.specs.Program.{Program, Argument, no-argument, number, event, configuration, value, capped, argument, kind}
 use Rattle.junior.specs.Program.{Parts, no-part, one-part, two-parts, parts, size}
 use Rattle.table.specs.Bytes as Bytes
 use Rattle.table.specs.Spells.{weight}
@@ -30,6 +30,8 @@ namedWith no-argument v = v
 namedWith (number n) v = v
 namedWith (event s) v = larger (suc s) v
 namedWith (configuration c) v = larger (namedIn c) v
+namedWith (value n) v = v
+namedWith (capped n cap) v = v
 
 abbrev pub namedParts : {p : Program} → Parts p → ℕ
 namedParts {p} (no-part f) = namedWith (argument p) 1
@@ -45,6 +47,8 @@ testsWith no-argument n = n
 testsWith (number a) n = n
 testsWith (event s) n = n
 testsWith (configuration c) n = weight c + n
+testsWith (value v) n = n
+testsWith (capped v cap) n = n
 
 abbrev pub testsParts : {p : Program} → Parts p → ℕ
 testsParts {p} (no-part f) = testsWith (argument p) 0
@@ -54,18 +58,22 @@ testsParts {p} (two-parts f q r) = testsWith (argument p) (testsParts q + testsP
 unfoldable pub tests : Program → ℕ
 tests p = testsParts (parts p)
 
--- an argument as a number, its configuration being number j, and the number behind that
+-- an argument as a number, its configuration being number j, and the number behind that; "a cap times 16 plus a number" (L14)
 abbrev pub asNumber : ℕ → Argument → ℕ
 asNumber j no-argument = 0
 asNumber j (number n) = n
 asNumber j (event s) = s
 asNumber j (configuration c) = j
+asNumber j (value v) = v
+asNumber j (capped v cap) = cap * 16 + v
 
 abbrev pub behind : ℕ → Argument → ℕ
 behind j no-argument = j
 behind j (number n) = j
 behind j (event s) = j
 behind j (configuration c) = j + weight c
+behind j (value v) = j
+behind j (capped v cap) = j
 
 -- a node's own record
 abbrev pub node : Program → ℕ → List ℕ
@@ -95,6 +103,8 @@ recordsWith no-argument l = l
 recordsWith (number n) l = l
 recordsWith (event s) l = l
 recordsWith (configuration c) l = testRecords c ++ l
+recordsWith (value v) l = l
+recordsWith (capped v cap) l = l
 
 abbrev pub testsOfParts : {p : Program} → Parts p → List ℕ
 testsOfParts {p} (no-part f) = recordsWith (argument p) []

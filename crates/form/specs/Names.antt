@@ -1,14 +1,16 @@
--- The table of names (01, "Written form"): for each form its name and what stands in its brackets, row by row in the order of the kinds
--- (01, "The table"); and the words of the configurations in the order of theirs.
+-- The table of names (01, "Written form"; L14): for each form its name and what stands in its brackets, row by row in the order of the
+-- kinds (01, "The table"); and the words of the configurations in the order of theirs.
 use Prim.Native.String.{String}
-use Prim.Native.Nat.{ℕ}
+use Prim.Native.Nat.{ℕ, suc, _-_}
+use mathlib.Core.Bool.{cond}
 use mathlib.Core.List.{List, [], _∷_, _++_}
+use lib.Dec.{leb, ltb}
 use lib.ListN.{getD}
 use Rattle.letters.specs.Text.{bytes}
 
--- a number, an event, a configuration, a program; one program or more
+-- a number, an event, the number of a value, a cap, a configuration, a program; one program or more
 pub data Part : Type 0 where
-  number event test program programs : Part
+  number event value cap test program programs : Part
 
 pub record Form : Type 0 where
   pub name : List ℕ
@@ -32,17 +34,29 @@ forms =
     ∷ form "Until" (test ∷ program ∷ program ∷ [])
     ∷ form "Control" (event ∷ program ∷ [])
     ∷ form "Local" (event ∷ program ∷ [])
+    ∷ form "If" (value ∷ program ∷ program ∷ [])
+    ∷ form "RepeatExt" (value ∷ cap ∷ program ∷ [])
     ∷ []
 
--- the form of kind k
+-- the kind that no form has; the kind of form i, and the form of kind k
+abbrev pub free : ℕ
+free = 13
+
+abbrev pub kindOfForm : ℕ → ℕ
+kindOfForm i = cond (ltb i free) i (suc i)
+
+abbrev pub formOfKind : ℕ → ℕ
+formOfKind k = cond (leb k free) k (k - 1)
+
+-- form i
 unfoldable pub formOf : ℕ → Form
 unfolding forms
-formOf k = getD forms k (form "" [])
+formOf i = getD forms i (form "" [])
 
--- how a form of kind k begins
+-- how form i begins
 unfoldable pub opening : ℕ → List ℕ
 unfolding formOf
-opening k = bytes "Jr." ++ (formOf k .name ++ bytes "(")
+opening i = bytes "Jr." ++ (formOf i .name ++ bytes "(")
 
 -- the words before the last part of a configuration; an event has none
 unfoldable pub words : List (List ℕ)

@@ -4,9 +4,9 @@ use mathlib.Core.List.{List, [], _++_}
 use Rattle.letters.specs.Decimal.{decimal}
 use Rattle.letters.specs.Text.{bytes}
 use Rattle.junior.specs.Configuration.{Config, Event, Not, And, Or}
-use Rattle.junior.specs.Program.{Program, Argument, no-argument, number, event, configuration, argument, kind}
+use Rattle.junior.specs.Program.{Program, Argument, no-argument, number, event, configuration, value, capped, argument, kind}
 use Rattle.junior.specs.Program.{Parts, no-part, one-part, two-parts, parts}
-use Rattle.form.specs.Names.{opening}
+use Rattle.form.specs.Names.{formOfKind, opening}
 
 unfoldable pub spellTest : Config → List ℕ
 spellTest (Event s) = decimal s
@@ -14,15 +14,17 @@ spellTest (Not c) = bytes "(not " ++ (spellTest c ++ bytes ")")
 spellTest (And c d) = bytes "(" ++ (spellTest c ++ (bytes " and " ++ (spellTest d ++ bytes ")")))
 spellTest (Or c d) = bytes "(" ++ (spellTest c ++ (bytes " or " ++ (spellTest d ++ bytes ")")))
 
--- the name of its kind, with the bracket
+-- the name of its form, with the bracket
 abbrev pub name : Program → List ℕ
-name p = opening (kind p)
+name p = opening (formOfKind (kind p))
 
 abbrev pub spellArgument : Argument → List ℕ
 spellArgument no-argument = []
 spellArgument (number n) = decimal n
 spellArgument (event s) = decimal s
 spellArgument (configuration c) = spellTest c
+spellArgument (value v) = decimal v
+spellArgument (capped v cap) = decimal v ++ (bytes ", " ++ decimal cap)
 
 -- the argument before the parts, if there is one
 abbrev pub before : Argument → List ℕ → List ℕ
@@ -30,6 +32,8 @@ before no-argument w = w
 before (number n) w = decimal n ++ (bytes ", " ++ w)
 before (event s) w = decimal s ++ (bytes ", " ++ w)
 before (configuration c) w = spellTest c ++ (bytes ", " ++ w)
+before (value v) w = decimal v ++ (bytes ", " ++ w)
+before (capped v cap) w = decimal v ++ (bytes ", " ++ (decimal cap ++ (bytes ", " ++ w)))
 
 abbrev pub spellParts : {p : Program} → Parts p → List ℕ
 spellParts {p} (no-part f) = name p ++ (spellArgument (argument p) ++ bytes ")")

@@ -1,11 +1,12 @@
 // The table of names: for each form, in the order of the kinds, its name and what stands in its brackets.
 ghost use mathlib.Core.Path.{_≡_};
-ghost use Prim.Native.Nat.{_≤_};
+ghost use Prim.Native.Nat.{_<_, _≤_};
 ghost use lib.ListN.{drop};
-ghost use Rattle.form.specs.Inside.Rows.{TheNames, formRow, kinds, long, codeAt, endsName, nameEnd, named, kindOf, pairOf};
+ghost use Rattle.form.specs.Names.{kindOfForm, formOfKind};
+ghost use Rattle.form.specs.Inside.Rows.{TheNames, formRow, formCount, long, codeAt, endsName, nameEnd, named, formIn, pairOf};
 
 // How many forms there are; the length of a row; the first form's row and the first word's; the length of the table.
-pub const KINDS: usize = 13;
+pub const FORMS: usize = 15;
 
 pub const ROW: usize = 20;
 
@@ -13,9 +14,12 @@ pub const FIRST_FORM: usize = 6;
 
 pub const FIRST_WORD: usize = 2;
 
-pub const LONG: usize = ROW * (FIRST_FORM + KINDS);
+pub const LONG: usize = ROW * (FIRST_FORM + FORMS);
 
-// A text; a program; a configuration behind its bracket; the words of the configurations by kind; the forms by kind. The codes from 128 on
+// The kind that no form has.
+const FREE: usize = 13;
+
+// A text; a program; a configuration behind its bracket; the words of the configurations by kind; the forms. The codes from 128 on
 // are below; zeros fill a row up.
 const NAMES: [u8; LONG] = *b"\
     \x80\0\0\0\0\0\0\0\0\0\0\0\0\0\0\0\0\0\0\0\
@@ -36,10 +40,12 @@ const NAMES: [u8; LONG] = *b"\
     When(\x86, \x80, \x80)\0\0\0\0\0\0\0\
     Until(\x86, \x80, \x80)\0\0\0\0\0\0\
     Control(\x8a, \x80)\0\0\0\0\0\0\0\
-    Local(\x8a, \x80)\0\0\0\0\0\0\0\0\0";
+    Local(\x8a, \x80)\0\0\0\0\0\0\0\0\0\
+    If(\x8c, \x80, \x80)\0\0\0\0\0\0\0\0\0\
+    RepeatExt(\x8c, \x8d, \x80)\0\0";
 
 // The codes from 128 on: a program, a form's name, behind a later part, a configuration, behind its bracket, behind its first part, an event,
-// another number.
+// a number, the number of a value, a cap.
 pub const PROGRAM: u8 = 128;
 
 pub const NAME: u8 = 129;
@@ -55,6 +61,10 @@ pub const JOINT: u8 = 137;
 pub const EVENT: u8 = 138;
 
 pub const NUMBER: u8 = 139;
+
+pub const VALUE: u8 = 140;
+
+pub const CAP: u8 = 141;
 
 // A copy of the table. Each mention of a constant array copies it, so a call asks for one copy and lends it down.
 pub fn table_of_names() -> [u8; LONG]
@@ -84,7 +94,7 @@ pub fn code(names: &[u8; LONG], at: usize) -> u8
 // Whether a text has the name of a row at byte `at`.
 pub fn is_named(names: &[u8; LONG], row: usize, text: &[u8], at: usize) -> bool
     requires { ⌜ TheNames (now names) ⌝ }
-    requires { ⌜ row ≤ formRow kinds ⌝ }
+    requires { ⌜ row ≤ formRow formCount ⌝ }
     ensures { λ r. ⌜ r ≡ named row (drop at (now (text .entry))) ⌝ }
 {
     let mut p = ROW * row;
@@ -106,19 +116,40 @@ pub fn is_named(names: &[u8; LONG], row: usize, text: &[u8], at: usize) -> bool
     false
 }
 
-// The kind of the form whose name a text has at byte `at`; KINDS if it has none.
-pub fn kind_named(names: &[u8; LONG], text: &[u8], at: usize) -> usize
+// The form whose name a text has at byte `at`; FORMS if it has none.
+pub fn form_named(names: &[u8; LONG], text: &[u8], at: usize) -> usize
     requires { ⌜ TheNames (now names) ⌝ }
-    ensures { λ r. ⌜ (r ≡ kindOf (drop at (now (text .entry)))) × (r ≤ kinds) ⌝ }
+    ensures { λ r. ⌜ (r ≡ formIn (drop at (now (text .entry)))) × (r ≤ formCount) ⌝ }
 {
     let mut k = 0;
-    while k < KINDS {
+    while k < FORMS {
         if is_named(names, FIRST_FORM + k, text, at) {
             return k;
         }
         k += 1;
     }
     k
+}
+
+// The kind of form i.
+pub fn kind_of_form(i: usize) -> usize
+    requires { ⌜ i ≤ formCount ⌝ }
+    ensures { λ r. ⌜ (r ≡ kindOfForm i) × (r < 256) ⌝ }
+{
+    if i < FREE {
+        return i;
+    }
+    i + 1
+}
+
+// The form of kind k.
+pub fn form_of_kind(k: usize) -> usize
+    ensures { λ r. ⌜ r ≡ formOfKind k ⌝ }
+{
+    if k <= FREE {
+        return k;
+    }
+    k - 1
 }
 
 // 2 where a text has `and` at byte `at`, 3 where it has `or`, and else 0.
@@ -138,7 +169,7 @@ pub fn pair_named(names: &[u8; LONG], text: &[u8], at: usize) -> u8
 // Behind the name of a row.
 pub fn name_end(names: &[u8; LONG], row: usize) -> usize
     requires { ⌜ TheNames (now names) ⌝ }
-    requires { ⌜ row ≤ formRow kinds ⌝ }
+    requires { ⌜ row ≤ formRow formCount ⌝ }
     ensures { λ r. ⌜ (r ≡ nameEnd row) × (r ≤ long) ⌝ }
 {
     let mut p = ROW * row;

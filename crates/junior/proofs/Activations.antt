@@ -12,14 +12,15 @@ use Rattle.junior.specs.declared.Flag.the-variants.{SUSP, STOP, TERM}
 use Rattle.junior.specs.Flags.{γ, δ₁, δ₂}
 use Rattle.junior.specs.Configuration.{Event, Env, handed-in, test, fixed, eval, unknown}
 use Rattle.junior.specs.Program.{Program, Nothing, Stop, Repeat, Until, Local, size}
+use Rattle.junior.specs.Values.{zeros, exactly}
 use Rattle.junior.specs.Term.{Term, done, nothing, stop, atom, generate, await, seq0, seq2, par, loop0, loop1}
-use Rattle.junior.specs.Term.{repeat0, repeat1, when0, when1, when2, until0, until*, until2, control, local}
+use Rattle.junior.specs.Term.{repeat0, repeat1, when0, when1, when2, until0, until*, until2, control, local, if0, if1, if2}
 use Rattle.junior.specs.Term.{prog, fresh, leave}
 use Rattle.junior.specs.Trace.{Place, Act, did-atom, did-generate, decided, waits, scope-answered}
 use Rattle.junior.specs.Rules.{Allowed, left-first, Result, sign, Rewrites, r1, r1-on, r2, r3, r4, r4-on, r5, r8, r9, r10}
 use Rattle.junior.specs.Rules.{r11, r12, r13, r4-loop, r5-loop, r14, r15, r4-repeat, r5-repeat, r16, r17}
 use Rattle.junior.specs.Rules.{r17-on, r18, r19, r19-on, r20, r21, r22, r23, r24, r25, r26, r27, r28, r29, r30}
-use Rattle.junior.specs.Rules.{r31, r31-on, r32, r33, r34, r35-39}
+use Rattle.junior.specs.Rules.{r31, r31-on, r32, r33, r34, r35-39, if-true, if-true-on, if-false, if-false-on}
 use Rattle.junior.specs.Instant.{Instant, r47, r48, r49}
 use Rattle.junior.specs.Course.{_⊆_}
 use Rattle.junior.specs.Activations.{UntilAround, Answers, Silent, Next, Activations}
@@ -96,6 +97,9 @@ module _ (around : ℕ → ℕ → Type 0) where
   Owes (until2 c p t) i X k = Owes t (suc i + size p) X k
   Owes (control s t) i X k = X s ≡ true → Owes t (suc i) X k
   Owes (local b s t) i X k = Answers i k × Owes t (suc i) (put s b X) k
+  Owes (if0 v p q) i X k = Unit {0}
+  Owes (if1 v t q) i X k = Owes t (suc i) X k
+  Owes (if2 v p t) i X k = Owes t (suc i + size p) X k
 
   abbrev Left : Flag → Term → ℕ → Events → List Act → Type 0
   Left α t i X k = After α (Owes t i X k) (Hushed i (i + size (prog t)) k)
@@ -148,6 +152,9 @@ module _ (around : ℕ → ℕ → Type 0) where
   earlier k (control s t) i a h o = λ x. earlier k t _ (narrow (omega arith) a) h (o (h s x))
   earlier {l = l} k (local b s t) i a h o =
       (answers-after l k i (o .0), earlier k t _ (narrow (omega arith) a) (put-grows s b h) (o .1))
+  earlier k (if0 v p q) i a h o = tt
+  earlier k (if1 v t q) i a h o = earlier k t _ (narrow (omega arith) a) h o
+  earlier k (if2 v p t) i a h o = earlier k t _ (narrow (omega arith) a) h o
 
   left-earlier : {l : List Act} {X Y : Events} (k : List Act) (α : Flag) (t : Term) (i : ℕ) → Apart l i (i + size (prog t)) → X ⊆ Y
       → Left α t i Y k
@@ -252,8 +259,8 @@ module _ (around : ℕ → ℕ → Type 0) where
       let b = pass k e c a h in
       rw (append-assoc l (r .acts) k) (pass (r .acts ++ k) d (known-in c (λ m n x. x)) (b .0) tt)
   pass k (r5-loop {r = r} d n) c a h = pass k d (known-in c (λ m n x. x)) a (part r _ _ _ k (λ o. o) (omega arith) h)
-  pass k r14 c a h = (a, tt)
-  pass k (r15 {p = p} d) c a h = (pass k d (rw (prog-fresh p) c) a h .0, tt)
+  pass k (r14 e) c a h = (a, tt)
+  pass k (r15 {p = p} e d) c a h = (pass k d (rw (prog-fresh p) c) a h .0, tt)
   pass k (r4-repeat {n = n} {k = m} {t = t} {l = l} {r = r} d e) c a h =
       let b = pass k e (rw (prog-again n m (prog t)) c) a h in
       rw (append-assoc l (r .acts) k) (pass (r .acts ++ k) d (known-in c (λ m n x. x)) (b .0) tt)
@@ -298,6 +305,12 @@ module _ (around : ℕ → ℕ → Type 0) where
       let (x, o) = scope (r .flag) (r .env .now) b (E .now s) (r .env .now s) s (r .to) (P .node) k h in
       let y = pass (m ++ k) d (known-in c (λ m n x. x)) (x, a) o in
       rw (append-assoc (r .acts) m k) (y .0, (answers-after (r .acts) (m ++ k) (P .node) (inl refl), y .1))
+  pass k (if-true {p = p} {r = r} e d) c a h =
+      (pass k d (known-fresh p (known-in c (λ m n x. inl x))) a (part r _ _ _ k (λ o. o) (omega arith) h) .0, tt)
+  pass k (if-true-on {r = r} d) c a h = pass k d (known-in c (λ m n x. inl x)) a (part r _ _ _ k (λ o. o) (omega arith) h)
+  pass k (if-false {q = q} {r = r} e d) c a h =
+      (pass k d (known-fresh q (known-in c (λ m n x. inr x))) a (part r _ _ _ k (λ o. o) (omega arith) h) .0, tt)
+  pass k (if-false-on {r = r} d) c a h = pass k d (known-in c (λ m n x. inr x)) a (part r _ _ _ k (λ o. o) (omega arith) h)
 
   instant : {free : Allowed} {t : Term} {E : Env} {n : ℕ} {r : Result} → Instant free t E n r → Known (prog t) 0
       → Activations around (r .acts) × Owes t 0 (E .now) (r .acts)
@@ -323,14 +336,14 @@ activations {t = t} i = instant (UntilAround (prog t) 0) i (record { known = λ 
 -- An Until around it does make a difference: with event 0 handed in, Repeat(2, Until(0, Local(1, Stop), Nothing)) runs the Local's body
 -- twice in one instant, and both times it stops.
 pub stops-twice : (r : Result) × (l : List Act)
-    × Instant left-first (fresh (Repeat 2 (Until (Event 0) (Local 1 Stop) Nothing))) (handed-in (put 0 true none)) 1 r
+    × Instant (left-first zeros) (fresh (Repeat (exactly 2) (Until (Event 0) (Local 1 Stop) Nothing))) (handed-in (put 0 true none)) 1 r
     × (r .acts ≡ scope-answered 2 STOP false ∷ l)
     × Answers 2 l
 unfolding fresh put test fixed eval leave prog Answers
 stops-twice = (
   _,
   _,
-  r47 (r15 (r4-repeat (r30 (r35-39 r2) (r31 refl refl r1)) (r4-repeat (r30 (r35-39 r2) (r31 refl refl r1)) r1-on))) TERM≢SUSP,
+  r47 (r15 refl (r4-repeat (r30 (r35-39 r2) (r31 refl refl r1)) (r4-repeat (r30 (r35-39 r2) (r31 refl refl r1)) r1-on))) TERM≢SUSP,
   refl,
   inl refl,
 )

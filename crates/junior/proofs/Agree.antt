@@ -1,6 +1,6 @@
 -- Every pass agrees with what its term comes to, in every X that holds the pass's events: the one induction over the rules.
 use Prim.Native.Nat.{ℕ, suc}
-use mathlib.Core.Bool.{Bool, true, false, _||_, false≢true}
+use mathlib.Core.Bool.{Bool, true, false, cond, _||_, false≢true}
 use mathlib.Core.Path.{_≡_, refl, ap, sym, _∙_}
 use mathlib.Core.Logic.{_≢_}
 use mathlib.Core.List.{[], _∷_}
@@ -11,12 +11,13 @@ use Rattle.junior.specs.declared.Flag.the-variants.{SUSP, STOP, TERM}
 use Rattle.junior.specs.declared.Verdict.the-variants.{Unsat}
 use Rattle.junior.specs.Configuration.{Config, Event, Env, generated, verdict, eval, test}
 use Rattle.junior.specs.Program.{Program, Atom, Loop, Generate}
-use Rattle.junior.specs.Term.{Term, done, seq0, seq2, loop1, repeat1, when1, when2, until0, until2, prog, fresh}
+use Rattle.junior.specs.Values.{Values}
+use Rattle.junior.specs.Term.{Term, done, seq0, seq2, loop1, repeat1, when1, when2, until0, until2, if1, if2, prog, fresh}
 use Rattle.junior.specs.Trace.{Place, first, second, inside, did-atom, did-generate, collect}
 use Rattle.junior.specs.Rules.{Allowed, Result, answers, Rewrites, r1, r1-on, r2, r3, r4, r4-on, r5, r8, r9, r10}
 use Rattle.junior.specs.Rules.{r11, r12, r13, r4-loop, r5-loop, r14, r15, r4-repeat, r5-repeat, r16, r17, r17-on}
 use Rattle.junior.specs.Rules.{r18, r19, r19-on, r20, r21, r22, r23, r24, r25, r26, r27, r28, r29, r30, r31}
-use Rattle.junior.specs.Rules.{r31-on, r32, r33, r34, r35-39}
+use Rattle.junior.specs.Rules.{r31-on, r32, r33, r34, r35-39, if-true, if-true-on, if-false, if-false-on}
 use Rattle.junior.specs.Figures.{LoopsStop}
 use Rattle.junior.specs.Order.{often, decides}
 use Rattle.junior.proofs.Little.{STOP≢SUSP, TERM≢SUSP, put-at}
@@ -51,8 +52,8 @@ unended-same o f k k′ n = ap (plus o) (go (o .flag) n)
     go STOP n = refl
     go TERM n = absurd (n refl)
 
-does : {P : Place} {X : Events} {E : Env} (a : ℕ)
-    → Agrees P X E (answers TERM (done (Atom a)) E (did-atom a ∷ [])) (starts P (Atom a) X)
+does : {value : Values} {P : Place} {X : Events} {E : Env} (a : ℕ)
+    → Agrees value P X E (answers TERM (done (Atom a)) E (did-atom a ∷ [])) (starts value P (Atom a) X)
 unfolding starts collect decides
 does a = record {
   run = λ b w. record {
@@ -61,10 +62,10 @@ does a = record {
   };
 }
 
-raises : {P : Place} {X : Events} {E : Env} (s : ℕ)
-    → Agrees P X E (answers TERM (done (Generate s)) (generated s E) (did-generate s ∷ [])) (starts P (Generate s) X)
+raises : {value : Values} {P : Place} {X : Events} {E : Env} (s : ℕ)
+    → Agrees value P X E (answers TERM (done (Generate s)) (generated s E) (did-generate s ∷ [])) (starts value P (Generate s) X)
 unfolding starts collect often decides
-raises {P} {X} {E} s = record {
+raises {P = P} {X} {E} s = record {
   run = λ b w.
       let here : X s ≡ true = w s (put-at s true (E .now)) (put-at s true none) in
       record {
@@ -87,27 +88,34 @@ raises {P} {X} {E} s = record {
 }
 
 -- a body that is begun
-begins : {P : Place} {X : Events} {E : Env} {r : Result} (p : Program)
-    → Agrees P X E r (settle P (fresh p) X)
-    → Agrees P X E r (starts P p X)
-begins {P} {X} p a = comes-to (λ b. sym (settle-fresh P p X)) a
+begins : {value : Values} {P : Place} {X : Events} {E : Env} {r : Result} (p : Program)
+    → Agrees value P X E r (settle value P (fresh p) X)
+    → Agrees value P X E r (starts value P p X)
+begins {value} {P} {X} p a = comes-to (λ b. sym (settle-fresh value P p X)) a
 
-around-until : (P : Place) (X : Events) (c : Config) (p q : Program) (α : Flag) (t : Term)
+around-until : (value : Values) (P : Place) (X : Events) (c : Config) (p q : Program) (α : Flag) (t : Term)
     → α ≢ STOP
     → prog t ≡ p
-    → Around P (first P) X (λ x. until0 c x q) (once-stopped P c q (starts (second P p) q X) (own-wait P c X) (eval c X) (reads c X)) α t
+    → Around value P (first P) X (λ x. until0 c x q) (once-stopped P c q (starts value (second P p) q X) (own-wait P c X) (eval c X) (reads c X)) α t
 unfolding settle prog
-around-until P X c p q SUSP t n e =
-    λ i. bind (settle (first P) t X) (once-stopped P c q (starts (second P (e i)) q X) (own-wait P c X) (eval c X) (reads c X))
-around-until P X c p q STOP t n e = absurd (n refl)
-around-until P X c p q TERM t n e = refl
+around-until value P X c p q SUSP t n e =
+    λ i. bind (settle value (first P) t X) (once-stopped P c q (starts value (second P (e i)) q X) (own-wait P c X) (eval c X) (reads c X))
+around-until value P X c p q STOP t n e = absurd (n refl)
+around-until value P X c p q TERM t n e = refl
+
+-- an If, by its value
+chooses : {value : Values} {P : Place} {X : Events} {E : Env} {r : Result} (b x : Bool) (o p : Out)
+    → b ≡ x
+    → Agrees value P X E r (cond x o p)
+    → Agrees value P X E r (cond b o p)
+chooses b x o p h a = comes-to (λ e. ap (λ b. cond b o p) h) a
 
 pub agree : {free : Allowed} {P : Place} {t : Term} {E : Env} {r : Result}
     → Rewrites free P t E r
     → LoopsStop (prog t)
     → E .eoi ≡ false
     → (X : Events)
-    → Agrees P X E r (settle P t X)
+    → Agrees (free .value) P X E r (settle (free .value) P t X)
 unfolding settle starts repeated handled prog LoopsStop
 agree r1 o e X = stays TERM _ alike-same
 agree r1-on o e X = stays TERM _ alike-same
@@ -118,39 +126,43 @@ agree (r4 {t = t} {q = q} d d′) o e X =
     runs-in (seq2 (prog t)) refl (begins q (agree d′ (loops-fresh q (o .1)) (end-kept d ∙ e) X))
     )
 agree (r4-on {p = p} d) o e X = runs-in (seq2 p) refl (agree d (o .1) e X)
-agree (r5 {P = P} {q = q} {r = r} d h) o e X =
-    let k : Program → Out = λ p. bind (starts (second P p) q X) (around (seq2 p)) in
+agree {free} (r5 {P = P} {q = q} {r = r} d h) o e X =
+    let k : Program → Out = λ p. bind (starts (free .value) (second P p) q X) (around (seq2 p)) in
     runs-first (λ x. seq0 x q) _ h
-    (ap (λ p. bind (settle (first P) (r .to) X) (once-ended (λ x. seq0 x q) (k p))) (kept d))
+    (ap (λ p. bind (settle (free .value) (first P) (r .to) X) (once-ended (λ x. seq0 x q) (k p))) (kept d))
     (agree d (o .0) e X)
 agree (r8 d d′) o e X = runs-left-first (kept d) (grows d′) (agree d (o .0) e X) (agree d′ (o .1) (end-kept d ∙ e) X)
 agree (r9 f d′ d) o e X = runs-right-first (kept d) (grows d) (agree d′ (o .1) e X) (agree d (o .0) (end-kept d′ ∙ e) X)
 agree (r10 {β = β} {u = u} h d) o e X = runs-left β u (kept d) (agree d (o .0) e X)
 agree (r11 {α = α} {t = t} h d) o e X = runs-right α t (agree d (o .1) e X)
-agree (r12 {P = P} {p = p} {r = r} d h) o e X =
+agree {free} (r12 {P = P} {p = p} {r = r} d h) o e X =
     let q = kept d ∙ prog-fresh p in
-    comes-to (λ b. unended-same (starts (first P) p X) loop1 _ (starts P (Loop p) X) (starts-unended (first P) p X (o .0))) (
+    let unended = starts-unended (free .value) (first P) p X (o .0) in
+    comes-to (λ b. unended-same (starts (free .value) (first P) p X) loop1 _ (starts (free .value) P (Loop p) X) unended) (
     runs-first loop1 _ h
-    (ap (λ p. bind (settle (first P) (r .to) X) (once-ended loop1 (starts P (Loop p) X))) q)
+    (ap (λ p. bind (settle (free .value) (first P) (r .to) X) (once-ended loop1 (starts (free .value) P (Loop p) X))) q)
     (begins p (agree d (loops-fresh p (o .1)) e X))
     )
 agree (r13 {p = p} f d d′) o e X = absurd (begun p d (o .0) refl)
 agree (r4-loop d d′) o e X = runs-on _ TERM≢SUSP (grows d′) (agree d (o .1) e X) (agree d′ o (end-kept d ∙ e) X)
-agree (r5-loop {P = P} {r = r} d h) o e X =
+agree {free} (r5-loop {P = P} {r = r} d h) o e X =
     runs-first loop1 _ h
-    (ap (λ p. bind (settle (first P) (r .to) X) (once-ended loop1 (starts P (Loop p) X))) (kept d))
+    (ap (λ p. bind (settle (free .value) (first P) (r .to) X) (once-ended loop1 (starts (free .value) P (Loop p) X))) (kept d))
     (agree d (o .1) e X)
-agree r14 o e X = stays TERM _ alike-same
-agree (r15 {P = P} {n = n} {p = p} d) o e X =
-    comes-to (λ b. sym (settle-again P (suc n) (suc n) p X)) (agree d (loops-fresh p o) e X)
-agree (r4-repeat {P = P} {n = n} {k = k} {t = t} d d′) o e X =
+agree {free} (r14 {P = P} {n = n} {p = p} h) o e X =
+    comes-to (λ b. ap (λ k. repeated n k p (starts (free .value) (first P) p X)) h) (stays TERM _ alike-same)
+agree {free} (r15 {P = P} {n = n} {k = k} {p = p} h d) o e X =
+    comes-to
+    (λ b. ap (λ k. repeated n k p (starts (free .value) (first P) p X)) h ∙ sym (settle-again (free .value) P n (suc k) p X))
+    (agree d (loops-fresh p o) e X)
+agree {free} (r4-repeat {P = P} {n = n} {k = k} {t = t} d d′) o e X =
     runs-on _ TERM≢SUSP (grows d′) (agree d o e X) (
-    comes-to (λ b. sym (settle-again P n k (prog t) X)) (agree d′ (rw (prog-again n k (prog t)) o) (end-kept d ∙ e) X)
+    comes-to (λ b. sym (settle-again (free .value) P n k (prog t) X)) (agree d′ (rw (prog-again n k (prog t)) o) (end-kept d ∙ e) X)
     )
-agree (r5-repeat {P = P} {n = n} {k = k} {r = r} d h) o e X =
-    let f : Program → Out = λ p. repeated n k p (starts (first P) p X) in
+agree {free} (r5-repeat {P = P} {n = n} {k = k} {r = r} d h) o e X =
+    let f : Program → Out = λ p. repeated n k p (starts (free .value) (first P) p X) in
     runs-first (repeat1 n k) _ h
-    (ap (λ p. bind (settle (first P) (r .to) X) (once-ended (repeat1 n k) (f p))) (kept d))
+    (ap (λ p. bind (settle (free .value) (first P) (r .to) X) (once-ended (repeat1 n k) (f p))) (kept d))
     (agree d o e X)
 agree (r16 {s = s}) o e X = raises s
 agree (r17 {c = c} {p = p} {q = q} v h d) o e X =
@@ -166,16 +178,16 @@ agree (r22 {c = c} v h) o e X = reads-so c true _ _ _ _ _ _ v e (stays TERM _ al
 agree (r23 v h) o e X = absurd (false≢true (sym e ∙ h))
 agree (r24 {c = c} v) o e X = reads-so c false _ _ _ _ _ _ v e (stays STOP _ alike-same)
 agree (r25 v) o e X = stays SUSP _ only-waits
-agree (r26 {P = P} {E = E} {s = s} {t = t} v d) o e X =
-    comes-to (λ b. steered-on P X s t (b s (present s E v))) (runs-steered s (present s E v) (agree d o e X))
+agree {free} (r26 {P = P} {E = E} {s = s} {t = t} v d) o e X =
+    comes-to (λ b. steered-on (free .value) P X s t (b s (present s E v))) (runs-steered s (present s E v) (agree d o e X))
 agree (r27 {E = E} {s = s} v) o e X = absurd (open-event s E e v)
 agree (r28 v) o e X = stays SUSP _ only-waits
-agree (r29 {P = P} {c = c} {t = t} {q = q} {r = r} d h) o e X =
-    runs-under (λ x. until0 c x q) _ (around-until P X c (prog t) q (r .flag) (r .to) h (kept d)) (agree d (o .0) e X)
-agree (r30 {P = P} {c = c} {t′ = t′} {q = q} d d′) o e X =
+agree {free} (r29 {P = P} {c = c} {t = t} {q = q} {r = r} d h) o e X =
+    runs-under (λ x. until0 c x q) _ (around-until (free .value) P X c (prog t) q (r .flag) (r .to) h (kept d)) (agree d (o .0) e X)
+agree {free} (r30 {P = P} {c = c} {t′ = t′} {q = q} d d′) o e X =
     runs-on _ STOP≢SUSP (grows d′) (agree d (o .0) e X) (
     comes-to
-    (λ b. ap (λ p. handled P c q (starts (second P p) q X) (own-wait P c X) (eval c X) (reads c X) t′) (sym (kept d)))
+    (λ b. ap (λ p. handled P c q (starts (free .value) (second P p) q X) (own-wait P c X) (eval c X) (reads c X) t′) (sym (kept d)))
     (agree d′ (rw (kept d) o) (end-kept d ∙ e) X)
     )
 agree (r31 {c = c} {t = t} {q = q} v h d) o e X =
@@ -184,5 +196,11 @@ agree (r31-on {c = c} {p = p} d) o e X = runs-in (until2 c p) refl (agree d (o .
 agree (r32 v h) o e X = absurd (false≢true (sym e ∙ h))
 agree (r33 {c = c} v) o e X = reads-so c false _ _ _ _ _ _ v e (stays STOP _ alike-same)
 agree (r34 v) o e X = stays SUSP _ only-waits
-agree (r35-39 {P = P} {E = E} {b = b} {s = s} {t = t} {r = r} d) o e X =
-    record { run = λ h w. local-meets X P E b s (settle (inside s P) t) r (grows d) (λ Y. agree d o e Y) h w }
+agree {free} (r35-39 {P = P} {E = E} {b = b} {s = s} {t = t} {r = r} d) o e X =
+    record { run = λ h w. local-meets (free .value) X P E b s (settle (free .value) (inside s P) t) r (grows d) (λ Y. agree d o e Y) h w }
+agree (if-true {v = v} {p = p} {q = q} h d) o e X =
+    chooses _ true _ _ h (runs-in (λ x. if1 v x q) refl (begins p (agree d (loops-fresh p (o .0)) e X)))
+agree (if-true-on {v = v} {q = q} d) o e X = runs-in (λ x. if1 v x q) refl (agree d (o .0) e X)
+agree (if-false {v = v} {p = p} {q = q} h d) o e X =
+    chooses _ false _ _ h (runs-in (if2 v p) refl (begins q (agree d (loops-fresh q (o .1)) e X)))
+agree (if-false-on {v = v} {p = p} d) o e X = runs-in (if2 v p) refl (agree d (o .1) e X)

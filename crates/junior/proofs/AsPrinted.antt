@@ -1,10 +1,10 @@
--- Read as 000 writes terms, a rewriting is one by the printed rules that does the same in the same order, and an instant an
+-- Read as 000 and 001 write terms, a rewriting is one by the printed rules that does the same in the same order, and an instant an
 -- instant by them.
 use Prim.Native.Nat.{ℕ, zero, suc, _-_}
 use native.Mathlib.Numerals.{sub-one}
 use native.Mathlib.Omega.{arith}
 use mathlib.Core.Bool.{Bool, true, false}
-use mathlib.Core.Path.{_≡_, refl, ap, ap₂, _∙_}
+use mathlib.Core.Path.{_≡_, refl, ap, ap₂, _∙_, subst⁻¹}
 use mathlib.Core.Logic.{_≢_, inl, inr}
 use mathlib.Core.List.{List, [], _∷_, _++_, append-nil}
 use Rattle.junior.specs.declared.Flag.{Flag}
@@ -12,20 +12,22 @@ use Rattle.junior.specs.declared.Flag.the-variants.{SUSP, STOP, TERM}
 use Rattle.junior.specs.declared.Verdict.the-variants.{Unknown}
 use Rattle.junior.specs.Configuration.{Env, with-event, verdict}
 use Rattle.junior.specs.Program.{Program}
+use Rattle.junior.specs.Values.{Values, Times, exactly, asked, runs-of}
 use Rattle.junior.specs.Term.{Term, local, prog, fresh, leave}
 use Rattle.junior.specs.Trace.{Place, Act, did-atom, did-generate, decided, waits, scope-answered}
 use Rattle.junior.specs.Rules.{left-first, Result, again, sign, Rewrites, r1, r1-on, r2, r3, r4, r4-on, r5, r8, r10, r11}
 use Rattle.junior.specs.Rules.{r12, r13, r4-loop, r5-loop, r14, r15, r4-repeat, r5-repeat, r16, r17, r17-on}
 use Rattle.junior.specs.Rules.{r18, r19, r19-on, r20, r21, r22, r23, r24, r25, r26, r27, r28, r29, r30, r31}
-use Rattle.junior.specs.Rules.{r31-on, r32, r33, r34, r35-39}
+use Rattle.junior.specs.Rules.{r31-on, r32, r33, r34, r35-39, if-true, if-true-on, if-false, if-false-on}
 use Rattle.junior.specs.Instant.{Instant, r47, r48, r49}
-use Rattle.junior.specs.Printed.{Abstract, Seq, Par, Repeat, Until, Control, Local-, leaves, tr, reads, Deed}
+use Rattle.junior.specs.Printed.{Abstract, Seq, Par, Repeat, repetition, Until, Control, Local-, leaves, tr, reads, Deed}
 use Rattle.junior.specs.Printed.{does, generates, finds, deeds}
-use Rattle.junior.specs.Printed.{_∣_—[_doing_]→_∣_, _∣_—[_doing_]—_passes→_∣_, rule1, rule2, rule3, rule4, rule5, rule8}
+use Rattle.junior.specs.Printed.{_⊢_∣_—[_doing_]→_∣_, _⊢_∣_—[_doing_]—_passes→_∣_, rule1, rule2, rule3, rule4, rule5, rule8}
 use Rattle.junior.specs.Printed.{rule10, rule11, rule12, rule13, rule14, rule15, rule16, rule17, rule18, rule19}
 use Rattle.junior.specs.Printed.{rule20, rule21, rule22, rule23, rule24, rule25, rule26, rule27, rule28, rule29}
 use Rattle.junior.specs.Printed.{rule30, rule31, rule32, rule33, rule34, rule35, rule36, rule37, rule38, rule39}
 use Rattle.junior.specs.Printed.{rule47, rule48, rule49}
+use Rattle.junior.specs.Printed.{if-true as if-true-printed, if-false as if-false-printed, repeat-ext}
 use Rattle.junior.proofs.Kept.{prog-fresh, kept}
 
 pub reads-fresh : (p : Program) → reads (fresh p) ≡ tr p
@@ -43,6 +45,7 @@ reads-fresh (Program.When c p q) = refl
 reads-fresh (Program.Until c p q) = ap (λ t. Until c t (tr q)) (reads-fresh p)
 reads-fresh (Program.Control s p) = ap (Control s) (reads-fresh p)
 reads-fresh (Program.Local s p) = ap (Local- s) (reads-fresh p)
+reads-fresh (Program.If v p q) = refl
 
 pub reads-leave : (α : Flag) (t : Term) → reads (leave α t) ≡ leaves α (reads t)
 unfolding reads leave leaves
@@ -63,7 +66,7 @@ leaves-twice STOP t = refl
 leaves-twice TERM t = refl
 
 -- by the printed rules too, what answers TERM leaves Nothing
-pub leaves-nothing : {t t′ : Abstract} {E E′ : Env} {α : Flag} {l : List Deed} → t ∣ E —[ α doing l ]→ t′ ∣ E′
+pub leaves-nothing : {eval : Values} {t t′ : Abstract} {E E′ : Env} {α : Flag} {l : List Deed} → eval ⊢ t ∣ E —[ α doing l ]→ t′ ∣ E′
     → leaves α t′ ≡ t′
 unfolding leaves
 leaves-nothing rule1 = refl
@@ -102,6 +105,9 @@ leaves-nothing (rule36 d h) = refl
 leaves-nothing (rule37 d) = refl
 leaves-nothing (rule38 d h) = rw leaves-twice
 leaves-nothing (rule39 d h) = rw leaves-twice
+leaves-nothing (if-true-printed h d) = leaves-nothing d
+leaves-nothing (if-false-printed h d) = leaves-nothing d
+leaves-nothing (repeat-ext h d) = leaves-nothing d
 
 deeds-++ : (l m : List Act) → deeds (l ++ m) ≡ deeds l ++ deeds m
 unfolding deeds
@@ -118,21 +124,29 @@ unfolding deeds
 deeds-scope l n α b = deeds-++ l _ ∙ append-nil (deeds l)
 
 -- what is left of a Repeat when k more runs are due answers as Repeat(k)
-runs-due : (n k : ℕ) (p : Program) {x : Abstract} {E F : Env} {α : Flag} {l : List Deed}
-    → reads (again n k p) ∣ E —[ α doing l ]→ x ∣ F
-    → Repeat k (tr p) ∣ E —[ α doing l ]→ x ∣ F
+runs-due : {eval : Values} (n : Times) (k : ℕ) (p : Program) {x : Abstract} {E F : Env} {α : Flag} {l : List Deed}
+    → eval ⊢ reads (again n k p) ∣ E —[ α doing l ]→ x ∣ F
+    → eval ⊢ Repeat k (tr p) ∣ E —[ α doing l ]→ x ∣ F
 unfolding reads
 runs-due n zero p rule1 = rule14 {n = 0} (omega arith)
-runs-due n (suc k) p {x} {E} {F} {α} {l} d =
+runs-due {eval} n (suc k) p {x} {E} {F} {α} {l} d =
     let e = simp (reads-fresh p, prog-fresh p) at d in
-    let e′ : Seq (tr p) (Repeat (suc k - 1) (tr p)) ∣ E —[ α doing l ]→ x ∣ F = rw sub-one e in
+    let e′ : eval ⊢ Seq (tr p) (Repeat (suc k - 1) (tr p)) ∣ E —[ α doing l ]→ x ∣ F = rw sub-one e in
     rule15 {n = suc k} (omega arith) e′
 
+-- a repetition answers as Repeat(k), k being how often it runs
+repeats : {eval : Values} (n : Times) (t : Abstract) {k : ℕ} {x : Abstract} {E F : Env} {α : Flag} {l : List Deed}
+    → runs-of eval n ≡ k
+    → eval ⊢ Repeat k t ∣ E —[ α doing l ]→ x ∣ F
+    → eval ⊢ repetition n t ∣ E —[ α doing l ]→ x ∣ F
+repeats {eval} (exactly n) t {x = x} {E} {F} {α} {l} h d = subst⁻¹ (λ k. eval ⊢ Repeat k t ∣ E —[ α doing l ]→ x ∣ F) h d
+repeats (asked v cap) t h d = repeat-ext h d
+
 -- rules 35 to 39, by sign, flag and whether the event is present
-scope-as-printed : (b : Bool) (α : Flag) (present : Bool) (s : ℕ) (t t′ : Term) {E F : Env} {l : List Deed}
+scope-as-printed : {eval : Values} (b : Bool) (α : Flag) (present : Bool) (s : ℕ) (t t′ : Term) {E F : Env} {l : List Deed}
     → F .now s ≡ present
-    → reads t ∣ with-event s b E —[ α doing l ]→ reads t′ ∣ F
-    → reads (local b s t) ∣ E —[ α doing l ]→ reads (leave α (local (sign b α present) s t′)) ∣ with-event s (E .now s) F
+    → eval ⊢ reads t ∣ with-event s b E —[ α doing l ]→ reads t′ ∣ F
+    → eval ⊢ reads (local b s t) ∣ E —[ α doing l ]→ reads (leave α (local (sign b α present) s t′)) ∣ with-event s (E .now s) F
 unfolding reads leave leaves
 scope-as-printed false SUSP false s t t′ h d = rule35 d h
 scope-as-printed false SUSP true s t t′ h d = rule36 d h
@@ -142,9 +156,9 @@ scope-as-printed true STOP present s t t′ h d = rule39 d (inr refl)
 scope-as-printed false TERM present s t t′ h d = rule38 d (inl refl)
 scope-as-printed true TERM present s t t′ h d = rule39 d (inl refl)
 
-pub as-printed : {P : Place} {t : Term} {E : Env} {r : Result}
-    → Rewrites left-first P t E r
-    → reads t ∣ E —[ r .flag doing deeds (r .acts) ]→ reads (r .to) ∣ r .env
+pub as-printed : {eval : Values} {P : Place} {t : Term} {E : Env} {r : Result}
+    → Rewrites (left-first eval) P t E r
+    → eval ⊢ reads t ∣ E —[ r .flag doing deeds (r .acts) ]→ reads (r .to) ∣ r .env
 unfolding reads deeds
 as-printed r1 = rule1
 as-printed r1-on = rule1
@@ -162,8 +176,8 @@ as-printed (r12 d h) =
 as-printed (r13 f d e) = rw deeds-++ (rule13 (rw reads-fresh at (as-printed d)) (as-printed e))
 as-printed (r4-loop d e) = rw deeds-++ (rule4 (as-printed d) (as-printed e))
 as-printed (r5-loop d h) = rw (reads-leave, leaves-on, kept d) (rule5 (as-printed d) h)
-as-printed r14 = rule14 {n = 0} (omega arith)
-as-printed (r15 {n = n} {p = p} d) = runs-due (suc n) (suc n) p (as-printed d)
+as-printed (r14 {n = n} {p = p} h) = repeats n (tr p) h (rule14 (omega arith))
+as-printed (r15 {n = n} {k = k} {p = p} h d) = repeats n (tr p) h (runs-due n (suc k) p (as-printed d))
 as-printed (r4-repeat {n = n} {k = k} {t = t} d e) =
     rw deeds-++ (rule4 (as-printed d) (runs-due n k (prog t) (as-printed e)))
 as-printed (r5-repeat d h) = rw (reads-leave, leaves-on, kept d) (rule5 (as-printed d) h)
@@ -194,10 +208,14 @@ as-printed (r33 s) = rule33 s
 as-printed (r34 s) = rule34 s
 as-printed (r35-39 {b = b} {s = s} {t = t} {r = r} d) =
     rw deeds-scope (scope-as-printed b (r .flag) (r .env .now s) s t (r .to) refl (as-printed d))
+as-printed (if-true h d) = rw (reads-leave, leaves-nothing (as-printed d)) (if-true-printed h (rw reads-fresh at (as-printed d)))
+as-printed (if-true-on d) = rw (reads-leave, leaves-nothing (as-printed d)) (as-printed d)
+as-printed (if-false h d) = rw (reads-leave, leaves-nothing (as-printed d)) (if-false-printed h (rw reads-fresh at (as-printed d)))
+as-printed (if-false-on d) = rw (reads-leave, leaves-nothing (as-printed d)) (as-printed d)
 
-pub instant-as-printed : {t : Term} {E : Env} {n : ℕ} {r : Result}
-    → Instant left-first t E n r
-    → reads t ∣ E —[ r .flag doing deeds (r .acts) ]— n passes→ reads (r .to) ∣ r .env
+pub instant-as-printed : {eval : Values} {t : Term} {E : Env} {n : ℕ} {r : Result}
+    → Instant (left-first eval) t E n r
+    → eval ⊢ reads t ∣ E —[ r .flag doing deeds (r .acts) ]— n passes→ reads (r .to) ∣ r .env
 instant-as-printed (r47 d h) = rule47 (as-printed d) h
 instant-as-printed (r48 d f m i) = rw deeds-++ (rule48 (rw f at (as-printed d)) m (instant-as-printed i))
 instant-as-printed (r49 d f m i) = rw deeds-++ (rule49 (rw f at (as-printed d)) m (instant-as-printed i))

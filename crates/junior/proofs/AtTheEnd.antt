@@ -13,7 +13,7 @@ use Rattle.junior.specs.Trace.{Place, Act, decided, scope-answered}
 use Rattle.junior.specs.Rules.{Allowed, Result, Rewrites, r1, r1-on, r2, r3, r4, r4-on, r5, r8, r9, r10, r11, r12}
 use Rattle.junior.specs.Rules.{r13, r4-loop, r5-loop, r14, r15, r4-repeat, r5-repeat, r16, r17, r17-on, r18}
 use Rattle.junior.specs.Rules.{r19, r19-on, r20, r21, r22, r23, r24, r25, r26, r27, r28, r29, r30, r31, r31-on}
-use Rattle.junior.specs.Rules.{r32, r33, r34, r35-39}
+use Rattle.junior.specs.Rules.{r32, r33, r34, r35-39, if-true, if-true-on, if-false, if-false-on}
 use Rattle.junior.specs.Instant.{Instant, r47, r48, r49}
 use Rattle.junior.specs.Decided.{last-answers, by-scope, finished}
 use Rattle.junior.specs.Waited.{lacks, Wait, waits-for, first-wait, before-the-end, waited}
@@ -103,8 +103,8 @@ module _ (F : Events) (w : Wait) where
   ends-lacking k (r13 f d d′) c e b a h = absurd b
   ends-lacking k (r4-loop d d′) c e b a h = absurd (TERM≢STOP (idles d e b .stops))
   ends-lacking k (r5-loop d n) c e b a h = ends-lacking k d (further (omega arith) c) e b a h
-  ends-lacking k r14 c e b a h = absurd b
-  ends-lacking k (r15 d) c e b a h = absurd b
+  ends-lacking k (r14 n) c e b a h = absurd b
+  ends-lacking k (r15 n d) c e b a h = absurd b
   ends-lacking k (r4-repeat d d′) c e b a h = absurd (TERM≢STOP (idles d e b .stops))
   ends-lacking k (r5-repeat d n) c e b a h = ends-lacking k d (further (omega arith) c) e b a h
   ends-lacking k r16 c e b a h = absurd b
@@ -139,6 +139,10 @@ module _ (F : Events) (w : Wait) where
       let own = status-own (r .flag) (P .node) (r .env .now s) (last-answers k) (ended d e) in
       let a′ = ahead-inside F (r .flag) (r .env) s (E .now s) _ c (λ x. ended d e) (λ x. own ∙ x) a in
       regrouped (r .acts) m k (ends-lacking (m ++ k) d (around-body s c) e b a′ h)
+  ends-lacking k (if-true n d) c e b a h = absurd b
+  ends-lacking k (if-true-on d) c e b a h = ends-lacking k d (further (omega arith) c) e b a h
+  ends-lacking k (if-false n d) c e b a h = absurd b
+  ends-lacking k (if-false-on d) c e b a h = ends-lacking k d (further (omega arith) c) e b a h
 
 last-pass-lacks : {free : Allowed} {t : Term} {E : Env} {n : ℕ} {r : Result} (w : Wait) → Instant free t E n r
     → E .eoi ≡ true

@@ -17,7 +17,7 @@ counted-so = record {
       (r47 (r8 (r5 (r24 refl) STOP≢TERM) (r24 refl)) STOP≢SUSP)) refl
       (next (r47 (r8 (r4 (r22 refl refl) (r4 r3 r16)) (r22 refl refl)) TERM≢SUSP) refl
       (next (r47 r1-on TERM≢SUSP) refl no-more));
-  of-Repeat = next (r47 (r15 (r4-repeat r3 (r4-repeat r3 (r4-repeat r3 r1-on)))) TERM≢SUSP) refl no-more;
+  of-Repeat = next (r47 (r15 refl (r4-repeat r3 (r4-repeat r3 (r4-repeat r3 r1-on)))) TERM≢SUSP) refl no-more;
   of-Loop =
       next (r47 (r12 (r4 (r22 refl refl) r2) STOP≢TERM) STOP≢SUSP) refl
       (next (r47 (r4-loop (r4-on r1-on) (r12 (r4 (r22 refl refl) r2) STOP≢TERM)) STOP≢SUSP) refl

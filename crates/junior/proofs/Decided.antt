@@ -13,13 +13,14 @@ use Rattle.junior.specs.Trace.{Place, root, Act, scope-answered, generat
 use Rattle.junior.specs.Rules.{Allowed, Result, Rewrites, r1, r1-on, r2, r3, r4, r4-on, r5, r8, r9, r10, r11, r12, r13}
 use Rattle.junior.specs.Rules.{r4-loop, r5-loop, r14, r15, r4-repeat, r5-repeat, r16, r17, r17-on, r18, r19}
 use Rattle.junior.specs.Rules.{r19-on, r20, r21, r22, r23, r24, r25, r26, r27, r28, r29, r30, r31, r31-on, r32}
-use Rattle.junior.specs.Rules.{r33, r34, r35-39}
+use Rattle.junior.specs.Rules.{r33, r34, r35-39, if-true, if-true-on, if-false, if-false-on}
 use Rattle.junior.specs.Instant.{Instant, r47, r48, r49}
 use Rattle.junior.specs.Course.{IdleOnceEnded}
 use Rattle.junior.specs.AtRest.{AtRest}
 use Rattle.junior.specs.Decided.{last-answers, finished, DecidedRight}
 use Rattle.junior.specs.Inside.{Going, Remains, Controlled}
 use Rattle.junior.proofs.Little.{put-at}
+use Rattle.junior.proofs.Times.{below-most}
 use Rattle.junior.proofs.Kept.{kept}
 use Rattle.junior.proofs.Verdicts.{present}
 use Rattle.junior.proofs.Grows.{grows, end-kept, unchanged}
@@ -109,8 +110,8 @@ module _ (F : Events) where
       (pass-right (r .acts ++ k) d (further (omega arith) c) g (earlier F k e c a) (b .0, o))
   pass-right k (r5-loop {r = r} d n) c g a h =
       pass-right k d (further (omega arith) c) g a (part r _ _ _ k (stands d g) (λ o. o) h)
-  pass-right k r14 c g a h = (h .0, tt)
-  pass-right k (r15 {p = p} d) c g a h = (pass-right k d c (omega arith, fresh-going _ p) a h .0, tt)
+  pass-right k (r14 e) c g a h = (h .0, tt)
+  pass-right k (r15 {n = n} {p = p} e d) c g a h = (pass-right k d c (below-most _ n e, fresh-going _ p) a h .0, tt)
   pass-right k (r4-repeat {n = n} {k = m} {t = t} {t′ = t′} {l = l} {r = r} d e) c g a h =
       let b = pass-right k e c (again-going _ n m (prog t) (g .0)) a h in
       let o = rest-open t′ _ _ (over-rest t′ (stands d (g .1))) in
@@ -167,6 +168,16 @@ module _ (F : Events) where
       let y = pass-right (m ++ k) d (around-body s c) g a′ (h .0, o) in
       let own = elsewhere (between d) (m ++ k) (P .node) (omega arith) in
       rw (append-assoc (r .acts) m k) (y .0, (λ e. own ∙ p (grows d s (put-at s b (E .now) ∙ e)), y .1))
+  pass-right k (if-true {p = p} {r = r} e d) c g a h =
+      let f = fresh-going _ p in
+      (pass-right k d (further (omega arith) c) f a (part r _ _ _ k (stands d f) (λ o. o) h) .0, tt)
+  pass-right k (if-true-on {r = r} d) c g a h =
+      pass-right k d (further (omega arith) c) g a (part r _ _ _ k (stands d g) (λ o. o) h)
+  pass-right k (if-false {q = q} {r = r} e d) c g a h =
+      let f = fresh-going _ q in
+      (pass-right k d (further (omega arith) c) f a (part r _ _ _ k (stands d f) (λ o. o) h) .0, tt)
+  pass-right k (if-false-on {r = r} d) c g a h =
+      pass-right k d (further (omega arith) c) g a (part r _ _ _ k (stands d g) (λ o. o) h)
 
   pass-back : {free : Allowed} {t : Term} {E : Env} {r : Result} (k : List Act) → Rewrites free root t E r
       → Going (E .now) t

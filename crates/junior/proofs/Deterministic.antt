@@ -3,25 +3,31 @@ use Prim.Native.Nat.{ℕ, suc}
 use mathlib.Core.Bool.{true, false}
 use mathlib.Core.Path.{_≡_, refl, ap, ap₂, sym, _∙_, subst⁻¹}
 use mathlib.Core.List.{[], _∷_, _++_}
+use native.Mathlib.Omega.{arith}
 use Rattle.junior.specs.Configuration.{Event, Env, declared-end, unmoved}
+use Rattle.junior.specs.Values.{Values}
 use Rattle.junior.specs.Term.{Term, prog, seq0, seq2, loop1, repeat1, when1, when2, until0, until*, until2}
-use Rattle.junior.specs.Term.{control}
+use Rattle.junior.specs.Term.{control, if1, if2, fresh}
 use Rattle.junior.specs.Trace.{Place, decided}
 use Rattle.junior.specs.Rules.{left-first, Result, under, after, joined, left-scope, Rewrites, r1, r1-on, r2, r3, r4, r4-on}
 use Rattle.junior.specs.Rules.{r5, r8, r10, r11, r12, r13, r4-loop, r5-loop, r14, r15, r4-repeat, r5-repeat}
 use Rattle.junior.specs.Rules.{r16, r17, r17-on, r18, r19, r19-on, r20, r21, r22, r23, r24, r25, r26, r27, r28}
-use Rattle.junior.specs.Rules.{r29, r30, r31, r31-on, r32, r33, r34, r35-39}
+use Rattle.junior.specs.Rules.{r29, r30, r31, r31-on, r32, r33, r34, r35-39, if-true, if-true-on, if-false, if-false-on}
 use Rattle.junior.specs.Instant.{Instant, r47, r48, r49}
 
 same-flag : {r s : Result} → r ≡ s → r .flag ≡ s .flag
 same-flag x = ap (λ r. r .flag) x
 
 -- what runs in the environment that s left runs in the one that r left, r being s
-from : {P : Place} {t : Term} {r s u : Result} → r ≡ s → Rewrites left-first P t (s .env) u → Rewrites left-first P t (r .env) u
-from {P} {t} {u = u} x d = subst⁻¹ (λ r. Rewrites left-first P t (r .env) u) x d
+from : {value : Values} {P : Place} {t : Term} {r s u : Result} → r ≡ s → Rewrites (left-first value) P t (s .env) u
+    → Rewrites (left-first value) P t (r .env) u
+from {value} {P} {t} {u = u} x d = subst⁻¹ (λ r. Rewrites (left-first value) P t (r .env) u) x d
 
 -- by one rule twice, the answers are one as the parts' are; by two rules, a flag or a test would have to be two
-pub one-result : {P : Place} {t : Term} {E : Env} {r s : Result} → Rewrites left-first P t E r → Rewrites left-first P t E s → r ≡ s
+pub one-result : {value : Values} {P : Place} {t : Term} {E : Env} {r s : Result}
+    → Rewrites (left-first value) P t E r
+    → Rewrites (left-first value) P t E s
+    → r ≡ s
 one-result r1 r1 = refl
 one-result r1-on r1-on = refl
 one-result r2 r2 = refl
@@ -59,8 +65,12 @@ one-result (r4-loop d e) (r4-loop d′ e′) =
 one-result (r4-loop d e) (r5-loop d′ h) = absurd (h (sym (same-flag (one-result d d′))))
 one-result (r5-loop d h) (r4-loop d′ e) = absurd (h (same-flag (one-result d d′)))
 one-result (r5-loop d h) (r5-loop d′ h′) = ap (under loop1) (one-result d d′)
-one-result r14 r14 = refl
-one-result (r15 d) (r15 d′) = one-result d d′
+one-result (r14 h) (r14 h′) = refl
+one-result (r14 h) (r15 h′ d′) = absurd (omega (arith, sym h ∙ h′))
+one-result (r15 h d) (r14 h′) = absurd (omega (arith, sym h ∙ h′))
+one-result {value = value} (r15 {P = P} {E = E} {n = n} {k = k} {p = p} h d) (r15 {k = k′} {r = s} h′ d′) =
+    let same : k ≡ k′ = omega (arith, sym h ∙ h′) in
+    one-result d (subst⁻¹ (λ k. Rewrites (left-first value) P (repeat1 n k (fresh p)) E s) same d′)
 one-result (r4-repeat d e) (r4-repeat d′ e′) =
     let x = one-result d d′ in
     ap₂ (λ r. after (r .acts)) x (one-result e (from x e′))
@@ -126,9 +136,9 @@ one-result (r28 h) (r28 h′) = refl
 one-result (r29 {c = c} {q = q} d h) (r29 d′ h′) = ap (under (λ t. until0 c t q)) (one-result d d′)
 one-result (r29 d h) (r30 d′ e) = absurd (h (same-flag (one-result d d′)))
 one-result (r30 d e) (r29 d′ h) = absurd (h (sym (same-flag (one-result d d′))))
-one-result (r30 {P = P} {c = c} {q = q} d e) (r30 {E′ = F} {r = s} d′ e′) =
+one-result {value = value} (r30 {P = P} {c = c} {q = q} d e) (r30 {E′ = F} {r = s} d′ e′) =
     let x = one-result d d′ in
-    let y = one-result e (from x (subst⁻¹ (λ t. Rewrites left-first P (until* c t q) F s) (ap (λ r. r .to) x) e′)) in
+    let y = one-result e (from x (subst⁻¹ (λ t. Rewrites (left-first value) P (until* c t q) F s) (ap (λ r. r .to) x) e′)) in
     ap₂ (λ r. after (r .acts)) x y
 one-result (r31 {P = P} {E = E} {c = c} {t = t} s h d) (r31 s′ h′ d′) =
     ap (λ r. after (decided P c true E ∷ []) (under (until2 c (prog t)) r)) (one-result d d′)
@@ -149,23 +159,29 @@ one-result (r34 s) (r32 s′ h′) = cc
 one-result (r34 s) (r33 s′) = cc
 one-result (r34 s) (r34 s′) = refl
 one-result (r35-39 {P = P} {E = E} {b = b} {s = s} d) (r35-39 d′) = ap (left-scope P b s E) (one-result d d′)
+one-result (if-true {v = v} {q = q} h d) (if-true h′ d′) = ap (under (λ t. if1 v t q)) (one-result d d′)
+one-result (if-true h d) (if-false h′ d′) = cc
+one-result (if-true-on {v = v} {q = q} d) (if-true-on d′) = ap (under (λ t. if1 v t q)) (one-result d d′)
+one-result (if-false h d) (if-true h′ d′) = cc
+one-result (if-false {v = v} {p = p} h d) (if-false h′ d′) = ap (under (if2 v p)) (one-result d d′)
+one-result (if-false-on {v = v} {p = p} d) (if-false-on d′) = ap (under (if2 v p)) (one-result d d′)
 
-pub one-outcome : {t : Term} {E : Env} {m n : ℕ} {r s : Result}
-    → Instant left-first t E m r
-    → Instant left-first t E n s
+pub one-outcome : {value : Values} {t : Term} {E : Env} {m n : ℕ} {r s : Result}
+    → Instant (left-first value) t E m r
+    → Instant (left-first value) t E n s
     → (m ≡ n) × (r ≡ s)
 one-outcome (r47 d h) (r47 d′ h′) = (refl, one-result d d′)
 one-outcome (r47 d h) (r48 d′ f m i) = absurd (h (same-flag (one-result d d′) ∙ f))
 one-outcome (r47 d h) (r49 d′ f m i) = absurd (h (same-flag (one-result d d′) ∙ f))
 one-outcome (r48 d f m i) (r47 d′ h) = absurd (h (sym (same-flag (one-result d d′)) ∙ f))
-one-outcome (r48 d f m i) (r48 {n = n} {s = s} d′ f′ m′ i′) =
+one-outcome {value = value} (r48 d f m i) (r48 {n = n} {s = s} d′ f′ m′ i′) =
     let x = one-result d d′ in
-    let o = one-outcome i (subst⁻¹ (λ r. Instant left-first (r .to) (declared-end (r .env)) n s) x i′) in
+    let o = one-outcome i (subst⁻¹ (λ r. Instant (left-first value) (r .to) (declared-end (r .env)) n s) x i′) in
     (ap suc (o .0), ap₂ (λ r. after (r .acts)) x (o .1))
 one-outcome (r48 d f m i) (r49 d′ f′ m′ i′) = let x = one-result d d′ in (cc, cc)
 one-outcome (r49 d f m i) (r47 d′ h) = absurd (h (sym (same-flag (one-result d d′)) ∙ f))
 one-outcome (r49 d f m i) (r48 d′ f′ m′ i′) = let x = one-result d d′ in (cc, cc)
-one-outcome (r49 d f m i) (r49 {n = n} {s = s} d′ f′ m′ i′) =
+one-outcome {value = value} (r49 d f m i) (r49 {n = n} {s = s} d′ f′ m′ i′) =
     let x = one-result d d′ in
-    let o = one-outcome i (subst⁻¹ (λ r. Instant left-first (r .to) (unmoved (r .env)) n s) x i′) in
+    let o = one-outcome i (subst⁻¹ (λ r. Instant (left-first value) (r .to) (unmoved (r .env)) n s) x i′) in
     (ap suc (o .0), ap₂ (λ r. after (r .acts)) x (o .1))

@@ -11,13 +11,13 @@ use Rattle.junior.specs.declared.Flag.the-variants.{SUSP, STOP, TERM}
 use Rattle.junior.specs.Flags.{γ, δ₁, δ₂}
 use Rattle.junior.specs.Configuration.{Config, Event, Env, declared-end, handed-in, unknown}
 use Rattle.junior.specs.Term.{Term, done, nothing, stop, atom, generate, await, seq0, seq2, par, loop0, loop1}
-use Rattle.junior.specs.Term.{repeat0, repeat1, when0, when1, when2, until0, until*, until2, control, local}
+use Rattle.junior.specs.Term.{repeat0, repeat1, when0, when1, when2, until0, until*, until2, control, local, if0, if1, if2}
 use Rattle.junior.specs.Term.{leave}
 use Rattle.junior.specs.Trace.{Place, Act, decided, scope-answered, atom-of, event-of, collect, generations}
 use Rattle.junior.specs.Rules.{Allowed, Result, sign, Rewrites, r1, r1-on, r2, r3, r4, r4-on, r5, r8, r9, r10, r11, r12}
 use Rattle.junior.specs.Rules.{r13, r4-loop, r5-loop, r14, r15, r4-repeat, r5-repeat, r16, r17, r17-on, r18}
 use Rattle.junior.specs.Rules.{r19, r19-on, r20, r21, r22, r23, r24, r25, r26, r27, r28, r29, r30, r31, r31-on}
-use Rattle.junior.specs.Rules.{r32, r33, r34, r35-39}
+use Rattle.junior.specs.Rules.{r32, r33, r34, r35-39, if-true, if-true-on, if-false, if-false-on}
 use Rattle.junior.specs.Instant.{Instant, r47, r48, r49}
 use Rattle.junior.specs.Course.{Idle, IdleOnceEnded}
 use Rattle.junior.proofs.Little.{STOP≢SUSP, TERM≢SUSP, TERM≢STOP, collect-++, collect-none, put-at}
@@ -53,8 +53,8 @@ ended (r12 d h) e = ended d e
 ended (r13 f d d′) e = ended d′ (end-kept d ∙ e)
 ended (r4-loop d d′) e = ended d′ (end-kept d ∙ e)
 ended (r5-loop d h) e = ended d e
-ended r14 e = TERM≢SUSP
-ended (r15 d) e = ended d e
+ended (r14 h) e = TERM≢SUSP
+ended (r15 h d) e = ended d e
 ended (r4-repeat d d′) e = ended d′ (end-kept d ∙ e)
 ended (r5-repeat d h) e = ended d e
 ended r16 e = TERM≢SUSP
@@ -80,6 +80,10 @@ ended (r32 v h) e = STOP≢SUSP
 ended (r33 v) e = STOP≢SUSP
 ended (r34 {E = E} {c = c} v) e = absurd (known-at-end c E e v)
 ended (r35-39 d) e = ended d e
+ended (if-true h d) e = ended d e
+ended (if-true-on d) e = ended d e
+ended (if-false h d) e = ended d e
+ended (if-false-on d) e = ended d e
 
 -- t waits, the events X being present: all that would run in it is a test, unknown in X before the end
 unfoldable pub Blocked : Events → Term → Type 0
@@ -104,6 +108,9 @@ Blocked X (until* c t q) = unknown c (handed-in X)
 Blocked X (until2 c p t) = Blocked X t
 Blocked X (control s t) = X s ≡ true → Blocked X t
 Blocked X (local b s t) = Blocked (put s b X) t
+Blocked X (if0 v p q) = ⊥
+Blocked X (if1 v t q) = Blocked X t
+Blocked X (if2 v p t) = Blocked X t
 
 pub leave-susp : (α : Flag) (t : Term) → α ≡ SUSP → leave α t ≡ t
 unfolding leave
@@ -201,8 +208,8 @@ blocks (r12 d h) q f = rw leave-susp (blocks d q f)
 blocks (r13 {r = r} x d e) q f = behind d r q (λ k. blocks e k f)
 blocks (r4-loop {r = r} d e) q f = behind d r q (λ k. blocks e k f)
 blocks (r5-loop d h) q f = rw leave-susp (blocks d q f)
-blocks r14 q f = TERM≢SUSP f
-blocks (r15 d) q f = blocks d q f
+blocks (r14 h) q f = TERM≢SUSP f
+blocks (r15 h d) q f = blocks d q f
 blocks (r4-repeat {r = r} d e) q f = behind d r q (λ k. blocks e k f)
 blocks (r5-repeat d h) q f = rw leave-susp (blocks d q f)
 blocks r16 q f = TERM≢SUSP f
@@ -231,6 +238,10 @@ blocks (r35-39 {E = E} {b = b} {s = s} {r = r} d) q f =
     let k = collect-none event-of (r .acts) (_ ∷ []) q .0 in
     let same : r .env .now s ≡ b = ap (λ F. F .now s) (unchanged d k) ∙ put-at s b (E .now) in
     rw (leave-susp, sign-kept b (r .env .now s) (r .flag) same f) (blocks d k f)
+blocks (if-true h d) q f = rw leave-susp (blocks d q f)
+blocks (if-true-on d) q f = rw leave-susp (blocks d q f)
+blocks (if-false h d) q f = rw leave-susp (blocks d q f)
+blocks (if-false-on d) q f = rw leave-susp (blocks d q f)
 
 -- so where a pass answers SUSP and moved nothing, all that is left waits
 pub blocked : {free : Allowed} {P : Place} {t : Term} {E : Env} {r : Result}
@@ -298,8 +309,8 @@ idles (r12 d h) e b = absurd b
 idles (r13 f d d′) e b = absurd b
 idles (r4-loop d d′) e b = absurd (TERM≢STOP (idles d e b .stops))
 idles (r5-loop d h) e b = idles d e b
-idles r14 e b = absurd b
-idles (r15 d) e b = absurd b
+idles (r14 h) e b = absurd b
+idles (r15 h d) e b = absurd b
 idles (r4-repeat d d′) e b = absurd (TERM≢STOP (idles d e b .stops))
 idles (r5-repeat d h) e b = idles d e b
 idles r16 e b = absurd b
@@ -332,6 +343,10 @@ idles (r34 {E = E} {c = c} v) e b = absurd (known-at-end c E e v)
 idles (r35-39 d) e b =
     let i = idles d e b in
     idle-++ (i .stops) i idle-scope
+idles (if-true h d) e b = absurd b
+idles (if-true-on d) e b = idles d e b
+idles (if-false h d) e b = absurd b
+idles (if-false-on d) e b = idles d e b
 
 -- the pass after the end is declared, wherever it starts from
 pub after-end : {free : Allowed} {P Q : Place} {t : Term} {E : Env} {r s : Result}

@@ -13,13 +13,14 @@ use Rattle.junior.specs.declared.Verdict.the-variants.{Unknown}
 use Rattle.junior.specs.Flags.{γ}
 use Rattle.junior.specs.Configuration.{Config, Event, Env, verdict, eval, test}
 use Rattle.junior.specs.Program.{Program}
-use Rattle.junior.specs.Term.{Term, seq0, seq2, loop1, repeat1, when1, when2, until0, until2, control, local}
+use Rattle.junior.specs.Values.{Values}
+use Rattle.junior.specs.Term.{Term, seq0, seq2, loop1, repeat1, when1, when2, until0, until2, control, local, if1, if2}
 use Rattle.junior.specs.Term.{prog, fresh, leave}
 use Rattle.junior.specs.Trace.{Place, first, second, inside, Act, decided, scope-answered}
 use Rattle.junior.specs.Rules.{Allowed, Result, answers, joined, Rewrites, r1, r1-on, r2, r3, r4, r4-on, r5, r8}
 use Rattle.junior.specs.Rules.{r9, r10, r11, r12, r13, r4-loop, r5-loop, r14, r15, r4-repeat, r5-repeat, r16, r17}
 use Rattle.junior.specs.Rules.{r17-on, r18, r19, r19-on, r20, r21, r22, r23, r24, r25, r26, r27, r28, r29, r30}
-use Rattle.junior.specs.Rules.{r31, r31-on, r32, r33, r34, r35-39}
+use Rattle.junior.specs.Rules.{r31, r31-on, r32, r33, r34, r35-39, if-true, if-true-on, if-false, if-false-on}
 use Rattle.junior.specs.Waited.{Wait}
 use Rattle.junior.specs.Order.{decides}
 use Rattle.junior.proofs.Little.{STOP≢SUSP, TERM≢SUSP, TERM≢STOP}
@@ -107,30 +108,30 @@ at-last-same STOP h = refl
 at-last-same TERM h = refl
 
 -- a Local that waits keeps its event as it was
-end-scoped : (P : Place) (X : Events) (b : Bool) (s : ℕ) (t u : Term) (w : Option Wait) (l : List Act) (n : ℕ) (α : Flag) (v : Bool)
-    → settle (inside s P) t (put s b X) ≡ closing w SUSP u l
-    → settle P (local b s t) X ≡ closing w SUSP (local false s u) (l ++ (scope-answered n α v ∷ []))
+end-scoped : (value : Values) (P : Place) (X : Events) (b : Bool) (s : ℕ) (t u : Term) (w : Option Wait) (l : List Act) (n : ℕ) (α : Flag) (v : Bool)
+    → settle value (inside s P) t (put s b X) ≡ closing w SUSP u l
+    → settle value P (local b s t) X ≡ closing w SUSP (local false s u) (l ++ (scope-answered n α v ∷ []))
 unfolding settle scoped hidden leave
-end-scoped P X b s t u w l n α v e =
-    ap (λ v. hidden s (settle (inside s P) t (put s v X))) (kept-out b e)
+end-scoped value P X b s t u w l n α v e =
+    ap (λ v. hidden s (settle value (inside s P) t (put s v X))) (kept-out b e)
     ∙ (ap (hidden s) e
     ∙ (ap (λ g. out SUSP (local false s u) g (λ a. 0) (λ n b. decides n b l) w) (put-none s)
     ∙ same-tests SUSP (local false s u) w (alike-noted l n α v .tests-alike)))
   where
-    kept-out : (b : Bool) → settle (inside s P) t (put s b X) ≡ closing w SUSP u l
-        → (b || settle (inside s P) t (put s false X) .gens s) ≡ b
+    kept-out : (b : Bool) → settle value (inside s P) t (put s b X) ≡ closing w SUSP u l
+        → (b || settle value (inside s P) t (put s false X) .gens s) ≡ b
     kept-out true e = refl
     kept-out false e = ap (λ o. o .gens s) e
 
 -- t at P, which waits in E, comes to what the pass after the end did, r
-abbrev pub EndsAs : Place → Term → Env → Result → Type 0
-EndsAs P t E r = settle P t (E .now) ≡ closing (waiting-in (P .node) t (E .now)) SUSP (r .to) (r .acts)
+abbrev pub EndsAs : Values → Place → Term → Env → Result → Type 0
+EndsAs value P t E r = settle value P t (E .now) ≡ closing (waiting-in (P .node) t (E .now)) SUSP (r .to) (r .acts)
 
 pub ends-as : {free : Allowed} {P : Place} {t : Term} {E : Env} {r : Result}
     → Rewrites free P t E r
     → E .eoi ≡ true
     → Blocked (E .now) t
-    → EndsAs P t E r
+    → EndsAs (free .value) P t E r
 unfolding Blocked settle starts handled steered says leave decides waiting-in
 ends-as r1 e b = absurd b
 ends-as r1-on e b = absurd b
@@ -139,25 +140,25 @@ ends-as r3 e b = absurd b
 ends-as (r4 d d′) e b = absurd (TERM≢STOP (idles d e b .stops))
 ends-as (r4-on {p = p} {r = r} d) e b = end-under (seq2 p) _ r _ refl (idles d e b .stops) (ends-as d e b)
 ends-as (r5 {q = q} {r = r} d h) e b = end-under (λ x. seq0 x q) _ r _ refl (idles d e b .stops) (ends-as d e b)
-ends-as (r8 {P = P} {t = t} {u = u} {r = r} {s = s} d d′) e b =
+ends-as {free} (r8 {P = P} {t = t} {u = u} {r = r} {s = s} d d′) e b =
     let i = idles d e (b .1 refl) in
     let same = unchanged d (i .no-event) in
     let b′ = subst (λ F. Blocked (F .now) u) (sym same) (b .2 refl) in
-    let j = subst (λ F. EndsAs (second P (prog t)) u F s) same (ends-as d′ (end-kept d ∙ e) b′) in
+    let j = subst (λ F. EndsAs (free .value) (second P (prog t)) u F s) same (ends-as d′ (end-kept d ∙ e) b′) in
     end-both SUSP SUSP r s _ _ (i .stops) (idles d′ (end-kept d ∙ e) b′ .stops) refl alike-same (ends-as d e (b .1 refl)) j
-ends-as (r9 {P = P} {t = t} {r = r} {s = s} f d′ d) e b =
+ends-as {free} (r9 {P = P} {t = t} {r = r} {s = s} f d′ d) e b =
     let i = idles d′ e (b .2 refl) in
     let same = unchanged d′ (i .no-event) in
     let b′ = subst (λ F. Blocked (F .now) t) (sym same) (b .1 refl) in
-    let j = subst (λ F. EndsAs (first P) t F r) same (ends-as d (end-kept d′ ∙ e) b′) in
+    let j = subst (λ F. EndsAs (free .value) (first P) t F r) same (ends-as d (end-kept d′ ∙ e) b′) in
     let k = alike-swapped (r .acts) (s .acts) in
     end-both SUSP SUSP r s _ _ (idles d (end-kept d′ ∙ e) b′ .stops) (i .stops) refl k j (ends-as d′ e (b .2 refl))
-ends-as (r10 {P = P} {E = E} {β = β} {t = t} {u = u} {r = r} h d) e b =
-    let j = branch-idle β u (settle (second P (prog t)) u (E .now)) h in
+ends-as {free} (r10 {P = P} {E = E} {β = β} {t = t} {u = u} {r = r} h d) e b =
+    let j = branch-idle β u (settle (free .value) (second P (prog t)) u (E .now)) h in
     let w = b .1 refl in
     end-both SUSP β r (answers β u E []) _ _ (idles d e w .stops) (at-last-same β h) (b .0) (alike-nil (r .acts)) (ends-as d e w) j
-ends-as (r11 {P = P} {E = E} {α = α} {t = t} {r = r} h d) e b =
-    let j = branch-idle α t (settle (first P) t (E .now)) h in
+ends-as {free} (r11 {P = P} {E = E} {α = α} {t = t} {r = r} h d) e b =
+    let j = branch-idle α t (settle (free .value) (first P) t (E .now)) h in
     let w = b .2 refl in
     let u = joined α (r .flag) t (r .to) (r .env) (r .acts) .to in
     end-both α SUSP (answers α t E []) r none _ (at-last-same α h) (idles d e w .stops) (b .0) alike-same j (ends-as d e w)
@@ -166,8 +167,8 @@ ends-as (r12 d h) e b = absurd b
 ends-as (r13 f d d′) e b = absurd b
 ends-as (r4-loop d d′) e b = absurd (TERM≢STOP (idles d e b .stops))
 ends-as (r5-loop {r = r} d h) e b = end-under loop1 _ r _ refl (idles d e b .stops) (ends-as d e b)
-ends-as r14 e b = absurd b
-ends-as (r15 d) e b = absurd b
+ends-as (r14 h) e b = absurd b
+ends-as (r15 h d) e b = absurd b
 ends-as (r4-repeat d d′) e b = absurd (TERM≢STOP (idles d e b .stops))
 ends-as (r5-repeat {n = n} {k = k} {r = r} d h) e b = end-under (repeat1 n k) _ r _ refl (idles d e b .stops) (ends-as d e b)
 ends-as r16 e b = absurd b
@@ -183,7 +184,7 @@ ends-as (r22 v h) e b = absurd (false≢true (sym h ∙ e))
 ends-as (r23 {P = P} {E = E} {c = c} v h) e b = end-read P c E true _ _ _ _ _ b v
 ends-as (r24 {P = P} {E = E} {c = c} v) e b = end-read P c E false _ _ _ _ _ b v
 ends-as (r25 {E = E} {c = c} v) e b = absurd (known-at-end c E e v)
-ends-as (r26 {P = P} {E = E} {s = s} {t = t} {r = r} v d) e b =
+ends-as (r26 {P = P} {E = E} {s = s} {r = r} v d) e b =
     let here = present s E v in
     let w = end-under (control s) _ r _ refl (idles d e (b here) .stops) (ends-as d e (b here)) in
     rw here (ap (says P true) w)
@@ -201,5 +202,9 @@ ends-as (r31-on {c = c} {p = p} {r = r} d) e b = end-under (until2 c p) _ r _ re
 ends-as (r32 {P = P} {E = E} {c = c} v h) e b = end-read P c E true _ _ _ _ _ b v
 ends-as (r33 {P = P} {E = E} {c = c} v) e b = end-read P c E false _ _ _ _ _ b v
 ends-as (r34 {E = E} {c = c} v) e b = absurd (known-at-end c E e v)
-ends-as (r35-39 {P = P} {E = E} {b = b′} {s = s} {t = t} {r = r} d) e b =
-    rw (idles d e b .stops) (end-scoped P (E .now) b′ s t (r .to) _ (r .acts) _ _ _ (ends-as d e b))
+ends-as {free} (r35-39 {P = P} {E = E} {b = b′} {s = s} {t = t} {r = r} d) e b =
+    rw (idles d e b .stops) (end-scoped (free .value) P (E .now) b′ s t (r .to) _ (r .acts) _ _ _ (ends-as d e b))
+ends-as (if-true h d) e b = absurd b
+ends-as (if-true-on {v = v} {q = q} {r = r} d) e b = end-under (λ x. if1 v x q) _ r _ refl (idles d e b .stops) (ends-as d e b)
+ends-as (if-false h d) e b = absurd b
+ends-as (if-false-on {v = v} {p = p} {r = r} d) e b = end-under (if2 v p) _ r _ refl (idles d e b .stops) (ends-as d e b)

@@ -11,16 +11,17 @@ use Rattle.junior.specs.declared.Verdict.{Verdict}
 use Rattle.junior.specs.declared.Verdict.the-variants.{Sat, Unsat, Unknown}
 use Rattle.junior.specs.Configuration.{Config, Event, Env, with-event, eval, test}
 use Rattle.junior.specs.Program.{Program, Nothing, Stop, Atom, Seq, Par, Loop, Repeat, Generate, Await, When}
-use Rattle.junior.specs.Program.{Until, Control, Local}
+use Rattle.junior.specs.Program.{Until, Control, Local, If}
+use Rattle.junior.specs.Values.{Times, nonzero, runs-of}
 use Rattle.junior.specs.Term.{Term, done, nothing, stop, atom, generate, await, seq0, seq2, par, loop0, loop1}
-use Rattle.junior.specs.Term.{repeat0, repeat1, when0, when1, when2, until0, until*, until2, control, local}
+use Rattle.junior.specs.Term.{repeat0, repeat1, when0, when1, when2, until0, until*, until2, control, local, if0, if1, if2}
 use Rattle.junior.specs.Term.{prog, fresh}
 use Rattle.junior.specs.Trace.{Place, first, second, inside, Act}
 use Rattle.junior.specs.Rules.{Allowed, Result, answers, again, Rewrites, r1, r1-on, r2, r3, r4, r4-on, r5, r8}
 use Rattle.junior.specs.Rules.{r10}
 use Rattle.junior.specs.Rules.{r11, r12, r4-loop, r5-loop, r14, r15, r4-repeat, r5-repeat, r16, r17, r17-on}
 use Rattle.junior.specs.Rules.{r18, r19, r19-on, r20, r21, r22, r23, r24, r25, r26, r27, r28, r29, r30, r31}
-use Rattle.junior.specs.Rules.{r31-on, r32, r33, r34, r35-39}
+use Rattle.junior.specs.Rules.{r31-on, r32, r33, r34, r35-39, if-true, if-true-on, if-false, if-false-on}
 use Rattle.junior.specs.Figures.{stops, LoopsStop}
 use Rattle.junior.specs.Inside.{Going, Controlled}
 use Rattle.junior.proofs.Little.{STOP≢SUSP, TERM≢SUSP, TERM≢STOP}
@@ -73,7 +74,7 @@ module _ (free : Allowed) where
       (λ n. (_, r5-loop d n))
       (λ d. let (s, e) = b (r .env) in (_, r4-loop d e))
 
-  unfoldable pub repeat1-runs : (n k : ℕ) (p : Program) (t : Term) (P : Place) (E : Env)
+  unfoldable pub repeat1-runs : (n : Times) (k : ℕ) (p : Program) (t : Term) (P : Place) (E : Env)
       → prog t ≡ p
       → Pass (first P) t E
       → ((F : Env) → Pass P (again n k p) F)
@@ -83,14 +84,17 @@ module _ (free : Allowed) where
       (λ x. (_, r5-repeat d x))
       (λ d. let (s, e) = b (r .env) in (_, r4-repeat {r = s} d (rw h e)))
 
-  unfoldable pub again-runs : (n k : ℕ) (p : Program) (P : Place) (E : Env) → Begins p → Pass P (again n k p) E
+  unfoldable pub again-runs : (n : Times) (k : ℕ) (p : Program) (P : Place) (E : Env) → Begins p → Pass P (again n k p) E
   again-runs n zero p P E b = (_, r1-on)
   again-runs n (suc k) p P E b =
       repeat1-runs n k p (fresh p) P E (prog-fresh p) (b (first P) E) (λ F. again-runs n k p P F b)
 
-  unfoldable pub repeat0-runs : (n : ℕ) (p : Program) (P : Place) (E : Env) → Begins p → Pass P (repeat0 n p) E
-  repeat0-runs zero p P E b = (_, r14)
-  repeat0-runs (suc n) p P E b = let (r, d) = again-runs (suc n) (suc n) p P E b in (r, r15 d)
+  unfoldable pub repeat0-runs : (n : Times) (p : Program) (P : Place) (E : Env) → Begins p → Pass P (repeat0 n p) E
+  repeat0-runs n p P E b = go (runs-of (free .value) n) refl
+    where
+      go : (k : ℕ) → runs-of (free .value) n ≡ k → Pass P (repeat0 n p) E
+      go zero e = (_, r14 e)
+      go (suc k) e = let (r, d) = again-runs n (suc k) p P E b in (r, r15 e d)
 
   unfoldable pub await-runs : (c : Config) (P : Place) (E : Env) → Pass P (await c) E
   await-runs c P E = go (test c E) refl (E .eoi) refl
@@ -140,6 +144,13 @@ module _ (free : Allowed) where
       go Unsat v = (_, r27 v)
       go Unknown v = (_, r28 v)
 
+  unfoldable pub if0-runs : (v : ℕ) (p q : Program) (P : Place) (E : Env) → Begins p → Begins q → Pass P (if0 v p q) E
+  if0-runs v p q P E f g = go (nonzero (free .value v)) refl
+    where
+      go : (b : Bool) → nonzero (free .value v) ≡ b → Pass P (if0 v p q) E
+      go true e = let (r, d) = f (first P) E in (_, if-true e d)
+      go false e = let (r, d) = g (second P p) E in (_, if-false e d)
+
   -- a program that is begun
   unfoldable pub begins : (p : Program) → LoopsStop p → Begins p
   unfolding fresh LoopsStop
@@ -159,6 +170,7 @@ module _ (free : Allowed) where
   begins (Until c p q) o P E = until0-runs c (fresh p) q P E (begins p (o .0) (first P) E) (begins q (o .1))
   begins (Control s p) o P E = control-runs s (fresh p) P E (λ v. begins p o (first P) E)
   begins (Local s p) o P E = let (r, d) = begins p o (inside s P) (with-event s false E) in (_, r35-39 d)
+  begins (If v p q) o P E = if0-runs v p q P E (begins p (o .0)) (begins q (o .1))
 
   -- a state in the middle of an instant
   unfoldable pub pass-exists : (t : Term) → LoopsStop (prog t) → (P : Place) (E : Env) → Going (E .now) t → Pass P t E
@@ -198,3 +210,6 @@ module _ (free : Allowed) where
   pass-exists (control s t) o P E g =
       control-runs s t P E (λ h. pass-exists t o (first P) E (subst (λ b. Controlled b (Going (E .now) t) t) h g))
   pass-exists (local b s t) o P E g = let (r, d) = pass-exists t o (inside s P) (with-event s b E) g in (_, r35-39 d)
+  pass-exists (if0 v p q) o P E g = if0-runs v p q P E (begins p (o .0)) (begins q (o .1))
+  pass-exists (if1 v t q) o P E g = let (r, d) = pass-exists t (o .0) (first P) E g in (_, if-true-on d)
+  pass-exists (if2 v p t) o P E g = let (r, d) = pass-exists t (o .1) (second P p) E g in (_, if-false-on d)

@@ -14,9 +14,10 @@ use Rattle.junior.specs.Flags.{γ, δ₁, δ₂}
 use Rattle.junior.specs.Configuration.{Env}
 use Rattle.junior.specs.Program.{Program, kind, Nothing, Stop, Atom, Seq, Par, Loop, Repeat, Generate, Await}
 use Rattle.junior.specs.Program.{When}
-use Rattle.junior.specs.Program.{Until, Control, Local}
+use Rattle.junior.specs.Program.{Until, Control, Local, If}
+use Rattle.junior.specs.Values.{Times, most}
 use Rattle.junior.specs.Term.{Term, done, nothing, stop, atom, generate, await, seq0, seq2, par, loop0, loop1}
-use Rattle.junior.specs.Term.{repeat0, repeat1, when0, when1, when2, until0, until*, until2, control, local}
+use Rattle.junior.specs.Term.{repeat0, repeat1, when0, when1, when2, until0, until*, until2, control, local, if0, if1, if2}
 use Rattle.junior.specs.Term.{prog, fresh, leave}
 use Rattle.junior.specs.Trace.{Place, Act, did-atom, did-generate, decided, waits, scope-answered, collect}
 use Rattle.junior.specs.Trace.{atom-of, event-of, atoms, generations}
@@ -24,11 +25,12 @@ use Rattle.junior.specs.Rules.{Allowed, Result, again, Rewrites, r1, r1-
 use Rattle.junior.specs.Rules.{r11, r12, r13, r4-loop, r5-loop, r14, r15, r4-repeat, r5-repeat, r16, r17}
 use Rattle.junior.specs.Rules.{r17-on}
 use Rattle.junior.specs.Rules.{r18, r19, r19-on, r20, r21, r22, r23, r24, r25, r26, r27, r28, r29, r30, r31}
-use Rattle.junior.specs.Rules.{r31-on, r32, r33, r34, r35-39}
+use Rattle.junior.specs.Rules.{r31-on, r32, r33, r34, r35-39, if-true, if-true-on, if-false, if-false-on}
 use Rattle.junior.specs.Instant.{Instant, r47, r48, r49}
 use Rattle.junior.specs.Figures.{stops, LoopsStop, times, figure, per, G, A}
 use Rattle.junior.specs.AtRest.{AtRest}
 use Rattle.junior.specs.Inside.{RemainsIf, Controlled, Going, live, held, rest, due, pot}
+use Rattle.junior.proofs.Times.{below-most}
 use Rattle.junior.proofs.Kept.{prog-fresh, prog-again, kept}
 use Rattle.junior.proofs.Going.{rest-going, fresh-going}
 use Rattle.junior.proofs.Held.{held-fresh, stays-held, begun, ends-unheld}
@@ -135,6 +137,7 @@ module _ (k : Program → ℕ) where
   own-least (Until c p q) = omega arith
   own-least (Control s p) = omega arith
   own-least (Local s p) = omega arith
+  own-least (If v p q) = omega arith
 
   pub pot-going : (X : Events) (t : Term) → Going X t → pot k t ≤ figure k (prog t)
   unfolding pot figure prog Going
@@ -154,7 +157,7 @@ module _ (k : Program → ℕ) where
   pot-going X (repeat0 n p) g = omega arith
   pot-going X (repeat1 n j t) g =
       let b = stops (prog t) in
-      let m = one-more (due j (held t) b) (times n b) _ _ (due-times n j (held t) b (g .0)) (pot-going X t (g .1)) in
+      let m = one-more (due j (held t) b) (times (most n) b) _ _ (due-times (most n) j (held t) b (g .0)) (pot-going X t (g .1)) in
       omega arith
   pot-going X (when0 c p q) g = omega arith
   pot-going X (when1 c t q) g = omega (arith, pot-going X t g)
@@ -164,6 +167,9 @@ module _ (k : Program → ℕ) where
   pot-going X (until2 c p t) g = omega (arith, pot-going X t g)
   pot-going X (control s t) g = omega (arith, pot-going X t (uncontrolled X (X s) t g))
   pot-going X (local b s t) g = omega (arith, pot-going (put s b X) t g)
+  pot-going X (if0 v p q) g = omega arith
+  pot-going X (if1 v t q) g = omega (arith, pot-going X t g)
+  pot-going X (if2 v p t) g = omega (arith, pot-going X t g)
 
   pub pot-at-rest : (t : Term) → AtRest t → pot k t ≤ figure k (prog t)
   pot-at-rest t a = pot-going none t (rest-going none t a)
@@ -177,12 +183,12 @@ module _ (k : Program → ℕ) where
   rest-leave STOP t = refl
   rest-leave TERM t = refl
 
-  pub repeat-fresh : (n j m : ℕ) (p : Program) → due j (stops p) (stops p) < m
+  pub repeat-fresh : (n : Times) (j m : ℕ) (p : Program) → due j (stops p) (stops p) < m
       → pot k (repeat1 n j (fresh p)) ≤ k (Repeat n p) + m * figure k p
   unfolding pot
   repeat-fresh n j m p h = simp (prog-fresh p, held-fresh p) (let a = one-more _ m _ _ h (pot-fresh p) in omega arith)
 
-  pub pot-again : (n j : ℕ) (p : Program) → pot k (again n j p) ≤ k (Repeat n p) + due j false (stops p) * figure k p
+  pub pot-again : (n : Times) (j : ℕ) (p : Program) → pot k (again n j p) ≤ k (Repeat n p) + due j false (stops p) * figure k p
   unfolding pot
   pot-again n zero p = omega arith
   pot-again n (suc j) p = repeat-fresh n j _ p (due-again j (stops p))
@@ -232,9 +238,9 @@ module _ (k : Program → ℕ) where
       (rest-within (r .flag) _ _ _ _
       (rest-beside (r .flag) _ _ _ _ _ (spends d (o .1))
       (due-kept (r .flag) 1 (held t) (held (r .to)) true (figure k (prog t)) (λ x. stays-held d x))))
-  spends r14 o = omega arith
-  spends (r15 {n = n} {p = p} d) o =
-      le-trans (spends d (loops-fresh p o)) (repeat-fresh (suc n) n _ p (due-times (suc n) n (stops p) (stops p) (omega arith)))
+  spends (r14 h) o = omega arith
+  spends (r15 {n = n} {k = j} {p = p} h d) o =
+      le-trans (spends d (loops-fresh p o)) (repeat-fresh n j _ p (due-times (most n) j (stops p) (stops p) (below-most _ n h)))
   spends (r4-repeat {n = n} {k = j} {t = t} d e) o =
       simp (cost-++, ends-unheld d)
       (omega (arith, spends d o, spends e (rw (prog-again n j (prog t)) o), pot-again n j (prog t)))
@@ -276,6 +282,14 @@ module _ (k : Program → ℕ) where
   spends (r33 s) o = omega arith
   spends (r34 s) o = omega arith
   spends (r35-39 {r = r} d) o = simp (rest-leave, cost-++, kept d) (rest-within (r .flag) _ _ _ _ (omega (arith, spends d o)))
+  spends (if-true {p = p} {r = r} h d) o =
+      simp (rest-leave, kept d, prog-fresh)
+      (rest-within (r .flag) _ _ _ _ (omega (arith, spends d (loops-fresh p (o .0)), pot-fresh p)))
+  spends (if-true-on {r = r} d) o = simp (rest-leave, kept d) (rest-within (r .flag) _ _ _ _ (spends d (o .0)))
+  spends (if-false {q = q} {r = r} h d) o =
+      simp (rest-leave, kept d, prog-fresh)
+      (rest-within (r .flag) _ _ _ _ (omega (arith, spends d (loops-fresh q (o .1)), pot-fresh q)))
+  spends (if-false-on {r = r} d) o = simp (rest-leave, kept d) (rest-within (r .flag) _ _ _ _ (spends d (o .1)))
 
   -- the same of a pass that suspends
   pub suspends : {free : Allowed} {P : Place} {t : Term} {E : Env} {r : Result}

@@ -11,7 +11,7 @@ use Rattle.junior.specs.Trace.{Place, Act, did-atom, did-generate, decid
 use Rattle.junior.specs.Rules.{Allowed, Result, Rewrites, r1, r1-on, r2, r3, r4, r4-on, r5, r8, r9, r10, r11, r12}
 use Rattle.junior.specs.Rules.{r13, r4-loop, r5-loop, r14, r15, r4-repeat, r5-repeat, r16, r17, r17-on, r18}
 use Rattle.junior.specs.Rules.{r19, r19-on, r20, r21, r22, r23, r24, r25, r26, r27, r28, r29, r30, r31, r31-on}
-use Rattle.junior.specs.Rules.{r32, r33, r34, r35-39}
+use Rattle.junior.specs.Rules.{r32, r33, r34, r35-39, if-true, if-true-on, if-false, if-false-on}
 
 -- what makes R a law of every pass, R E F l being said of acts l that lead from E to F
 pub record Flows (R : Env → Env → List Act → Type 0) : Type 0 where
@@ -44,8 +44,8 @@ module _ (R : Env → Env → List Act → Type 0) (law : Flows R) where
   flow (r13 f d e) = law .chained (flow d) (flow e)
   flow (r4-loop d e) = law .chained (flow d) (flow e)
   flow (r5-loop d h) = flow d
-  flow r14 = law .none
-  flow (r15 d) = flow d
+  flow (r14 h) = law .none
+  flow (r15 h d) = flow d
   flow (r4-repeat d e) = law .chained (flow d) (flow e)
   flow (r5-repeat d h) = flow d
   flow r16 = law .raised
@@ -71,3 +71,7 @@ module _ (R : Env → Env → List Act → Type 0) (law : Flows R) where
   flow (r33 v) = law .read v
   flow (r34 v) = law .waited v
   flow (r35-39 {P = P} {b = b} {s = s} {r = r} d) = law .scoped b s (P .node) (r .flag) (flow d)
+  flow (if-true h d) = flow d
+  flow (if-true-on d) = flow d
+  flow (if-false h d) = flow d
+  flow (if-false-on d) = flow d

@@ -1,21 +1,22 @@
--- What runs by some rules runs by others that allow rule 9 where it is used: the kernel's order of branches is one of the choices. Rule 13 need
--- not be allowed, since where the Loops' bodies stop it is never used.
+-- What runs by some rules runs, with the same values, by others that allow rule 9 where it is used: the kernel's order of branches is one of the
+-- choices. Rule 13 need not be allowed, since where the Loops' bodies stop it is never used.
 use Prim.Native.Nat.{ℕ}
-use mathlib.Core.Path.{refl}
+use mathlib.Core.Path.{_≡_, refl, ap, sym, _∙_}
 use Rattle.junior.specs.Configuration.{Env}
+use Rattle.junior.specs.Values.{nonzero, runs-of}
 use Rattle.junior.specs.Term.{Term, prog}
 use Rattle.junior.specs.Trace.{Place}
 use Rattle.junior.specs.Rules.{Allowed, Result, Rewrites, r1, r1-on, r2, r3, r4, r4-on, r5, r8, r9, r10, r11, r12}
 use Rattle.junior.specs.Rules.{r13, r4-loop, r5-loop, r14, r15, r4-repeat, r5-repeat, r16, r17, r17-on, r18}
 use Rattle.junior.specs.Rules.{r19, r19-on, r20, r21, r22, r23, r24, r25, r26, r27, r28, r29, r30, r31, r31-on}
-use Rattle.junior.specs.Rules.{r32, r33, r34, r35-39}
+use Rattle.junior.specs.Rules.{r32, r33, r34, r35-39, if-true, if-true-on, if-false, if-false-on}
 use Rattle.junior.specs.Instant.{Instant, r47, r48, r49}
 use Rattle.junior.specs.Figures.{LoopsStop}
 use Rattle.junior.proofs.Kept.{prog-again, kept}
 use Rattle.junior.proofs.Held.{begun}
 use Rattle.junior.proofs.Figures.{loops-fresh}
 
-module _ {free more : Allowed} (nine : free .rule-9 → more .rule-9) where
+module _ {free more : Allowed} (nine : free .rule-9 → more .rule-9) (same : free .value ≡ more .value) where
   pub freer : {P : Place} {t : Term} {E : Env} {r : Result}
       → Rewrites free P t E r
       → LoopsStop (prog t)
@@ -36,8 +37,8 @@ module _ {free more : Allowed} (nine : free .rule-9 → more .rule-9) where
   freer (r13 {p = p} f d e) o = absurd (begun p d (o .0) refl)
   freer (r4-loop d e) o = r4-loop (freer d (o .1)) (freer e o)
   freer (r5-loop d h) o = r5-loop (freer d (o .1)) h
-  freer r14 o = r14
-  freer (r15 {p = p} d) o = r15 (freer d (loops-fresh p o))
+  freer (r14 {n = n} h) o = r14 (ap (λ w. runs-of w n) (sym same) ∙ h)
+  freer (r15 {n = n} {p = p} h d) o = r15 (ap (λ w. runs-of w n) (sym same) ∙ h) (freer d (loops-fresh p o))
   freer (r4-repeat {n = n} {k = k} {t = t} d e) o =
       r4-repeat (freer d o) (freer e (rw (prog-again n k (prog t)) o))
   freer (r5-repeat d h) o = r5-repeat (freer d o) h
@@ -64,6 +65,10 @@ module _ {free more : Allowed} (nine : free .rule-9 → more .rule-9) where
   freer (r33 s) o = r33 s
   freer (r34 s) o = r34 s
   freer (r35-39 d) o = r35-39 (freer d o)
+  freer (if-true {v = v} {p = p} h d) o = if-true (ap (λ w. nonzero (w v)) (sym same) ∙ h) (freer d (loops-fresh p (o .0)))
+  freer (if-true-on d) o = if-true-on (freer d (o .0))
+  freer (if-false {v = v} {q = q} h d) o = if-false (ap (λ w. nonzero (w v)) (sym same) ∙ h) (freer d (loops-fresh q (o .1)))
+  freer (if-false-on d) o = if-false-on (freer d (o .1))
 
   pub freer-instant : {t : Term} {E : Env} {n : ℕ} {r : Result} → Instant free t E n r → LoopsStop (prog t) → Instant more t E n r
   freer-instant (r47 d h) o = r47 (freer d o) h

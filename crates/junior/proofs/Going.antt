@@ -12,15 +12,16 @@ use Rattle.junior.specs.declared.Flag.the-variants.{SUSP, STOP, TERM}
 use Rattle.junior.specs.Flags.{γ, δ₁, δ₂}
 use Rattle.junior.specs.Configuration.{Env}
 use Rattle.junior.specs.Program.{Program, Nothing, Stop, Atom, Seq, Par, Loop, Repeat, Generate, Await, When}
-use Rattle.junior.specs.Program.{Until, Control, Local}
+use Rattle.junior.specs.Program.{Until, Control, Local, If}
+use Rattle.junior.specs.Values.{Times, most}
 use Rattle.junior.specs.Term.{Term, done, nothing, stop, atom, generate, await, seq0, seq2, par, loop0, loop1}
-use Rattle.junior.specs.Term.{repeat0, repeat1, when0, when1, when2, until0, until*, until2, control, local}
+use Rattle.junior.specs.Term.{repeat0, repeat1, when0, when1, when2, until0, until*, until2, control, local, if0, if1, if2}
 use Rattle.junior.specs.Term.{prog, fresh, leave}
 use Rattle.junior.specs.Trace.{Place}
 use Rattle.junior.specs.Rules.{Allowed, Result, again, sign, Rewrites, r1, r1-on, r2, r3, r4, r4-on, r5, r8, r9, r10}
 use Rattle.junior.specs.Rules.{r11, r12, r13, r4-loop, r5-loop, r14, r15, r4-repeat, r5-repeat, r16, r17}
 use Rattle.junior.specs.Rules.{r17-on, r18, r19, r19-on, r20, r21, r22, r23, r24, r25, r26, r27, r28, r29, r30}
-use Rattle.junior.specs.Rules.{r31, r31-on, r32, r33, r34, r35-39}
+use Rattle.junior.specs.Rules.{r31, r31-on, r32, r33, r34, r35-39, if-true, if-true-on, if-false, if-false-on}
 use Rattle.junior.specs.Instant.{Instant, r47, r48, r49}
 use Rattle.junior.specs.Course.{_⊆_}
 use Rattle.junior.specs.AtRest.{AtRest, Waiting, Over}
@@ -28,6 +29,7 @@ use Rattle.junior.specs.Inside.{Suspended, RemainsIf, Remains, Controlle
 use Rattle.junior.proofs.Kept.{kept}
 use Rattle.junior.proofs.Verdicts.{present, absent}
 use Rattle.junior.proofs.Grows.{grows}
+use Rattle.junior.proofs.Times.{below-most}
 
 pub fresh-at-rest : (p : Program) → AtRest (fresh p)
 unfolding fresh AtRest
@@ -44,6 +46,7 @@ fresh-at-rest (When c p q) = tt
 fresh-at-rest (Until c p q) = fresh-at-rest p
 fresh-at-rest (Control s p) = fresh-at-rest p
 fresh-at-rest (Local s p) = (refl, fresh-at-rest p)
+fresh-at-rest (If v p q) = tt
 
 par-going : (X : Events) (α β : Flag) (t u : Term) → Waiting α β → Over α t → Over β u → Going X t → Going X u
     → Suspended α β × Remains α X t × Remains β X u
@@ -83,6 +86,9 @@ rest-going X (until* c t q) a = absurd a
 rest-going X (until2 c p t) a = rest-going X t a
 rest-going X (control s t) a = control-going (X s) t (rest-going X t a) a
 rest-going X (local b s t) a = rest-going (put s b X) t (a .1)
+rest-going X (if0 v p q) a = tt
+rest-going X (if1 v t q) a = rest-going X t a
+rest-going X (if2 v p t) a = rest-going X t a
 
 pub fresh-going : (X : Events) (p : Program) → Going X (fresh p)
 fresh-going X p = rest-going X (fresh p) (fresh-at-rest p)
@@ -134,6 +140,9 @@ going-more (until* c t q) h g = g
 going-more (until2 c p t) h g = going-more t h g
 going-more (control s t) h g = controlled-more s t h (going-more t h) g
 going-more (local b s t) h g = going-more t (put-grows s b h) g
+going-more (if0 v p q) h g = tt
+going-more (if1 v t q) h g = going-more t h g
+going-more (if2 v p t) h g = going-more t h g
 
 pub stand-more : {X Y : Events} (α : Flag) (t : Term) → X ⊆ Y → Remains α X t → Remains α Y t
 stand-more α t h = stands-map α t (going-more t h)
@@ -188,7 +197,7 @@ scope-stands SUSP X s b x t h = going-more t (signed X s b x) h
 scope-stands STOP X s b x t h = (refl, h)
 scope-stands TERM X s b x t h = (prog (local false s t), refl)
 
-pub again-going : (X : Events) (n k : ℕ) (p : Program) → k < n → Going X (again n k p)
+pub again-going : (X : Events) (n : Times) (k : ℕ) (p : Program) → k < most n → Going X (again n k p)
 unfolding Going
 again-going X n zero p h = tt
 again-going X n (suc k) p h = (omega arith, fresh-going X p)
@@ -217,8 +226,8 @@ stands (r12 {p = p} {r = r} d h) g = under-stands r _ (λ x. x) (λ x. x) (stand
 stands (r13 f d e) g = stands e tt
 stands (r4-loop d e) g = stands e tt
 stands (r5-loop {r = r} d h) g = under-stands r _ (λ x. x) (λ x. x) (stands d g)
-stands (r14 {p = p}) g = (Repeat 0 p, refl)
-stands (r15 {p = p} d) g = stands d (omega arith, fresh-going _ p)
+stands (r14 {n = n} {p = p} h) g = (Repeat n p, refl)
+stands (r15 {n = n} {p = p} h d) g = stands d (below-most _ n h, fresh-going _ p)
 stands (r4-repeat {n = n} {k = k} {t = t} d e) g = stands e (again-going _ n k (prog t) (g .0))
 stands (r5-repeat {r = r} d h) g = under-stands r _ (λ x. (g .0, x)) (λ x. (g .0, x)) (stands d (g .1))
 stands (r16 {s = s}) g = (Generate s, refl)
@@ -249,6 +258,10 @@ stands (r33 s) g = g
 stands (r34 s) g = g
 stands (r35-39 {E = E} {b = b} {s = s} {r = r} d) g =
     scope-stands (r .flag) (r .env .now) s b (E .now s) (r .to) (stands d g)
+stands (if-true {p = p} {r = r} h d) g = under-stands r _ (λ x. x) (λ x. x) (stands d (fresh-going _ p))
+stands (if-true-on {r = r} d) g = under-stands r _ (λ x. x) (λ x. x) (stands d g)
+stands (if-false {q = q} {r = r} h d) g = under-stands r _ (λ x. x) (λ x. x) (stands d (fresh-going _ q))
+stands (if-false-on {r = r} d) g = under-stands r _ (λ x. x) (λ x. x) (stands d g)
 
 -- a pass that doesn't answer SUSP leaves its state at rest
 pub stopped-rest : (α : Flag) (X : Events) (t : Term) → α ≢ SUSP → Remains α X t → AtRest t

@@ -10,17 +10,19 @@ use Rattle.junior.specs.declared.Flag.the-variants.{SUSP, STOP, TERM}
 use Rattle.junior.specs.Flags.{γ, δ₁, δ₂}
 use Rattle.junior.specs.Configuration.{Env, early-true, early-false}
 use Rattle.junior.specs.Program.{Program, Nothing, Stop, Atom, Seq, Par, Loop, Repeat, Generate, Await, When}
-use Rattle.junior.specs.Program.{Until, Control, Local}
+use Rattle.junior.specs.Program.{Until, Control, Local, If}
+use Rattle.junior.specs.Values.{Times, surely}
 use Rattle.junior.specs.Term.{Term, repeat1, prog, fresh, leave}
 use Rattle.junior.specs.Trace.{Place, Act}
 use Rattle.junior.specs.Rules.{Allowed, Result, answers, again, Rewrites, r1, r1-on, r2, r3, r4, r4-on, r5, r8, r9, r10}
 use Rattle.junior.specs.Rules.{r11, r12}
 use Rattle.junior.specs.Rules.{r13, r4-loop, r5-loop, r14, r15, r4-repeat, r5-repeat, r16, r17, r17-on, r18}
 use Rattle.junior.specs.Rules.{r19, r19-on, r20, r21, r22, r23, r24, r25, r26, r27, r28, r29, r30, r31, r31-on}
-use Rattle.junior.specs.Rules.{r32, r33, r34, r35-39}
+use Rattle.junior.specs.Rules.{r32, r33, r34, r35-39, if-true, if-true-on, if-false, if-false-on}
 use Rattle.junior.specs.Instant.{Instant, r47, r48, r49}
 use Rattle.junior.specs.Figures.{only-if, stops}
 use Rattle.junior.specs.Inside.{live, held}
+use Rattle.junior.proofs.Times.{unsure}
 use Rattle.junior.proofs.Kept.{kept}
 use Rattle.junior.proofs.Verdicts.{sat-early, unsat-early}
 
@@ -39,6 +41,7 @@ held-fresh (When c p q) = refl
 held-fresh (Until c p q) = ap (λ x. x && only-if (early-true c) (stops q)) (held-fresh p)
 held-fresh (Control s p) = held-fresh p
 held-fresh (Local s p) = held-fresh p
+held-fresh (If v p q) = refl
 
 -- an either-or, part by part
 pub either : (a b : Bool) {c d : Bool}
@@ -95,11 +98,11 @@ live-and SUSP x y b f h = let k = and-eq-true-iff x b .0 h in and-eq-true-iff y 
 live-and STOP x y b f h = refl
 live-and TERM x y b f h = f (and-eq-true-iff x b .0 h .0)
 
-held-repeat : (n k : ℕ) (p : Program) → stops p ≡ true → held (repeat1 n k (fresh p)) ≡ true
+held-repeat : (n : Times) (k : ℕ) (p : Program) → stops p ≡ true → held (repeat1 n k (fresh p)) ≡ true
 unfolding held
 held-repeat n k p h = simp (held-fresh p, h)
 
-held-again : (n k : ℕ) (p : Program) → (leb 1 k && stops p) ≡ true → held (again n k p) ≡ true
+held-again : (n : Times) (k : ℕ) (p : Program) → (leb 1 k && stops p) ≡ true → held (again n k p) ≡ true
 unfolding held
 held-again n zero p h = h
 held-again n (suc k) p h = held-repeat n k p (and-eq-true-iff (leb 1 (suc k)) (stops p) .0 h .1)
@@ -130,8 +133,8 @@ stays-held (r12 {r = r} d n) h = simp live-leave (live-on (r .flag) n)
 stays-held (r13 f d e) h = stays-held e refl
 stays-held (r4-loop d e) h = stays-held e refl
 stays-held (r5-loop {r = r} d n) h = simp live-leave (live-on (r .flag) n)
-stays-held r14 h = h
-stays-held (r15 {n = n} {p = p} d) h = stays-held d (held-repeat (suc n) n p (and-eq-true-iff (leb 1 (suc n)) (stops p) .0 h .1))
+stays-held (r14 {n = n} {p = p} e) h = sym (unsure _ n e) ∙ and-eq-true-iff (surely n) (stops p) .0 h .0
+stays-held (r15 {n = n} {k = k} {p = p} e d) h = stays-held d (held-repeat n k p (and-eq-true-iff (surely n) (stops p) .0 h .1))
 stays-held (r4-repeat {n = n} {k = k} {t = t} d e) h =
     stays-held e (held-again n k (prog t) (or-else (held t) (leb 1 k && stops (prog t)) (λ x. stays-held d x) h))
 stays-held (r5-repeat {k = k} {t = t} {r = r} d n) h =
@@ -162,6 +165,10 @@ stays-held (r32 s o) h = refl
 stays-held (r33 s) h = refl
 stays-held (r34 s) h = h
 stays-held (r35-39 d) h = simp live-leave (stays-held d h)
+stays-held (if-true {p = p} {q = q} e d) h = simp live-leave (stays-held d (held-fresh p ∙ and-eq-true-iff (stops p) (stops q) .0 h .0))
+stays-held (if-true-on d) h = simp live-leave (stays-held d h)
+stays-held (if-false {p = p} {q = q} e d) h = simp live-leave (stays-held d (held-fresh q ∙ and-eq-true-iff (stops p) (stops q) .0 h .1))
+stays-held (if-false-on d) h = simp live-leave (stays-held d h)
 
 -- so what is held doesn't end, in a pass or in the instant; a fresh program that stops doesn't
 pub unended : {free : Allowed} {P : Place} {t : Term} {E : Env} {r : Result}

@@ -9,6 +9,7 @@ use Rattle.events.specs.Events.{Events, none as no-event, put}
 use Rattle.junior.specs.declared.Flag.{Flag}
 use Rattle.junior.specs.declared.Flag.the-variants.{SUSP, STOP, TERM}
 use Rattle.junior.specs.Configuration.{Env, with-event}
+use Rattle.junior.specs.Values.{Values}
 use Rattle.junior.specs.Term.{Term, done, local, prog, leave}
 use Rattle.junior.specs.Trace.{Place, inside, Act, scope-answered, atom-of, collect}
 use Rattle.junior.specs.Rules.{Result, sign, left-scope}
@@ -54,19 +55,19 @@ alike-noted l n α b = record {
   tests-alike = λ m v. sym (decides-++ m v l (scope-answered n α b ∷ []) ∙ or-false (decides m v l));
 }
 
-left-scoped : (P : Place) (X : Events) (s : ℕ) (v b now : Bool) (α : Flag) (t : Term)
-    → (α ≡ SUSP → in-the-end (sign b SUSP now) s (settle (inside s P) t) X ≡ v)
-    → hidden s (branch α t (settle (inside s P) t (put s v X)))
-    ≡ branch α (leave α (local (sign b α now) s t)) (settle P (leave α (local (sign b α now) s t)) X)
+left-scoped : (value : Values) (P : Place) (X : Events) (s : ℕ) (v b now : Bool) (α : Flag) (t : Term)
+    → (α ≡ SUSP → in-the-end (sign b SUSP now) s (settle value (inside s P) t) X ≡ v)
+    → hidden s (branch α t (settle value (inside s P) t (put s v X)))
+    ≡ branch α (leave α (local (sign b α now) s t)) (settle value P (leave α (local (sign b α now) s t)) X)
 unfolding hidden settle scoped leave
-left-scoped P X s v b now SUSP t h = ap (λ x. hidden s (settle (inside s P) t (put s x X))) (sym (h refl))
-left-scoped P X s v b now STOP t h = λ i. out STOP (local false s t) (put-none s i) (λ a. 0) (λ n b. false) none
-left-scoped P X s v b now TERM t h = λ i. out TERM (done (prog (local false s t))) (put-none s i) (λ a. 0) (λ n b. false) none
+left-scoped value P X s v b now SUSP t h = ap (λ x. hidden s (settle value (inside s P) t (put s x X))) (sym (h refl))
+left-scoped value P X s v b now STOP t h = λ i. out STOP (local false s t) (put-none s i) (λ a. 0) (λ n b. false) none
+left-scoped value P X s v b now TERM t h = λ i. out TERM (done (prog (local false s t))) (put-none s i) (λ a. 0) (λ n b. false) none
 
 -- a Local of s at P with sign b, F being what comes of its body, which the body's pass, with answer r, agrees with
-module _ (X : Events) (P : Place) (E : Env) (b : Bool) (s : ℕ) (F : Events → Out) (r : Result)
+module _ (value : Values) (X : Events) (P : Place) (E : Env) (b : Bool) (s : ℕ) (F : Events → Out) (r : Result)
     (grown : put s b (E .now) ⊆ r .env .now)
-    (agrees : (Y : Events) → Agrees (inside s P) Y (with-event s b E) r (F Y))
+    (agrees : (Y : Events) → Agrees value (inside s P) Y (with-event s b E) r (F Y))
     (held : E .now ⊆ X)
     (within : Within (put s (E .now s) (r .env .now)) X (scoped b s F X)) where
   -- with the event as it is in the end
@@ -84,7 +85,7 @@ module _ (X : Events) (P : Place) (E : Env) (b : Bool) (s : ℕ) (F : Events →
       (λ y g. put-at s (in-the-end b s F X) X ∙ closed-scope b s F X g)
       (λ e y g. elsewhere n e ∙ within n (put-else s n (E .now s) (r .env .now) e ∙ y) (put-else s n false (F finished .gens) e ∙ g))
 
-  inside-meets : Meets (inside s P) finished r (F finished)
+  inside-meets : Meets value (inside s P) finished r (F finished)
   inside-meets = agrees finished .run (put-within s b (in-the-end b s F X) (λ h. rw h) held) inside-within
 
   outside : put s (E .now s) (r .env .now) ⊆ X
@@ -103,12 +104,12 @@ module _ (X : Events) (P : Place) (E : Env) (b : Bool) (s : ℕ) (F : Events →
       (λ y g. absurd (false≢true (sym q ∙ y)))
       (λ e y g. put-else s n false X e ∙ (sym (elsewhere n e) ∙ inside-meets .below n y))
 
-  without-meets : r .env .now s ≡ false → Meets (inside s P) (put s false X) r (F (put s false X))
+  without-meets : r .env .now s ≡ false → Meets value (inside s P) (put s false X) r (F (put s false X))
   without-meets q = agrees (put s false X) .run (put-within s b false (λ h. sym (unraised q) ∙ h) held) (without-within q)
 
   -- so a suspended Local's new sign says no more and no less about its event in the end
   same-sign : r .flag ≡ SUSP
-      → in-the-end (sign b SUSP (r .env .now s)) s (settle (inside s P) (r .to)) X ≡ in-the-end b s F X
+      → in-the-end (sign b SUSP (r .env .now s)) s (settle value (inside s P) (r .to)) X ≡ in-the-end b s F X
   same-sign f = go (r .env .now s) refl
     where
       signed : (b : Bool) → sign b SUSP true ≡ true
@@ -116,17 +117,17 @@ module _ (X : Events) (P : Place) (E : Env) (b : Bool) (s : ℕ) (F : Events →
       signed false = refl
 
       go : (now : Bool) → r .env .now s ≡ now
-          → in-the-end (sign b SUSP now) s (settle (inside s P) (r .to)) X ≡ in-the-end b s F X
+          → in-the-end (sign b SUSP now) s (settle value (inside s P) (r .to)) X ≡ in-the-end b s F X
       go true q = rw (signed b) (sym (sym (put-at s (in-the-end b s F X) X) ∙ inside-meets .below s q))
       go false q =
           let e = without-meets q .fits .events s in
           let k = rw (f, put-at s false X) at e in
           rw (unraised q) (sym k)
 
-  pub local-meets : Meets P X (left-scope P b s E r) (scoped b s F X)
+  pub local-meets : Meets value P X (left-scope P b s E r) (scoped b s F X)
   unfolding scoped
   local-meets =
       let v = in-the-end b s F X in
-      let same = left-scoped P X s v b (r .env .now s) (r .flag) (r .to) same-sign in
+      let same = left-scoped value P X s v b (r .env .now s) (r .flag) (r .to) same-sign in
       let f = fits-as (alike-noted (r .acts) (P .node) (r .flag) (r .env .now s)) (fits-hidden s v (inside-meets .fits)) in
       record { below = outside; fits = subst (λ o. Fits X (left-scope P b s E r .acts) (scoped b s F X) o) same f }

@@ -5,13 +5,14 @@ use Rattle.junior.specs.declared.Flag.the-variants.{SUSP, STOP, TERM}
 use Prim.Native.Nat.{ℕ, zero, suc}
 use Rattle.junior.specs.Configuration.{Env}
 use Rattle.junior.specs.Program.{Program, Nothing, Stop, Atom, Seq, Par, Loop, Repeat, Generate, Await, When}
-use Rattle.junior.specs.Program.{Until, Control, Local}
+use Rattle.junior.specs.Program.{Until, Control, Local, If}
+use Rattle.junior.specs.Values.{Times}
 use Rattle.junior.specs.Term.{Term, prog, fresh, leave}
 use Rattle.junior.specs.Trace.{Place}
 use Rattle.junior.specs.Rules.{Allowed, Result, again, Rewrites, r1, r1-on, r2, r3, r4, r4-on, r5, r8, r9, r10, r11, r12}
 use Rattle.junior.specs.Rules.{r13, r4-loop, r5-loop, r14, r15, r4-repeat, r5-repeat, r16, r17, r17-on, r18}
 use Rattle.junior.specs.Rules.{r19, r19-on, r20, r21, r22, r23, r24, r25, r26, r27, r28, r29, r30, r31, r31-on}
-use Rattle.junior.specs.Rules.{r32, r33, r34, r35-39}
+use Rattle.junior.specs.Rules.{r32, r33, r34, r35-39, if-true, if-true-on, if-false, if-false-on}
 
 pub prog-fresh : (p : Program) → prog (fresh p) ≡ p
 unfolding prog fresh
@@ -28,6 +29,7 @@ prog-fresh (When c p q) = refl
 prog-fresh (Until c p q) = ap (λ x. Until c x q) (prog-fresh p)
 prog-fresh (Control s p) = ap (Control s) (prog-fresh p)
 prog-fresh (Local s p) = ap (Local s) (prog-fresh p)
+prog-fresh (If v p q) = refl
 
 pub prog-leave : (α : Flag) (t : Term) → prog (leave α t) ≡ prog t
 unfolding prog leave
@@ -35,7 +37,7 @@ prog-leave SUSP t = refl
 prog-leave STOP t = refl
 prog-leave TERM t = refl
 
-pub prog-again : (n k : ℕ) (p : Program) → prog (again n k p) ≡ Repeat n p
+pub prog-again : (n : Times) (k : ℕ) (p : Program) → prog (again n k p) ≡ Repeat n p
 unfolding prog
 prog-again n zero p = refl
 prog-again n (suc k) p = ap (Repeat n) (prog-fresh p)
@@ -57,8 +59,8 @@ kept (r12 {p = p} d h) = simp prog-leave (ap Loop (kept d ∙ prog-fresh p))
 kept (r13 f d e) = kept e
 kept (r4-loop d e) = kept e
 kept (r5-loop d h) = simp prog-leave (ap Loop (kept d))
-kept r14 = refl
-kept (r15 {n = n} {p = p} d) = kept d ∙ ap (Repeat (suc n)) (prog-fresh p)
+kept (r14 h) = refl
+kept (r15 {n = n} {p = p} h d) = kept d ∙ ap (Repeat n) (prog-fresh p)
 kept (r4-repeat {n = n} {k = k} {t = t} d e) = kept e ∙ prog-again n k (prog t)
 kept (r5-repeat {n = n} d h) = simp prog-leave (ap (Repeat n) (kept d))
 kept r16 = refl
@@ -84,3 +86,7 @@ kept (r32 {c = c} {t = t} {q = q} s h) = ap (Until c (prog t)) (prog-fresh q)
 kept (r33 s) = refl
 kept (r34 s) = refl
 kept (r35-39 {s = s} d) = simp prog-leave (ap (Local s) (kept d))
+kept (if-true {v = v} {p = p} {q = q} h d) = simp prog-leave (ap (λ x. If v x q) (kept d ∙ prog-fresh p))
+kept (if-true-on {v = v} {q = q} d) = simp prog-leave (ap (λ x. If v x q) (kept d))
+kept (if-false {v = v} {p = p} {q = q} h d) = simp prog-leave (ap (If v p) (kept d ∙ prog-fresh q))
+kept (if-false-on {v = v} {p = p} d) = simp prog-leave (ap (If v p) (kept d))

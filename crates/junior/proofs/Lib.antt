@@ -1,6 +1,7 @@
 -- The laws, in the order in which they lean on one another.
 pub mod Little
 pub mod Parts
+pub mod Times
 pub mod Kept
 pub mod Deterministic
 pub mod Verdicts
@@ -42,3 +43,5 @@ pub mod PrintedOnce
 pub mod Demand3
 pub mod StoppedBefore
 pub mod NeverRoundTwice
+pub mod Asked
+pub mod AskedSo

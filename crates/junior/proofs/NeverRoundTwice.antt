@@ -8,6 +8,7 @@ use Rattle.events.specs.Events.{put, none}
 use Rattle.junior.specs.declared.Flag.the-variants.{SUSP}
 use Rattle.junior.specs.Configuration.{Config, Event, Env, handed-in, test, fixed, eval}
 use Rattle.junior.specs.Program.{Program, Par, Loop, Generate, Await, Local}
+use Rattle.junior.specs.Values.{zeros}
 use Rattle.junior.specs.Term.{generate, await, par, prog, fresh, leave}
 use Rattle.junior.specs.Trace.{Place, root, event-of, collect, generations}
 use Rattle.junior.specs.Rules.{Allowed, either-first, without-13, Result, Rewrites, r8, r9, r10, r11, r12, r13}
@@ -22,8 +23,8 @@ pub never-round-twice : NeverRoundTwice
 unfolding LoopsStop
 never-round-twice = record {
   body = λ p o d. begun p d (o .0);
-  pass = λ o d. freer (λ x. x) d o;
-  instant = λ o i. freer-instant (λ x. x) i o;
+  pass = λ o d. freer (λ x. x) refl d o;
+  instant = λ o i. freer-instant (λ x. x) refl i o;
 }
 
 -- The premise is needed. A body that ends at once only if its Par runs the right branch first goes round twice by rules 9 and 13: it ends, begins
@@ -57,14 +58,14 @@ unfolding fresh collect
 of-body (r35-39 {r = r} d) = rw (collect-++ event-of (r .acts) (_ ∷ []), of-par d)
 
 once : {P : Place} {E : Env} {r : Result}
-    → Rewrites (without-13 either-first) P (fresh (Loop ends-right-first)) E r
+    → Rewrites (without-13 (either-first zeros)) P (fresh (Loop ends-right-first)) E r
     → generations (r .acts) ≡ 1 ∷ []
 unfolding fresh
 once (r12 d n) = of-body d
 
 pub round-twice : (r : Result)
-    × Rewrites either-first root (fresh (Loop ends-right-first)) (handed-in none) r
-    × (Rewrites (without-13 either-first) root (fresh (Loop ends-right-first)) (handed-in none) r → ⊥)
+    × Rewrites (either-first zeros) root (fresh (Loop ends-right-first)) (handed-in none) r
+    × (Rewrites (without-13 (either-first zeros)) root (fresh (Loop ends-right-first)) (handed-in none) r → ⊥)
 unfolding fresh put test fixed eval leave prog collect
 round-twice = (
   _,

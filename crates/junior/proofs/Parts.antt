@@ -3,7 +3,7 @@ use Prim.Native.Nat.{_≤_}
 use mathlib.Core.Path.{_≡_, refl, ap, ap₂, _∙_}
 use native.Mathlib.Omega.{arith}
 use Rattle.junior.specs.Program.{Program, Leaf, nothing, stop, atom, generate, await, One, loop, repeat, control}
-use Rattle.junior.specs.Program.{local, Two, seq, par, when, until, Parts, no-part, one-part, two-parts, parts}
+use Rattle.junior.specs.Program.{local, Two, seq, par, when, until, if, Parts, no-part, one-part, two-parts, parts}
 use Rattle.junior.specs.Program.{sizeOf, size}
 
 pub parts-none : {p : Program} (f : Leaf p) → parts p ≡ no-part f
@@ -24,6 +24,7 @@ parts-two (seq p q) = refl
 parts-two (par p q) = refl
 parts-two (when c p q) = refl
 parts-two (until c p q) = refl
+parts-two (if v p q) = refl
 
 pub only-parts : {p : Program} (v : Parts p) → parts p ≡ v
 only-parts (no-part f) = parts-none f

@@ -1,5 +1,5 @@
 -- The printed rules have one result, and tell every test that they read: two steps of one term, in environments that have both
--- or neither declared the end, go one way up to a test among their deeds that they find two ways.
+-- or neither declared the end, with the same values, go one way up to a test among their deeds that they find two ways.
 use Prim.Native.Nat.{ℕ, suc}
 use native.Mathlib.Omega.{arith}
 use mathlib.Core.Bool.{Bool, true, false, cond, false≢true}
@@ -15,17 +15,18 @@ use Rattle.junior.specs.declared.Verdict.{Verdict}
 use Rattle.junior.specs.declared.Verdict.the-variants.{Sat, Unsat, Unknown}
 use Rattle.junior.specs.Flags.{γ, δ₁, δ₂}
 use Rattle.junior.specs.Configuration.{Config, Event, Env, with-event, generated, declared-end, unmoved, test}
+use Rattle.junior.specs.Values.{Values}
 use Rattle.junior.specs.Term.{Term}
 use Rattle.junior.specs.Trace.{Act, did-atom, did-generate, decided, waits, scope-answered, collect, atoms}
 use Rattle.junior.specs.Rules.{left-first, Result}
 use Rattle.junior.specs.Instant.{Instant}
 use Rattle.junior.specs.Printed.{reads, deeds, actions}
-use Rattle.junior.specs.Printed.{Abstract, Seq, Par, Loop, Until, Until*, Control, Local-, Local+, leaves, Deed, finds}
-use Rattle.junior.specs.Printed.{_∣_—[_doing_]→_∣_, _∣_—[_doing_]—_passes→_∣_, rule1, rule2, rule3, rule4, rule5}
+use Rattle.junior.specs.Printed.{Abstract, Seq, Par, Loop, Repeat, Until, Until*, Control, Local-, Local+, leaves, Deed, finds}
+use Rattle.junior.specs.Printed.{_⊢_∣_—[_doing_]→_∣_, _⊢_∣_—[_doing_]—_passes→_∣_, rule1, rule2, rule3, rule4, rule5}
 use Rattle.junior.specs.Printed.{rule8, rule10, rule11, rule12, rule13, rule14, rule15, rule16, rule17, rule18}
 use Rattle.junior.specs.Printed.{rule19, rule20, rule21, rule22, rule23, rule24, rule25, rule26, rule27, rule28}
 use Rattle.junior.specs.Printed.{rule29, rule30, rule31, rule32, rule33, rule34, rule35, rule36, rule37, rule38}
-use Rattle.junior.specs.Printed.{rule39, rule47, rule48, rule49}
+use Rattle.junior.specs.Printed.{rule39, if-true, if-false, repeat-ext, rule47, rule48, rule49}
 use Rattle.junior.proofs.AsPrinted.{instant-as-printed}
 use Rattle.junior.proofs.Little.{STOP≢SUSP, TERM≢SUSP, put-at}
 
@@ -177,9 +178,9 @@ raised : (s : ℕ) (E F : Env) → Alike E F (generated s E) (generated s F)
 unfolding put
 raised s E F = record { now = λ n h. ap (cond (eqb n s) true) h; eoi = λ h. h; move = λ h. refl }
 
-pub told : {t t′ u : Abstract} {E E′ F F′ : Env} {α β : Flag} {l k : List Deed}
-    → t ∣ E —[ α doing l ]→ t′ ∣ E′
-    → t ∣ F —[ β doing k ]→ u ∣ F′
+pub told : {eval : Values} {t t′ u : Abstract} {E E′ F F′ : Env} {α β : Flag} {l k : List Deed}
+    → eval ⊢ t ∣ E —[ α doing l ]→ t′ ∣ E′
+    → eval ⊢ t ∣ F —[ β doing k ]→ u ∣ F′
     → E .eoi ≡ F .eoi
     → Compared E F (out α l t′) E′ (out β k u) F′
 told rule1 rule1 e = still
@@ -279,9 +280,9 @@ told (rule29 {c = c} {u = u} d h) (rule29 d′ h′) e =
     part [] (λ r. r .flag) (λ r. leaves (r .flag) (Until c (r .to) u)) (told d d′ e)
 told (rule29 d h) (rule30 {l = l} d′ f) e = comes-on l (told d d′ e) h
 told (rule30 {l = l} d f) (rule29 d′ h) e = goes-on l (told d d′ e) (λ x. h (sym x))
-told (rule30 {c = c} {u = u} d f) (rule30 {v = v} {E′ = F} {E″ = G} {α = β} {l = l} d′ f′) e =
+told {eval = eval} (rule30 {c = c} {u = u} d f) (rule30 {v = v} {E′ = F} {E″ = G} {α = β} {l = l} d′ f′) e =
     two-parts (λ r s. s .flag) (λ r s. s .to) e (told d d′ e) (λ x y.
-    told f (subst⁻¹ (λ r. Until* c (r .to) u ∣ F —[ β doing l ]→ v ∣ G) x f′) y)
+    told f (subst⁻¹ (λ r. eval ⊢ Until* c (r .to) u ∣ F —[ β doing l ]→ v ∣ G) x f′) y)
 told (rule31 {c = c} s h d) (rule31 s′ h′ d′) e = part (finds c Sat ∷ []) (λ r. r .flag) (λ r. r .to) (told d d′ e)
 told (rule31 s h d) (rule32 s′ h′) e = before-after e h h′
 told (rule31 s h d) (rule33 s′) e = forked s s′ refl
@@ -313,10 +314,16 @@ told (rule38 {s = s} d n) (rule38 d′ n′) e =
 told (rule39 {s = s} d n) (rule37 d′) e = scoped s true (told d d′ e) (λ x y. absurd (ended n (ap (λ r. r .flag) x)))
 told (rule39 {s = s} d n) (rule39 d′ n′) e =
     scoped s true (told d d′ e) (λ x y. ap (λ r. leaves (r .flag) (Local- s (r .to))) x)
+told (if-true h d) (if-true h′ d′) e = told d d′ e
+told (if-true h d) (if-false h′ d′) e = absurd (false≢true (sym h′ ∙ h))
+told (if-false h d) (if-true h′ d′) e = absurd (false≢true (sym h ∙ h′))
+told (if-false h d) (if-false h′ d′) e = told d d′ e
+told {eval = eval} (repeat-ext {t = t} h d) (repeat-ext {t′ = u} {E = F} {E′ = G} {α = β} {l = k} h′ d′) e =
+    told d (subst⁻¹ (λ n. eval ⊢ Repeat n t ∣ F —[ β doing k ]→ u ∣ G) (sym h ∙ h′) d′) e
 
-pub printed-once : {t t′ u : Abstract} {E E′ F : Env} {α β : Flag} {l k : List Deed}
-    → t ∣ E —[ α doing l ]→ t′ ∣ E′
-    → t ∣ E —[ β doing k ]→ u ∣ F
+pub printed-once : {eval : Values} {t t′ u : Abstract} {E E′ F : Env} {α β : Flag} {l k : List Deed}
+    → eval ⊢ t ∣ E —[ α doing l ]→ t′ ∣ E′
+    → eval ⊢ t ∣ E —[ β doing k ]→ u ∣ F
     → (α ≡ β) × (l ≡ k) × (t′ ≡ u) × (E′ ≡ F)
 printed-once {t′ = t′} {u = u} {E = E} {E′ = E′} {F = F} {α = α} {β = β} {l = l} {k = k} d d′ = go (told d d′ refl)
   where
@@ -325,15 +332,15 @@ printed-once {t′ = t′} {u = u} {E = E} {E′ = E′} {F = F} {α = α} {β =
     go (two-ways f n) = absurd (n refl)
 
 -- what is an instant from u in F is one from t in E, these being the same
-from : {t u v : Abstract} {E F G : Env} {α : Flag} {l : List Deed} {n : ℕ} → t ≡ u → E ≡ F
-    → u ∣ F —[ α doing l ]— n passes→ v ∣ G
-    → t ∣ E —[ α doing l ]— n passes→ v ∣ G
-from {t} {v = v} {F = F} {G = G} {α = α} {l = l} {n = n} x y i =
-    subst⁻¹ (λ E. t ∣ E —[ α doing l ]— n passes→ v ∣ G) y (subst⁻¹ (λ t. t ∣ F —[ α doing l ]— n passes→ v ∣ G) x i)
+from : {eval : Values} {t u v : Abstract} {E F G : Env} {α : Flag} {l : List Deed} {n : ℕ} → t ≡ u → E ≡ F
+    → eval ⊢ u ∣ F —[ α doing l ]— n passes→ v ∣ G
+    → eval ⊢ t ∣ E —[ α doing l ]— n passes→ v ∣ G
+from {eval} {t} {v = v} {F = F} {G = G} {α = α} {l = l} {n = n} x y i =
+    subst⁻¹ (λ E. eval ⊢ t ∣ E —[ α doing l ]— n passes→ v ∣ G) y (subst⁻¹ (λ t. eval ⊢ t ∣ F —[ α doing l ]— n passes→ v ∣ G) x i)
 
-pub instant-printed-once : {t t′ u : Abstract} {E E′ F : Env} {α β : Flag} {l k : List Deed} {m n : ℕ}
-    → t ∣ E —[ α doing l ]— m passes→ t′ ∣ E′
-    → t ∣ E —[ β doing k ]— n passes→ u ∣ F
+pub instant-printed-once : {eval : Values} {t t′ u : Abstract} {E E′ F : Env} {α β : Flag} {l k : List Deed} {m n : ℕ}
+    → eval ⊢ t ∣ E —[ α doing l ]— m passes→ t′ ∣ E′
+    → eval ⊢ t ∣ E —[ β doing k ]— n passes→ u ∣ F
     → (m ≡ n) × (α ≡ β) × (l ≡ k) × (t′ ≡ u) × (E′ ≡ F)
 instant-printed-once (rule47 d h) (rule47 d′ h′) = let (f, q, r, s) = printed-once d d′ in (refl, f, q, r, s)
 instant-printed-once (rule47 d h) (rule48 d′ o i) = absurd (h (printed-once d d′ .0))
@@ -354,9 +361,9 @@ instant-printed-once (rule49 d o i) (rule49 d′ o′ i′) =
     (ap suc p, f, ap₂ _++_ y q, r, s)
 
 -- so an instant by the printed rules, from what a term reads as, is the instant of that term
-pub printed-exactly : {t : Term} {E F : Env} {m n : ℕ} {r : Result} {β : Flag} {k : List Deed} {u : Abstract}
-    → Instant left-first t E m r
-    → reads t ∣ E —[ β doing k ]— n passes→ u ∣ F
+pub printed-exactly : {eval : Values} {t : Term} {E F : Env} {m n : ℕ} {r : Result} {β : Flag} {k : List Deed} {u : Abstract}
+    → Instant (left-first eval) t E m r
+    → eval ⊢ reads t ∣ E —[ β doing k ]— n passes→ u ∣ F
     → (m ≡ n) × (r .flag ≡ β) × (deeds (r .acts) ≡ k) × (reads (r .to) ≡ u) × (r .env ≡ F)
 printed-exactly i j = instant-printed-once (instant-as-printed i) j
 

@@ -12,13 +12,13 @@ use Rattle.junior.specs.declared.Flag.the-variants.{SUSP, STOP, TERM}
 use Rattle.junior.specs.Configuration.{Config, Env}
 use Rattle.junior.specs.Program.{size}
 use Rattle.junior.specs.Term.{Term, done, nothing, stop, atom, generate, await, seq0, seq2, par, loop0, loop1}
-use Rattle.junior.specs.Term.{repeat0, repeat1, when0, when1, when2, until0, until*, until2, control, local}
+use Rattle.junior.specs.Term.{repeat0, repeat1, when0, when1, when2, until0, until*, until2, control, local, if0, if1, if2}
 use Rattle.junior.specs.Term.{prog, leave}
 use Rattle.junior.specs.Trace.{Place, Act, did-atom, did-generate, decided, waits, scope-answered}
 use Rattle.junior.specs.Rules.{Allowed, Result, sign, Rewrites, r1, r1-on, r2, r3, r4, r4-on, r5, r8, r9, r10, r11, r12}
 use Rattle.junior.specs.Rules.{r13, r4-loop, r5-loop, r14, r15, r4-repeat, r5-repeat, r16, r17, r17-on, r18}
 use Rattle.junior.specs.Rules.{r19, r19-on, r20, r21, r22, r23, r24, r25, r26, r27, r28, r29, r30, r31, r31-on}
-use Rattle.junior.specs.Rules.{r32, r33, r34, r35-39}
+use Rattle.junior.specs.Rules.{r32, r33, r34, r35-39, if-true, if-true-on, if-false, if-false-on}
 use Rattle.junior.specs.AtRest.{AtRest}
 use Rattle.junior.specs.Decided.{last-status, last-answers}
 use Rattle.junior.specs.Flags.{γ, δ₁, δ₂}
@@ -115,8 +115,8 @@ between (r12 {p = p} d h) = widen (omega (arith, ap size (prog-fresh p))) (betwe
 between (r13 {p = p} f d e) = chain (widen (omega (arith, ap size (prog-fresh p))) (between d)) (between e)
 between (r4-loop d e) = chain (widen (omega arith) (between d)) (between e)
 between (r5-loop d h) = widen (omega arith) (between d)
-between r14 = record { inside = tt }
-between (r15 {p = p} d) = widen (omega (arith, ap size (prog-fresh p))) (between d)
+between (r14 h) = record { inside = tt }
+between (r15 {p = p} h d) = widen (omega (arith, ap size (prog-fresh p))) (between d)
 between (r4-repeat {n = n} {k = k} {t = t} d e) =
     chain (widen (omega arith) (between d)) (widen (omega (arith, ap size (prog-again n k (prog t)))) (between e))
 between (r5-repeat d h) = widen (omega arith) (between d)
@@ -144,6 +144,10 @@ between (r33 s) = record { inside = tt }
 between (r34 s) = record { inside = tt }
 between (r35-39 {P = P} {r = r} d) =
     chain (widen (omega arith) (between d)) (record { inside = ((omega arith, omega arith), tt) })
+between (if-true {p = p} h d) = widen (omega (arith, ap size (prog-fresh p))) (between d)
+between (if-true-on d) = widen (omega arith) (between d)
+between (if-false {q = q} h d) = widen (omega (arith, ap size (prog-fresh q))) (between d)
+between (if-false-on d) = widen (omega arith) (between d)
 
 -- in the state of node i, each Local plus has its event present by the statuses σ; an Until* has left its body
 unfoldable pub Open : Term → ℕ → (ℕ → Bool) → Type 0
@@ -168,6 +172,9 @@ Open (until* c t q) i σ = Unit {0}
 Open (until2 c p t) i σ = Open t (suc i + size p) σ
 Open (control s t) i σ = Open t (suc i) σ
 Open (local b s t) i σ = (b ≡ true → σ i ≡ true) × Open t (suc i) σ
+Open (if0 v p q) i σ = Unit {0}
+Open (if1 v t q) i σ = Open t (suc i) σ
+Open (if2 v p t) i σ = Open t (suc i + size p) σ
 
 pub rest-open : (t : Term) (i : ℕ) (σ : ℕ → Bool) → AtRest t → Open t i σ
 unfolding AtRest Open
@@ -192,6 +199,9 @@ rest-open (until* c t q) i σ a = tt
 rest-open (until2 c p t) i σ a = rest-open t _ σ a
 rest-open (control s t) i σ a = rest-open t _ σ a
 rest-open (local b s t) i σ a = (λ e. absurd (false≢true (sym (a .0) ∙ e)), rest-open t _ σ (a .1))
+rest-open (if0 v p q) i σ a = tt
+rest-open (if1 v t q) i σ a = rest-open t _ σ a
+rest-open (if2 v p t) i σ a = rest-open t _ σ a
 
 -- σ and τ are the same from i up to j
 pub record Agree (σ τ : ℕ → Bool) (i j : ℕ) : Type 0 where
@@ -226,6 +236,9 @@ open-same (until2 c p t) i a o = open-same t _ (narrow (omega arith) a) o
 open-same (control s t) i a o = open-same t _ (narrow (omega arith) a) o
 open-same (local b s t) i a o =
     (λ e. a .same i (omega arith) (omega arith) ∙ o .0 e, open-same t _ (narrow (omega arith) a) (o .1))
+open-same (if0 v p q) i a o = tt
+open-same (if1 v t q) i a o = open-same t _ (narrow (omega arith) a) o
+open-same (if2 v p t) i a o = open-same t _ (narrow (omega arith) a) o
 
 -- what Locals at other nodes answer doesn't matter
 pub open-apart : {i j : ℕ} {l : List Act} (t : Term) (n : ℕ) (k : List Act) → Between i j l

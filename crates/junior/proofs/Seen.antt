@@ -14,7 +14,7 @@ use Rattle.junior.specs.Trace.{Place, inside, Act, did-atom, did-generat
 use Rattle.junior.specs.Rules.{Allowed, Result, Rewrites, r1, r1-on, r2, r3, r4, r4-on, r5, r8, r9, r10, r11, r12}
 use Rattle.junior.specs.Rules.{r13, r4-loop, r5-loop, r14, r15, r4-repeat, r5-repeat, r16, r17, r17-on, r18}
 use Rattle.junior.specs.Rules.{r19, r19-on, r20, r21, r22, r23, r24, r25, r26, r27, r28, r29, r30, r31, r31-on}
-use Rattle.junior.specs.Rules.{r32, r33, r34, r35-39}
+use Rattle.junior.specs.Rules.{r32, r33, r34, r35-39, if-true, if-true-on, if-false, if-false-on}
 use Rattle.junior.specs.Instant.{Instant, r47, r48, r49}
 use Rattle.junior.proofs.Grows.{grows}
 
@@ -68,8 +68,8 @@ module _ (e : ℕ) where
   seen (r13 {l = l} {r = r} f d d′) h = seen-++ e l (r .acts) (seen d h) (seen d′ (λ o. grows d e (h o)))
   seen (r4-loop {l = l} {r = r} d d′) h = seen-++ e l (r .acts) (seen d h) (seen d′ (λ o. grows d e (h o)))
   seen (r5-loop d n) h = seen d h
-  seen r14 h = tt
-  seen (r15 d) h = seen d h
+  seen (r14 n) h = tt
+  seen (r15 n d) h = seen d h
   seen (r4-repeat {l = l} {r = r} d d′) h = seen-++ e l (r .acts) (seen d h) (seen d′ (λ o. grows d e (h o)))
   seen (r5-repeat d n) h = seen d h
   seen r16 h = tt
@@ -95,6 +95,10 @@ module _ (e : ℕ) where
   seen (r33 v) h = (h, tt)
   seen (r34 v) h = (h, tt)
   seen (r35-39 {P = P} {E = E} {b = b} {s = s} {r = r} d) h = seen-++ e (r .acts) _ (seen d (inside-seen e s b P (E .now) h)) tt
+  seen (if-true n d) h = seen d h
+  seen (if-true-on d) h = seen d h
+  seen (if-false n d) h = seen d h
+  seen (if-false-on d) h = seen d h
 
   pub handed-in-seen : {free : Allowed} {t : Term} {E : Env} {n : ℕ} {r : Result} → Instant free t E n r → E .now e ≡ true → Seen e (r .acts)
   handed-in-seen (r47 d n) h = seen d (λ o. h)

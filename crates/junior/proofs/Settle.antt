@@ -2,7 +2,7 @@
 -- once, as before the end. What still waits then waits for the end; the term that it leaves is the one that the pass after the end leaves.
 use Prim.Native.Nat.{ℕ, zero, suc, _+_}
 use mathlib.Core.Bool.{Bool, true, false, cond, _&&_, _||_, and-eq-true-iff, false≢true}
-use mathlib.Core.Path.{_≡_, refl, ap, _∙_, fun-ext}
+use mathlib.Core.Path.{_≡_, refl, ap, _∙_, fun-ext, sym}
 use mathlib.Core.Logic.{_≢_}
 use mathlib.Core.List.{[], _∷_}
 use mathlib.Core.Option.{Option, none, some}
@@ -16,9 +16,10 @@ use Rattle.junior.specs.declared.Verdict.the-variants.{Sat, Unsat, Unkno
 use Rattle.junior.specs.Flags.{γ, δ₁, δ₂}
 use Rattle.junior.specs.Configuration.{Config, handed-in, eval, test, early-true, early-false}
 use Rattle.junior.specs.Program.{Program, Nothing, Stop, Atom, Seq, Par, Loop, Repeat, Generate, Await, When}
-use Rattle.junior.specs.Program.{Until, Control, Local}
+use Rattle.junior.specs.Program.{Until, Control, Local, If}
+use Rattle.junior.specs.Values.{Values, nonzero, Times, runs-of, surely}
 use Rattle.junior.specs.Term.{Term, done, nothing, stop, atom, generate, await, seq0, seq2, par, loop0, loop1}
-use Rattle.junior.specs.Term.{repeat0, repeat1, when0, when1, when2, until0, until*, until2, control, local, prog}
+use Rattle.junior.specs.Term.{repeat0, repeat1, when0, when1, when2, until0, until*, until2, control, local, if0, if1, if2, prog}
 use Rattle.junior.specs.Term.{fresh, leave}
 use Rattle.junior.specs.Rules.{again}
 use Rattle.junior.specs.Figures.{only-if, stops}
@@ -26,6 +27,7 @@ use Rattle.junior.specs.Trace.{Place, first, second, inside}
 use Rattle.junior.specs.Waited.{lacks, Wait, waits-for}
 use Rattle.junior.specs.Order.{often, tells}
 use Rattle.junior.proofs.Little.{SUSP≢TERM, STOP≢TERM}
+use Rattle.junior.proofs.Times.{unsure}
 use Rattle.junior.proofs.Kept.{prog-fresh}
 use Rattle.junior.proofs.Verdicts.{sat-early, unsat-early}
 use Rattle.junior.proofs.Held.{needed}
@@ -131,7 +133,7 @@ join o p =
     (branch-that-waits (o .flag) (o .wait) (p .wait))
 
 -- a Repeat(n) of p with k runs due, o being what comes of one
-unfoldable pub repeated : ℕ → ℕ → Program → Out → Out
+unfoldable pub repeated : Times → ℕ → Program → Out → Out
 repeated n zero p o = idle TERM (done (Repeat n p))
 repeated n (suc k) p o = bind o (once-ended (repeat1 n k) (repeated n k p o))
 
@@ -148,108 +150,11 @@ hidden s o = out (o .flag) (leave (o .flag) (local false s (o .to))) (put s fals
 unfoldable pub scoped : Bool → ℕ → (Events → Out) → Events → Out
 scoped b s F X = hidden s (F (put s (b || F (put s false X) .gens s) X))
 
--- what comes of a program that is begun, its node being at P
-unfoldable pub starts : Place → Program → Events → Out
-starts P Nothing X = idle TERM (done Nothing)
-starts P Stop X = idle STOP (done Stop)
-starts P (Atom a) X = out TERM (done (Atom a)) no-event (λ n. often n (a ∷ [])) (λ n b. false) none
-starts P (Seq p q) X =
-    bind (starts (first P) p X) (once-ended (λ x. seq0 x q) (bind (starts (second P p) q X) (around (seq2 p))))
-starts P (Par p q) X = join (starts (first P) p X) (starts (second P p) q X)
--- that the body ends at once can't be: any answer but TERM does
-starts P (Loop p) X = bind (starts (first P) p X) (once-ended loop1 (idle STOP (loop0 p)))
-starts P (Repeat n p) X = repeated n n p (starts (first P) p X)
-starts P (Generate s) X = out TERM (done (Generate s)) (put s true no-event) (λ a. 0) (λ n b. false) none
-starts P (Await c) X =
-    tested P (reads c X) (idle TERM (done (Await c))) (idle STOP (await c)) (own-wait P c X) (eval c X) (done (Await c)) (await c)
-starts P (When c p q) X =
-    tested
-    P
-    (reads c X)
-    (bind (starts (first P) p X) (around (λ x. when1 c x q)))
-    (bind (starts (second P p) q X) (around (when2 c p)))
-    (own-wait P c X)
-    (eval c X)
-    (when1 c (fresh p) q)
-    (when2 c p (fresh q))
-starts P (Until c p q) X =
-    bind (starts (first P) p X) (once-stopped P c q (starts (second P p) q X) (own-wait P c X) (eval c X) (reads c X))
-starts P (Control s p) X = steered P (X s) s (fresh p) (starts (first P) p X)
-starts P (Local s p) X = scoped false s (starts (inside s P) p) X
-
--- what comes of a term at P
-unfoldable pub settle : Place → Term → Events → Out
-settle P (done p) X = idle TERM (done p)
-settle P nothing X = starts P Nothing X
-settle P stop X = starts P Stop X
-settle P (atom a) X = starts P (Atom a) X
-settle P (generate s) X = starts P (Generate s) X
-settle P (await c) X = starts P (Await c) X
-settle P (seq0 t q) X =
-    bind (settle (first P) t X) (once-ended (λ x. seq0 x q) (bind (starts (second P (prog t)) q X) (around (seq2 (prog t)))))
-settle P (seq2 p t) X = bind (settle (second P p) t X) (around (seq2 p))
-settle P (par α β t u) X = join (branch α t (settle (first P) t X)) (branch β u (settle (second P (prog t)) u X))
-settle P (loop0 p) X = starts P (Loop p) X
-settle P (loop1 t) X = bind (settle (first P) t X) (once-ended loop1 (starts P (Loop (prog t)) X))
-settle P (repeat0 n p) X = starts P (Repeat n p) X
-settle P (repeat1 n k t) X =
-    bind (settle (first P) t X) (once-ended (repeat1 n k) (repeated n k (prog t) (starts (first P) (prog t) X)))
-settle P (when0 c p q) X = starts P (When c p q) X
-settle P (when1 c t q) X = bind (settle (first P) t X) (around (λ x. when1 c x q))
-settle P (when2 c p t) X = bind (settle (second P p) t X) (around (when2 c p))
-settle P (until0 c t q) X =
-    bind (settle (first P) t X) (once-stopped P c q (starts (second P (prog t)) q X) (own-wait P c X) (eval c X) (reads c X))
-settle P (until* c t q) X = handled P c q (starts (second P (prog t)) q X) (own-wait P c X) (eval c X) (reads c X) t
-settle P (until2 c p t) X = bind (settle (second P p) t X) (around (until2 c p))
-settle P (control s t) X = steered P (X s) s t (settle (first P) t X)
-settle P (local b s t) X = scoped b s (settle (inside s P) t) X
-
 -- nothing before h
 pub bind-idle : (α : Flag) (t : Term) (h : Flag → Term → Out) → bind (idle α t) h ≡ h α t
 unfolding bind
 bind-idle α t h =
     ap (λ k. out (h α t .flag) (h α t .to) (h α t .gens) k (h α t .tests) (h α t .wait)) (fun-ext (λ a. omega arith))
-
--- a Control whose event is present
-pub steered-on : (P : Place) (X : Events) (s : ℕ) (t : Term)
-    → X s ≡ true
-    → settle P (control s t) X ≡ says P true (bind (settle (first P) t X) (around (control s)))
-unfolding settle steered
-steered-on P X s t h = ap (λ b. steered P b s t (settle (first P) t X)) h
-
--- a fresh term comes to what its program does
-pub settle-fresh : (P : Place) (p : Program) (X : Events) → settle P (fresh p) X ≡ starts P p X
-unfolding settle starts fresh
-settle-fresh P Nothing X = refl
-settle-fresh P Stop X = refl
-settle-fresh P (Atom a) X = refl
-settle-fresh P (Seq p q) X =
-    λ i. bind (settle-fresh (first P) p X i) (
-    once-ended (λ x. seq0 x q) (bind (starts (second P (prog-fresh p i)) q X) (around (seq2 (prog-fresh p i))))
-    )
-settle-fresh P (Par p q) X =
-    (λ i. join (settle-fresh (first P) p X i) (settle (second P (prog-fresh p i)) (fresh q) X))
-    ∙ ap (join (starts (first P) p X)) (settle-fresh (second P p) q X)
-settle-fresh P (Loop p) X = refl
-settle-fresh P (Repeat n p) X = refl
-settle-fresh P (Generate s) X = refl
-settle-fresh P (Await c) X = refl
-settle-fresh P (When c p q) X = refl
-settle-fresh P (Until c p q) X =
-    λ i. bind (settle-fresh (first P) p X i) (
-    once-stopped P c q (starts (second P (prog-fresh p i)) q X) (own-wait P c X) (eval c X) (reads c X)
-    )
-settle-fresh P (Control s p) X = λ i. steered P (X s) s (fresh p) (settle-fresh (first P) p X i)
-settle-fresh P (Local s p) X = λ i. scoped false s (λ Y. settle-fresh (inside s P) p Y i) X
-
-pub settle-again : (P : Place) (n k : ℕ) (p : Program) (X : Events)
-    → settle P (again n k p) X ≡ repeated n k p (starts (first P) p X)
-unfolding settle repeated
-settle-again P n zero p X = refl
-settle-again P n (suc k) p X =
-    λ i. bind (settle-fresh (first P) p X i) (
-    once-ended (repeat1 n k) (repeated n k (prog-fresh p i) (starts (first P) (prog-fresh p i) X))
-    )
 
 -- what stops doesn't come to an end, shape by shape
 once-unended : (f : Term → Term) (k : Out) (α : Flag) (t : Term)
@@ -298,45 +203,163 @@ or-unended : (a b : Bool) {α β : Flag} → (a || b) ≡ true → (a ≡ true �
 or-unended true b h f g e = absurd (f refl e)
 or-unended false b h f g e = g h
 
-repeated-unended : (n k : ℕ) (p : Program) (o : Out) → (leb 1 k && stops p) ≡ true → (stops p ≡ true → o .flag ≢ TERM)
-    → repeated n k p o .flag ≢ TERM
+repeated-unended : (n : Times) (k : ℕ) (p : Program) (o : Out) → (k ≢ 0) → o .flag ≢ TERM → repeated n k p o .flag ≢ TERM
 unfolding repeated bind
-repeated-unended n zero p o h f = absurd (false≢true h)
-repeated-unended n (suc k) p o h f =
-    once-unended (repeat1 n k) (repeated n k p o) (o .flag) (o .to) (λ e. absurd (f (and-eq-true-iff (leb 1 (suc k)) (stops p) .0 h .1) e))
+repeated-unended n zero p o h f = absurd (h refl)
+repeated-unended n (suc k) p o h f = once-unended (repeat1 n k) (repeated n k p o) (o .flag) (o .to) (λ e. absurd (f e))
 
-pub starts-unended : (P : Place) (p : Program) (X : Events) → stops p ≡ true → starts P p X .flag ≢ TERM
-unfolding starts stops bind join hidden scoped
-starts-unended P Nothing X h = absurd (false≢true h)
-starts-unended P Stop X h = STOP≢TERM
-starts-unended P (Atom a) X h = absurd (false≢true h)
-starts-unended P (Seq p q) X h =
-    once-unended _ _ _ _ (
-    or-unended (stops p) (stops q) h (λ x. starts-unended (first P) p X x) (λ x. starts-unended (second P p) q X x)
-    )
-starts-unended P (Par p q) X h =
-    γ-unended _ _ (
-    or-unended (stops p) (stops q) h (λ x. starts-unended (first P) p X x) (λ x. starts-unended (second P p) q X x)
-    )
-starts-unended P (Loop p) X h =
-    let o = starts (first P) p X in
-    once-unended loop1 (idle STOP (loop0 p)) (o .flag) (o .to) (λ e. STOP≢TERM)
-starts-unended P (Repeat n p) X h = repeated-unended n n p (starts (first P) p X) h (λ x. starts-unended (first P) p X x)
-starts-unended P (Generate s) X h = absurd (false≢true h)
-starts-unended P (Await c) X h =
-    tested-unended P (reads c X) _ _ _ (eval c X) _ _ (λ v. absurd (false≢true (rw (sat-early c (handed-in X) refl v) at h))) (λ v. STOP≢TERM)
-starts-unended P (When c p q) X h =
-    let k = and-eq-true-iff (only-if (early-true c) (stops p)) (only-if (early-false c) (stops q)) .0 h in
-    let o = bind (starts (first P) p X) (around (λ x. when1 c x q)) in
-    let u = bind (starts (second P p) q X) (around (when2 c p)) in
-    tested-unended P (reads c X) o u (own-wait P c X) (eval c X) _ _
-    (λ v. starts-unended (first P) p X (needed (sat-early c (handed-in X) refl v) (k .0)))
-    (λ v. starts-unended (second P p) q X (needed (unsat-early c (handed-in X) refl v) (k .1)))
-starts-unended P (Until c p q) X h =
-    let k = and-eq-true-iff (stops p) (only-if (early-true c) (stops q)) .0 h in
-    let o = starts (second P p) q X in
-    stopped-unended P c q o (own-wait P c X) (eval c X) (reads c X) _ _
-    (starts-unended (first P) p X (k .0))
-    (λ v. starts-unended (second P p) q X (needed (sat-early c (handed-in X) refl v) (k .1)))
-starts-unended P (Control s p) X h = steered-unended P (X s) s (fresh p) _ (starts-unended (first P) p X h)
-starts-unended P (Local s p) X h = starts-unended (inside s P) p _ h
+either-unended : (b : Bool) (o p : Out) → o .flag ≢ TERM → p .flag ≢ TERM → cond b o p .flag ≢ TERM
+either-unended true o p h k = h
+either-unended false o p h k = k
+
+module _ (value : Values) where
+  -- what comes of a program that is begun, its node being at P
+  unfoldable pub starts : Place → Program → Events → Out
+  starts P Nothing X = idle TERM (done Nothing)
+  starts P Stop X = idle STOP (done Stop)
+  starts P (Atom a) X = out TERM (done (Atom a)) no-event (λ n. often n (a ∷ [])) (λ n b. false) none
+  starts P (Seq p q) X =
+      bind (starts (first P) p X) (once-ended (λ x. seq0 x q) (bind (starts (second P p) q X) (around (seq2 p))))
+  starts P (Par p q) X = join (starts (first P) p X) (starts (second P p) q X)
+  -- that the body ends at once can't be: any answer but TERM does
+  starts P (Loop p) X = bind (starts (first P) p X) (once-ended loop1 (idle STOP (loop0 p)))
+  starts P (Repeat n p) X = repeated n (runs-of value n) p (starts (first P) p X)
+  starts P (Generate s) X = out TERM (done (Generate s)) (put s true no-event) (λ a. 0) (λ n b. false) none
+  starts P (Await c) X =
+      tested P (reads c X) (idle TERM (done (Await c))) (idle STOP (await c)) (own-wait P c X) (eval c X) (done (Await c)) (await c)
+  starts P (When c p q) X =
+      tested
+      P
+      (reads c X)
+      (bind (starts (first P) p X) (around (λ x. when1 c x q)))
+      (bind (starts (second P p) q X) (around (when2 c p)))
+      (own-wait P c X)
+      (eval c X)
+      (when1 c (fresh p) q)
+      (when2 c p (fresh q))
+  starts P (Until c p q) X =
+      bind (starts (first P) p X) (once-stopped P c q (starts (second P p) q X) (own-wait P c X) (eval c X) (reads c X))
+  starts P (Control s p) X = steered P (X s) s (fresh p) (starts (first P) p X)
+  starts P (Local s p) X = scoped false s (starts (inside s P) p) X
+  starts P (If v p q) X =
+      cond
+      (nonzero (value v))
+      (bind (starts (first P) p X) (around (λ x. if1 v x q)))
+      (bind (starts (second P p) q X) (around (if2 v p)))
+
+  -- what comes of a term at P
+  unfoldable pub settle : Place → Term → Events → Out
+  settle P (done p) X = idle TERM (done p)
+  settle P nothing X = starts P Nothing X
+  settle P stop X = starts P Stop X
+  settle P (atom a) X = starts P (Atom a) X
+  settle P (generate s) X = starts P (Generate s) X
+  settle P (await c) X = starts P (Await c) X
+  settle P (seq0 t q) X =
+      bind (settle (first P) t X) (once-ended (λ x. seq0 x q) (bind (starts (second P (prog t)) q X) (around (seq2 (prog t)))))
+  settle P (seq2 p t) X = bind (settle (second P p) t X) (around (seq2 p))
+  settle P (par α β t u) X = join (branch α t (settle (first P) t X)) (branch β u (settle (second P (prog t)) u X))
+  settle P (loop0 p) X = starts P (Loop p) X
+  settle P (loop1 t) X = bind (settle (first P) t X) (once-ended loop1 (starts P (Loop (prog t)) X))
+  settle P (repeat0 n p) X = starts P (Repeat n p) X
+  settle P (repeat1 n k t) X =
+      bind (settle (first P) t X) (once-ended (repeat1 n k) (repeated n k (prog t) (starts (first P) (prog t) X)))
+  settle P (when0 c p q) X = starts P (When c p q) X
+  settle P (when1 c t q) X = bind (settle (first P) t X) (around (λ x. when1 c x q))
+  settle P (when2 c p t) X = bind (settle (second P p) t X) (around (when2 c p))
+  settle P (until0 c t q) X =
+      bind (settle (first P) t X) (once-stopped P c q (starts (second P (prog t)) q X) (own-wait P c X) (eval c X) (reads c X))
+  settle P (until* c t q) X = handled P c q (starts (second P (prog t)) q X) (own-wait P c X) (eval c X) (reads c X) t
+  settle P (until2 c p t) X = bind (settle (second P p) t X) (around (until2 c p))
+  settle P (control s t) X = steered P (X s) s t (settle (first P) t X)
+  settle P (local b s t) X = scoped b s (settle (inside s P) t) X
+  settle P (if0 v p q) X = starts P (If v p q) X
+  settle P (if1 v t q) X = bind (settle (first P) t X) (around (λ x. if1 v x q))
+  settle P (if2 v p t) X = bind (settle (second P p) t X) (around (if2 v p))
+
+  -- a Control whose event is present
+  pub steered-on : (P : Place) (X : Events) (s : ℕ) (t : Term)
+      → X s ≡ true
+      → settle P (control s t) X ≡ says P true (bind (settle (first P) t X) (around (control s)))
+  unfolding settle steered
+  steered-on P X s t h = ap (λ b. steered P b s t (settle (first P) t X)) h
+
+  -- a fresh term comes to what its program does
+  pub settle-fresh : (P : Place) (p : Program) (X : Events) → settle P (fresh p) X ≡ starts P p X
+  unfolding settle starts fresh
+  settle-fresh P Nothing X = refl
+  settle-fresh P Stop X = refl
+  settle-fresh P (Atom a) X = refl
+  settle-fresh P (Seq p q) X =
+      λ i. bind (settle-fresh (first P) p X i) (
+      once-ended (λ x. seq0 x q) (bind (starts (second P (prog-fresh p i)) q X) (around (seq2 (prog-fresh p i))))
+      )
+  settle-fresh P (Par p q) X =
+      (λ i. join (settle-fresh (first P) p X i) (settle (second P (prog-fresh p i)) (fresh q) X))
+      ∙ ap (join (starts (first P) p X)) (settle-fresh (second P p) q X)
+  settle-fresh P (Loop p) X = refl
+  settle-fresh P (Repeat n p) X = refl
+  settle-fresh P (Generate s) X = refl
+  settle-fresh P (Await c) X = refl
+  settle-fresh P (When c p q) X = refl
+  settle-fresh P (Until c p q) X =
+      λ i. bind (settle-fresh (first P) p X i) (
+      once-stopped P c q (starts (second P (prog-fresh p i)) q X) (own-wait P c X) (eval c X) (reads c X)
+      )
+  settle-fresh P (Control s p) X = λ i. steered P (X s) s (fresh p) (settle-fresh (first P) p X i)
+  settle-fresh P (Local s p) X = λ i. scoped false s (λ Y. settle-fresh (inside s P) p Y i) X
+  settle-fresh P (If v p q) X = refl
+
+  pub settle-again : (P : Place) (n : Times) (k : ℕ) (p : Program) (X : Events)
+      → settle P (again n k p) X ≡ repeated n k p (starts (first P) p X)
+  unfolding settle repeated
+  settle-again P n zero p X = refl
+  settle-again P n (suc k) p X =
+      λ i. bind (settle-fresh (first P) p X i) (
+      once-ended (repeat1 n k) (repeated n k (prog-fresh p i) (starts (first P) (prog-fresh p i) X))
+      )
+
+  pub starts-unended : (P : Place) (p : Program) (X : Events) → stops p ≡ true → starts P p X .flag ≢ TERM
+  unfolding starts stops bind join hidden scoped
+  starts-unended P Nothing X h = absurd (false≢true h)
+  starts-unended P Stop X h = STOP≢TERM
+  starts-unended P (Atom a) X h = absurd (false≢true h)
+  starts-unended P (Seq p q) X h =
+      once-unended _ _ _ _ (
+      or-unended (stops p) (stops q) h (λ x. starts-unended (first P) p X x) (λ x. starts-unended (second P p) q X x)
+      )
+  starts-unended P (Par p q) X h =
+      γ-unended _ _ (
+      or-unended (stops p) (stops q) h (λ x. starts-unended (first P) p X x) (λ x. starts-unended (second P p) q X x)
+      )
+  starts-unended P (Loop p) X h =
+      let o = starts (first P) p X in
+      once-unended loop1 (idle STOP (loop0 p)) (o .flag) (o .to) (λ e. STOP≢TERM)
+  starts-unended P (Repeat n p) X h =
+      let k = and-eq-true-iff (surely n) (stops p) .0 h in
+      repeated-unended n (runs-of value n) p (starts (first P) p X)
+      (λ e. false≢true (sym (unsure value n e) ∙ k .0))
+      (starts-unended (first P) p X (k .1))
+  starts-unended P (Generate s) X h = absurd (false≢true h)
+  starts-unended P (Await c) X h =
+      tested-unended P (reads c X) _ _ _ (eval c X) _ _ (λ v. absurd (false≢true (rw (sat-early c (handed-in X) refl v) at h))) (λ v. STOP≢TERM)
+  starts-unended P (When c p q) X h =
+      let k = and-eq-true-iff (only-if (early-true c) (stops p)) (only-if (early-false c) (stops q)) .0 h in
+      let o = bind (starts (first P) p X) (around (λ x. when1 c x q)) in
+      let u = bind (starts (second P p) q X) (around (when2 c p)) in
+      tested-unended P (reads c X) o u (own-wait P c X) (eval c X) _ _
+      (λ v. starts-unended (first P) p X (needed (sat-early c (handed-in X) refl v) (k .0)))
+      (λ v. starts-unended (second P p) q X (needed (unsat-early c (handed-in X) refl v) (k .1)))
+  starts-unended P (Until c p q) X h =
+      let k = and-eq-true-iff (stops p) (only-if (early-true c) (stops q)) .0 h in
+      let o = starts (second P p) q X in
+      stopped-unended P c q o (own-wait P c X) (eval c X) (reads c X) _ _
+      (starts-unended (first P) p X (k .0))
+      (λ v. starts-unended (second P p) q X (needed (sat-early c (handed-in X) refl v) (k .1)))
+  starts-unended P (Control s p) X h = steered-unended P (X s) s (fresh p) _ (starts-unended (first P) p X h)
+  starts-unended P (Local s p) X h = starts-unended (inside s P) p _ h
+  starts-unended P (If v p q) X h =
+      let k = and-eq-true-iff (stops p) (stops q) .0 h in
+      let o = bind (starts (first P) p X) (around (λ x. if1 v x q)) in
+      let u = bind (starts (second P p) q X) (around (if2 v p)) in
+      either-unended (nonzero (value v)) o u (starts-unended (first P) p X (k .0)) (starts-unended (second P p) q X (k .1))

@@ -4,10 +4,10 @@ use mathlib.Core.Bool.{Bool, true, false, not, _&&_, and-eq-true-iff, false≢tr
 use mathlib.Core.Path.{_≡_, refl}
 use native.Mathlib.Nat.{mul-le-mul}
 use native.Mathlib.Omega.{arith}
-use lib.Dec.{leb}
+use Rattle.junior.specs.Values.{most, surely}
 use Rattle.junior.specs.Configuration.{early-true, early-false}
 use Rattle.junior.specs.Program.{Program, Nothing, Stop, Atom, Seq, Par, Loop, Repeat, Generate, Await, When, Until}
-use Rattle.junior.specs.Program.{Control, Local}
+use Rattle.junior.specs.Program.{Control, Local, If}
 use Rattle.junior.specs.Figures.{only-if, stops, times, figure}
 use Rattle.junior.specs.StoppedBefore.{stopped-before, figure-before}
 use Rattle.junior.proofs.Held.{either}
@@ -27,7 +27,7 @@ still-stops (Atom a) h = h
 still-stops (Seq p q) h = either (stopped-before p) (stopped-before q) (still-stops p) (still-stops q) h
 still-stops (Par p q) h = either (stopped-before p) (stopped-before q) (still-stops p) (still-stops q) h
 still-stops (Loop p) h = h
-still-stops (Repeat n p) h = both {a = leb 1 n} {c = leb 1 n} (λ x. x) (still-stops p) h
+still-stops (Repeat n p) h = both {a = surely n} {c = surely n} (λ x. x) (still-stops p) h
 still-stops (Generate s) h = h
 still-stops (Await c) h = absurd (false≢true h)
 still-stops (When c p q) h =
@@ -35,6 +35,7 @@ still-stops (When c p q) h =
 still-stops (Until c p q) h = both {a = stopped-before p} (still-stops p) (λ x. enough (early-true c) (still-stops q x)) h
 still-stops (Control s p) h = still-stops p h
 still-stops (Local s p) h = still-stops p h
+still-stops (If v p q) h = both {a = stopped-before p} (still-stops p) (still-stops q) h
 
 -- how often a body counts that stopped before only if it stops now
 no-oftener : (n : ℕ) (before now : Bool) → (before ≡ true → now ≡ true) → times n now ≤ times n before
@@ -53,10 +54,11 @@ module _ (k : Program → ℕ) where
   no-larger (Par p q) = omega (arith, no-larger p, no-larger q)
   no-larger (Loop p) = omega (arith, no-larger p)
   no-larger (Repeat n p) =
-      let m = mul-le-mul (no-oftener n (stopped-before p) (stops p) (still-stops p)) (no-larger p) in omega arith
+      let m = mul-le-mul (no-oftener (most n) (stopped-before p) (stops p) (still-stops p)) (no-larger p) in omega arith
   no-larger (Generate s) = omega arith
   no-larger (Await c) = omega arith
   no-larger (When c p q) = omega (arith, no-larger p, no-larger q)
   no-larger (Until c p q) = omega (arith, no-larger p, no-larger q)
   no-larger (Control s p) = omega (arith, no-larger p)
   no-larger (Local s p) = omega (arith, no-larger p)
+  no-larger (If v p q) = omega (arith, no-larger p, no-larger q)

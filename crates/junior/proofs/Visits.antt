@@ -9,17 +9,19 @@ use lib.ListN.{length}
 use Rattle.events.specs.Events.{Events}
 use Rattle.junior.specs.Configuration.{Env, handed-in}
 use Rattle.junior.specs.Program.{Program, Repeat, Until}
+use Rattle.junior.specs.Values.{most}
 use Rattle.junior.specs.Term.{Term, prog, fresh}
 use Rattle.junior.specs.Trace.{Place}
 use Rattle.junior.specs.Rules.{Allowed, Result, Rewrites, r1, r1-on, r2, r3, r4, r4-on, r5, r8, r9, r10, r11, r12, r13}
 use Rattle.junior.specs.Rules.{r4-loop, r5-loop, r14, r15, r4-repeat, r5-repeat, r16, r17, r17-on, r18, r19}
 use Rattle.junior.specs.Rules.{r19-on, r20, r21, r22, r23, r24, r25, r26, r27, r28, r29, r30, r31, r31-on, r32}
-use Rattle.junior.specs.Rules.{r33, r34, r35-39}
+use Rattle.junior.specs.Rules.{r33, r34, r35-39, if-true, if-true-on, if-false, if-false-on}
 use Rattle.junior.specs.Instant.{Instant, r47, r48, r49}
 use Rattle.junior.specs.Figures.{stops, LoopsStop, figure, every, G, W}
 use Rattle.junior.specs.AtRest.{AtRest}
 use Rattle.junior.specs.Visits.{below, visits, visits-by-pass, EachAtMost, sum}
 use Rattle.junior.specs.Inside.{Going, pot}
+use Rattle.junior.proofs.Times.{below-most}
 use Rattle.junior.proofs.Kept.{prog-fresh, prog-again, kept}
 use Rattle.junior.proofs.Going.{rest-going}
 use Rattle.junior.proofs.Held.{begun, ends-unheld}
@@ -50,13 +52,13 @@ module _ (k : Program → ℕ) where
   within-pot (r13 {p = p} f d e) o = absurd (begun p d (o .0) refl)
   within-pot (r4-loop d e) o = simp (ends-unheld d) (omega (arith, within-pot d (o .1), within-pot e o))
   within-pot (r5-loop d n) o = omega (arith, within-pot d (o .1))
-  within-pot r14 o = omega arith
-  within-pot (r15 {n = n} {p = p} d) o =
+  within-pot (r14 h) o = omega arith
+  within-pot (r15 {n = n} {k = j} {p = p} h d) o =
       omega (
         arith,
         within-pot d (loops-fresh p o),
-        ap (λ x. k (Repeat (suc n) x)) (prog-fresh p),
-        repeat-fresh k (suc n) n _ p (due-times (suc n) n (stops p) (stops p) (omega arith)),
+        ap (λ x. k (Repeat n x)) (prog-fresh p),
+        repeat-fresh k n j _ p (due-times (most n) j (stops p) (stops p) (below-most _ n h)),
       )
   within-pot (r4-repeat {n = n} {k = j} {t = t} d e) o =
       simp (ends-unheld d)
@@ -92,6 +94,10 @@ module _ (k : Program → ℕ) where
   within-pot (r33 s) o = omega arith
   within-pot (r34 s) o = omega arith
   within-pot (r35-39 d) o = omega (arith, within-pot d o)
+  within-pot (if-true {p = p} h d) o = omega (arith, fresh-within p _ (within-pot d (loops-fresh p (o .0))))
+  within-pot (if-true-on d) o = omega (arith, within-pot d (o .0))
+  within-pot (if-false {q = q} h d) o = omega (arith, fresh-within q _ (within-pot d (loops-fresh q (o .1))))
+  within-pot (if-false-on d) o = omega (arith, within-pot d (o .1))
 
   -- so, in the middle of an instant, at most the figure
   pub pass-within-figure : {free : Allowed} {P : Place} {t : Term} {E : Env} {r : Result} (d : Rewrites free P t E r)

@@ -12,12 +12,13 @@ use Rattle.junior.specs.declared.Flag.the-variants.{SUSP, STOP, TERM}
 use Rattle.junior.specs.Flags.{γ}
 use Rattle.junior.specs.Configuration.{Env}
 use Rattle.junior.specs.Program.{size}
+use Rattle.junior.specs.Values.{Values}
 use Rattle.junior.specs.Term.{Term, prog}
 use Rattle.junior.specs.Trace.{Place, Act, did-atom, did-generate, decided, waits, scope-answered, collect}
 use Rattle.junior.specs.Rules.{left-first, Result, Rewrites, r1, r1-on, r2, r3, r4, r4-on, r5, r8, r9, r10, r11, r12}
 use Rattle.junior.specs.Rules.{r13, r4-loop, r5-loop, r14, r15, r4-repeat, r5-repeat, r16, r17, r17-on, r18}
 use Rattle.junior.specs.Rules.{r19, r19-on, r20, r21, r22, r23, r24, r25, r26, r27, r28, r29, r30, r31, r31-on}
-use Rattle.junior.specs.Rules.{r32, r33, r34, r35-39}
+use Rattle.junior.specs.Rules.{r32, r33, r34, r35-39, if-true, if-true-on, if-false, if-false-on}
 use Rattle.junior.specs.Waited.{lacks, Wait, waits-for, first-wait}
 use Rattle.junior.proofs.Little.{STOP≢SUSP, TERM≢SUSP, collect-++, collect-last}
 use Rattle.junior.proofs.Kept.{prog-fresh, prog-again, kept}
@@ -104,7 +105,7 @@ branches α β {i} {a} {b} {l} {m} x y =
           let (g, h) = γ-answered α β f in rw (collect-++ node-that-waits l m, x .none-waits g, y .none-waits h);
     }
 
-pub in-order : {P : Place} {t : Term} {E : Env} {r : Result} → Rewrites left-first P t E r
+pub in-order : {value : Values} {P : Place} {t : Term} {E : Env} {r : Result} → Rewrites (left-first value) P t E r
     → InOrder (r .flag) (P .node) (size (prog t)) (r .acts)
 unfolding size prog collect
 in-order r1 = none-wait refl
@@ -125,8 +126,8 @@ in-order (r12 {p = p} d h) = within (omega (arith, ap size (prog-fresh p))) (in-
 in-order (r13 f d e) = behind (in-order d) TERM≢SUSP (in-order e)
 in-order (r4-loop d e) = behind (in-order d) TERM≢SUSP (in-order e)
 in-order (r5-loop d h) = within (omega arith) (in-order d)
-in-order r14 = none-wait refl
-in-order (r15 {p = p} d) = within (omega (arith, ap size (prog-fresh p))) (in-order d)
+in-order (r14 h) = none-wait refl
+in-order (r15 {p = p} h d) = within (omega (arith, ap size (prog-fresh p))) (in-order d)
 in-order (r4-repeat {n = n} {k = k} {t = t} d e) =
     behind (in-order d) TERM≢SUSP (within (omega (arith, ap size (prog-again n k (prog t)))) (in-order e))
 in-order (r5-repeat d h) = within (omega arith) (in-order d)
@@ -154,6 +155,10 @@ in-order (r33 v) = none-wait refl
 in-order (r34 v) = one-waits (omega arith) refl
 in-order (r35-39 {r = r} d) =
     same-nodes (collect-last node-that-waits (r .acts) _ refl) (within (omega arith) (in-order d))
+in-order (if-true {p = p} h d) = within (omega (arith, ap size (prog-fresh p))) (in-order d)
+in-order (if-true-on d) = within (omega arith) (in-order d)
+in-order (if-false {q = q} h d) = within (omega (arith, ap size (prog-fresh q))) (in-order d)
+in-order (if-false-on d) = within (omega arith) (in-order d)
 
 -- the first test that waits in these acts
 unfoldable pub first-met : List Act → Option Wait
@@ -186,5 +191,6 @@ met-from i j (waits P c E ∷ l) a = go (lacks c (E .now)) (met-from (suc (P .no
         (first, rw first (own-wait i j (P .node) x (a .0)))
 met-from i j (scope-answered n α b ∷ l) a = met-from i j l a
 
-pub meets-first : {P : Place} {t : Term} {E : Env} {r : Result} → Rewrites left-first P t E r → first-wait (r .acts) ≡ first-met (r .acts)
-meets-first {P} {t} {r = r} d = met-from (P .node) _ (r .acts) (in-order d .rise) .0
+pub meets-first : {value : Values} {P : Place} {t : Term} {E : Env} {r : Result} → Rewrites (left-first value) P t E r
+    → first-wait (r .acts) ≡ first-met (r .acts)
+meets-first {P = P} {t} {r = r} d = met-from (P .node) _ (r .acts) (in-order d .rise) .0

@@ -3,6 +3,7 @@ use Prim.Native.Nat.{ℕ}
 use mathlib.Core.Bool.{true, false}
 use mathlib.Core.Path.{_≡_, refl, ap, sym, subst⁻¹, _∙_}
 use Rattle.junior.specs.Configuration.{Env, unmoved}
+use Rattle.junior.specs.Values.{Values}
 use Rattle.junior.specs.Term.{Term}
 use Rattle.junior.specs.Trace.{root}
 use Rattle.junior.specs.Rules.{Allowed, left-first, Result, Rewrites}
@@ -14,14 +15,14 @@ use Rattle.junior.proofs.Lower.{found}
 use Rattle.junior.proofs.Waits.{suspended, waits-exactly}
 
 -- from one term in one environment, however that is said
-same-result : {t t′ : Term} {E E′ : Env} {r s : Result} → t ≡ t′ → E ≡ E′ → Rewrites left-first root t E r
-    → Rewrites left-first root t′ E′ s
+same-result : {value : Values} {t t′ : Term} {E E′ : Env} {r s : Result} → t ≡ t′ → E ≡ E′ → Rewrites (left-first value) root t E r
+    → Rewrites (left-first value) root t′ E′ s
     → r ≡ s
-same-result {t} {t′} {E} {E′} {r} {s} x y d e =
-    one-result d (subst⁻¹ (λ u. Rewrites left-first root u E s) x (subst⁻¹ (λ F. Rewrites left-first root t′ F s) y e))
+same-result {value} {t} {t′} {E} {E′} {r} {s} x y d e =
+    one-result d (subst⁻¹ (λ u. Rewrites (left-first value) root u E s) x (subst⁻¹ (λ F. Rewrites (left-first value) root t′ F s) y e))
 
-same-pass : {t t′ : Term} {E E′ : Env} {m n : ℕ} {r s : Result} → t ≡ t′ → E ≡ E′
-    → (i : Instant left-first t E m r) (j : Instant left-first t′ E′ n s)
+same-pass : {value : Values} {t t′ : Term} {E E′ : Env} {m n : ℕ} {r s : Result} → t ≡ t′ → E ≡ E′
+    → (i : Instant (left-first value) t E m r) (j : Instant (left-first value) t′ E′ n s)
     → before-the-end i ≡ before-the-end j
 unfolding before-the-end
 same-pass x y (r47 d h) (r47 d′ h′) = refl
@@ -36,7 +37,8 @@ same-pass x y (r49 d f m i) (r49 d′ f′ m′ i′) =
     let z = same-result x y d d′ in
     same-pass (ap (λ r. r .to) z) (ap (λ r. unmoved (r .env)) z) i i′
 
-pub one-waited : {t : Term} {E : Env} {m n : ℕ} {r s : Result} (i : Instant left-first t E m r) (j : Instant left-first t E n s)
+pub one-waited : {value : Values} {t : Term} {E : Env} {m n : ℕ} {r s : Result} (i : Instant (left-first value) t E m r)
+    (j : Instant (left-first value) t E n s)
     → waited i ≡ waited j
 one-waited i j = ap first-wait (same-pass refl refl i j)
 

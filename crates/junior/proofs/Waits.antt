@@ -14,7 +14,7 @@ use Rattle.junior.specs.Trace.{Place, Act, did-atom, did-generate, decid
 use Rattle.junior.specs.Rules.{Allowed, Result, Rewrites, r1, r1-on, r2, r3, r4, r4-on, r5, r8, r9, r10, r11, r12}
 use Rattle.junior.specs.Rules.{r13, r4-loop, r5-loop, r14, r15, r4-repeat, r5-repeat, r16, r17, r17-on, r18}
 use Rattle.junior.specs.Rules.{r19, r19-on, r20, r21, r22, r23, r24, r25, r26, r27, r28, r29, r30, r31, r31-on}
-use Rattle.junior.specs.Rules.{r32, r33, r34, r35-39}
+use Rattle.junior.specs.Rules.{r32, r33, r34, r35-39, if-true, if-true-on, if-false, if-false-on}
 use Rattle.junior.specs.Waited.{lower, lacks, Wait, waits-for, first-wait}
 use Rattle.junior.proofs.Lower.{found, found-some, found-none, lower-none, lower-found, lower-assoc}
 use Rattle.junior.proofs.Lacking.{lacks-found}
@@ -103,8 +103,8 @@ waits-exactly (r12 d h) = waits-exactly d
 waits-exactly (r13 {l = l} {r = r} f d e) = chained l (r .acts) (waits-exactly d) (waits-exactly e)
 waits-exactly (r4-loop {l = l} {r = r} d e) = chained l (r .acts) (waits-exactly d) (waits-exactly e)
 waits-exactly (r5-loop d h) = waits-exactly d
-waits-exactly r14 = refl
-waits-exactly (r15 d) = waits-exactly d
+waits-exactly (r14 h) = refl
+waits-exactly (r15 h d) = waits-exactly d
 waits-exactly (r4-repeat {l = l} {r = r} d e) = chained l (r .acts) (waits-exactly d) (waits-exactly e)
 waits-exactly (r5-repeat d h) = waits-exactly d
 waits-exactly r16 = refl
@@ -131,6 +131,10 @@ waits-exactly (r33 v) = refl
 waits-exactly (r34 {P = P} {E = E} {c = c} v) = waiting P c E v
 waits-exactly (r35-39 {P = P} {s = s} {r = r} d) =
     ap found (first-wait-scope (r .acts) (P .node) (r .flag) (r .env .now s)) ∙ waits-exactly d
+waits-exactly (if-true h d) = waits-exactly d
+waits-exactly (if-true-on d) = waits-exactly d
+waits-exactly (if-false h d) = waits-exactly d
+waits-exactly (if-false-on d) = waits-exactly d
 
 module _ {free : Allowed} {P : Place} {t : Term} {E : Env} {r : Result} (d : Rewrites free P t E r) where
   pub suspended-waits : r .flag ≡ SUSP → (w : Wait) × (first-wait (r .acts) ≡ some w)

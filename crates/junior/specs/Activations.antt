@@ -7,7 +7,7 @@ use mathlib.Core.List.{List, [], _∷_}
 use Rattle.junior.specs.declared.Flag.{Flag}
 use Rattle.junior.specs.declared.Flag.the-variants.{SUSP, STOP, TERM}
 use Rattle.junior.specs.Program.{Program, Nothing, Stop, Atom, Seq, Par, Loop, Repeat, Generate, Await, When}
-use Rattle.junior.specs.Program.{Until, Control, Local, size}
+use Rattle.junior.specs.Program.{Until, Control, Local, If, size}
 use Rattle.junior.specs.Trace.{Act, did-atom, did-generate, decided, waits, scope-answered}
 
 -- of the program whose node is i, node n stands in the body of the Until at node m
@@ -26,6 +26,7 @@ UntilAround (Until c p q) i m n =
     ((m ≡ i) × (i < n) × (n < suc i + size p)) ⊎ (UntilAround p (suc i) m n ⊎ UntilAround q (suc i + size p) m n)
 UntilAround (Control s p) i m n = UntilAround p (suc i) m n
 UntilAround (Local s p) i m n = UntilAround p (suc i) m n
+UntilAround (If v p q) i m n = UntilAround p (suc i) m n ⊎ UntilAround q (suc i + size p) m n
 
 -- the body of the Local at n answers in these acts
 unfoldable pub Answers : ℕ → List Act → Type 0

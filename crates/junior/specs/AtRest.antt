@@ -6,7 +6,8 @@ use Rattle.junior.specs.declared.Flag.{Flag}
 use Rattle.junior.specs.declared.Flag.the-variants.{SUSP, STOP, TERM}
 use Rattle.junior.specs.Program.{Program}
 use Rattle.junior.specs.Term.{Term, done, nothing, stop, atom, generate, await, seq0, seq2, par, loop0, loop1}
-use Rattle.junior.specs.Term.{repeat0, repeat1, when0, when1, when2, until0, until*, until2, control, local}
+use Rattle.junior.specs.Term.{repeat0, repeat1, when0, when1, when2, until0, until*, until2, control, local, if0, if1, if2}
+use Rattle.junior.specs.Values.{most}
 
 -- Par's flags each SUSP or TERM, and not both TERM
 abbrev pub Waiting : Flag → Flag → Type 0
@@ -37,7 +38,8 @@ AtRest (par α β t u) = Waiting α β × Over α t × Over β u × AtRest t × 
 AtRest (loop0 p) = Unit {0}
 AtRest (loop1 t) = AtRest t
 AtRest (repeat0 n p) = Unit {0}
-AtRest (repeat1 n k t) = (k < n) × AtRest t
+-- of a RepeatExt: "its count below the cap"
+AtRest (repeat1 n k t) = (k < most n) × AtRest t
 AtRest (when0 c p q) = Unit {0}
 AtRest (when1 c t q) = AtRest t
 AtRest (when2 c p t) = AtRest t
@@ -46,3 +48,6 @@ AtRest (until* c t q) = ⊥
 AtRest (until2 c p t) = AtRest t
 AtRest (control s t) = AtRest t
 AtRest (local b s t) = (b ≡ false) × AtRest t
+AtRest (if0 v p q) = Unit {0}
+AtRest (if1 v t q) = AtRest t
+AtRest (if2 v p t) = AtRest t

@@ -2,10 +2,11 @@
 use Prim.Native.Nat.{ℕ, _+_, _*_, min, max}
 use mathlib.Core.Bool.{Bool, true, false, cond, not, _&&_, _||_}
 use mathlib.Core.Path.{_≡_}
-use lib.Dec.{leb, eqb}
+use lib.Dec.{eqb}
 use Rattle.junior.specs.Configuration.{early-true, early-false}
 use Rattle.junior.specs.Program.{Program, kind, Nothing, Stop, Atom, Seq, Par, Loop, Repeat, Generate, Await}
-use Rattle.junior.specs.Program.{When, Until, Control, Local}
+use Rattle.junior.specs.Program.{When, Until, Control, Local, If}
+use Rattle.junior.specs.Values.{most, surely}
 
 -- needed only if possible
 abbrev pub only-if : Bool → Bool → Bool
@@ -13,7 +14,8 @@ only-if possible so = not possible || so
 
 -- Freshly begun, it can't end in that same instant. Await, When and Until by L2: "Await stops if its configuration can't be early true. When
 -- needs its then branch to stop only if early true is possible, its else branch only if early false is. Until needs its body to stop, and its
--- handler only if early true is possible." (01 had: Await doesn't stop; When and Until do if both parts do.)
+-- handler only if early true is possible." (01 had: Await doesn't stop; When and Until do if both parts do.) L14: "If .. stops if both branches
+-- stop ..; RepeatExt never counts as stopping".
 unfoldable pub stops : Program → Bool
 stops Nothing = false
 stops Stop = true
@@ -21,13 +23,14 @@ stops (Atom a) = false
 stops (Seq p q) = stops p || stops q
 stops (Par p q) = stops p || stops q
 stops (Loop p) = true
-stops (Repeat n p) = leb 1 n && stops p
+stops (Repeat n p) = surely n && stops p
 stops (Generate s) = false
 stops (Await c) = not (early-true c)
 stops (When c p q) = only-if (early-true c) (stops p) && only-if (early-false c) (stops q)
 stops (Until c p q) = stops p && only-if (early-true c) (stops q)
 stops (Control s p) = stops p
 stops (Local s p) = stops p
+stops (If v p q) = stops p && stops q
 
 -- every Loop's body stops
 unfoldable pub LoopsStop : Program → Type 0
@@ -44,12 +47,14 @@ LoopsStop (When c p q) = LoopsStop p × LoopsStop q
 LoopsStop (Until c p q) = LoopsStop p × LoopsStop q
 LoopsStop (Control s p) = LoopsStop p
 LoopsStop (Local s p) = LoopsStop p
+LoopsStop (If v p q) = LoopsStop p × LoopsStop q
 
--- how often a figure counts the body of a Repeat(n)
+-- how often a figure counts a body that runs n times
 abbrev pub times : ℕ → Bool → ℕ
 times n body-stops = cond body-stops (min n 2) n
 
--- the figure of a program by the own weights k of its nodes
+-- the figure of a program by the own weights k of its nodes. L14: If "weighs as When", and of RepeatExt
+-- "its figure uses the cap".
 unfoldable pub figure : (Program → ℕ) → Program → ℕ
 figure k Nothing = k Nothing
 figure k Stop = k Stop
@@ -57,13 +62,14 @@ figure k (Atom a) = k (Atom a)
 figure k (Seq p q) = k (Seq p q) + (figure k p + figure k q)
 figure k (Par p q) = k (Par p q) + (figure k p + figure k q)
 figure k (Loop p) = k (Loop p) + 2 * figure k p
-figure k (Repeat n p) = k (Repeat n p) + times n (stops p) * figure k p
+figure k (Repeat n p) = k (Repeat n p) + times (most n) (stops p) * figure k p
 figure k (Generate s) = k (Generate s)
 figure k (Await c) = k (Await c)
 figure k (When c p q) = k (When c p q) + max (figure k p) (figure k q)
 figure k (Until c p q) = k (Until c p q) + (figure k p + figure k q)
 figure k (Control s p) = k (Control s p) + figure k p
 figure k (Local s p) = k (Local s p) + figure k p
+figure k (If v p q) = k (If v p q) + max (figure k p) (figure k q)
 
 -- own weights: one for each node of a kind, one for every node
 abbrev pub per : ℕ → Program → ℕ

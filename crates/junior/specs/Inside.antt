@@ -7,9 +7,10 @@ use Rattle.events.specs.Events.{Events, put}
 use Rattle.junior.specs.declared.Flag.{Flag}
 use Rattle.junior.specs.declared.Flag.the-variants.{SUSP, STOP, TERM}
 use Rattle.junior.specs.Configuration.{early-true, early-false}
-use Rattle.junior.specs.Program.{Program, Nothing, Stop, Atom, Seq, Par, Loop, Repeat, Generate, Await, When, Until, Control, Local}
+use Rattle.junior.specs.Values.{most, surely}
+use Rattle.junior.specs.Program.{Program, Nothing, Stop, Atom, Seq, Par, Loop, Repeat, Generate, Await, When, Until, Control, Local, If}
 use Rattle.junior.specs.Term.{Term, done, nothing, stop, atom, generate, await, seq0, seq2, par, loop0, loop1}
-use Rattle.junior.specs.Term.{repeat0, repeat1, when0, when1, when2, until0, until*, until2, control, local, prog}
+use Rattle.junior.specs.Term.{repeat0, repeat1, when0, when1, when2, until0, until*, until2, control, local, if0, if1, if2, prog}
 use Rattle.junior.specs.AtRest.{AtRest, Over}
 use Rattle.junior.specs.Figures.{only-if, stops, times, figure}
 
@@ -48,7 +49,7 @@ Going X (par α β t u) = Suspended α β × RemainsIf α (Going X t) t × Remai
 Going X (loop0 p) = Unit {0}
 Going X (loop1 t) = Going X t
 Going X (repeat0 n p) = Unit {0}
-Going X (repeat1 n k t) = (k < n) × Going X t
+Going X (repeat1 n k t) = (k < most n) × Going X t
 Going X (when0 c p q) = Unit {0}
 Going X (when1 c t q) = Going X t
 Going X (when2 c p t) = Going X t
@@ -57,6 +58,9 @@ Going X (until* c t q) = AtRest t
 Going X (until2 c p t) = Going X t
 Going X (control s t) = Controlled (X s) (Going X t) t
 Going X (local b s t) = Going (put s b X) t
+Going X (if0 v p q) = Unit {0}
+Going X (if1 v t q) = Going X t
+Going X (if2 v p t) = Going X t
 
 abbrev pub Remains : Flag → Events → Term → Type 0
 Remains α X t = RemainsIf α (Going X t) t
@@ -80,7 +84,7 @@ held (seq2 p t) = held t
 held (par α β t u) = live α (held t) || live β (held u)
 held (loop0 p) = true
 held (loop1 t) = true
-held (repeat0 n p) = leb 1 n && stops p
+held (repeat0 n p) = surely n && stops p
 held (repeat1 n k t) = held t || (leb 1 k && stops (prog t))
 held (when0 c p q) = only-if (early-true c) (stops p) && only-if (early-false c) (stops q)
 held (when1 c t q) = held t
@@ -90,6 +94,9 @@ held (until* c t q) = only-if (early-true c) (stops q)
 held (until2 c p t) = held t
 held (control s t) = held t
 held (local b s t) = held t
+held (if0 v p q) = stops p && stops q
+held (if1 v t q) = held t
+held (if2 v p t) = held t
 
 -- what is left of x in this instant: nothing, unless suspended
 abbrev pub rest : Flag → ℕ → ℕ
@@ -115,7 +122,7 @@ pot k (seq2 p t) = k (Seq p (prog t)) + pot k t
 pot k (par α β t u) = k (Par (prog t) (prog u)) + (rest α (pot k t) + rest β (pot k u))
 pot k (loop0 p) = k (Loop p) + figure k p
 pot k (loop1 t) = k (Loop (prog t)) + (pot k t + due 1 (held t) true * figure k (prog t))
-pot k (repeat0 n p) = k (Repeat n p) + times n (stops p) * figure k p
+pot k (repeat0 n p) = k (Repeat n p) + times (most n) (stops p) * figure k p
 pot k (repeat1 n j t) = k (Repeat n (prog t)) + (pot k t + due j (held t) (stops (prog t)) * figure k (prog t))
 pot k (when0 c p q) = k (When c p q) + max (figure k p) (figure k q)
 pot k (when1 c t q) = k (When c (prog t) q) + pot k t
@@ -125,3 +132,6 @@ pot k (until* c t q) = k (Until c (prog t) q) + figure k q
 pot k (until2 c p t) = k (Until c p (prog t)) + pot k t
 pot k (control s t) = k (Control s (prog t)) + pot k t
 pot k (local b s t) = k (Local s (prog t)) + pot k t
+pot k (if0 v p q) = k (If v p q) + max (figure k p) (figure k q)
+pot k (if1 v t q) = k (If v (prog t) q) + pot k t
+pot k (if2 v p t) = k (If v p (prog t)) + pot k t

@@ -6,6 +6,7 @@ use mathlib.Core.List.{List, [], _∷_, _++_}
 use mathlib.Core.Option.{none, some}
 use Rattle.events.specs.Events.{Events}
 use Rattle.junior.specs.Configuration.{Config, Env, unknown, handed-in}
+use Rattle.junior.specs.Values.{Values}
 use Rattle.junior.specs.Term.{Term}
 use Rattle.junior.specs.Trace.{Place, Act, did-atom, did-generate, decided, waits, scope-answered}
 use Rattle.junior.specs.Rules.{left-first, Result}
@@ -55,7 +56,7 @@ pub record LacksAtTheEnd (F : Events) (w : Wait) (l : List Act) : Type 0 where
   pub event-is : Named test (finished F (last-answers later) place) (w .event)
 
 -- what an instant reports
-pub record Reports {t : Term} {X : Events} {n : ℕ} {r : Result} (i : Instant left-first t (handed-in X) n r) : Type 0 where
+pub record Reports {value : Values} {t : Term} {X : Events} {n : ℕ} {r : Result} (i : Instant (left-first value) t (handed-in X) n r) : Type 0 where
   -- "for the last pass before the end was declared, the first suspended test in node order .. and its event"
   pub if-declared : r .env .eoi ≡ true → (w : Wait) × (waited i ≡ some w)
   pub first : (w : Wait) → waited i ≡ some w → FirstSuspended (before-the-end i) w
@@ -68,4 +69,4 @@ pub record L1 : Type 0 where
   -- "Where a configuration is unknown, the test now also names the lowest event it mentions that isn't present; one always exists."
   pub test-names : (c : Config) (E : Env) → unknown c E → (e : ℕ) × Named c (E .now) e
   -- "An instant also reports .."
-  pub instant-reports : {t : Term} {X : Events} {n : ℕ} {r : Result} (i : Instant left-first t (handed-in X) n r) → Reports i
+  pub instant-reports : {value : Values} {t : Term} {X : Events} {n : ℕ} {r : Result} (i : Instant (left-first value) t (handed-in X) n r) → Reports i

@@ -1,6 +1,7 @@
 -- The definitions, in reading order.
 pub mod Flags
 pub mod Configuration
+pub mod Values
 pub mod Program
 pub mod Term
 pub mod Trace
@@ -21,3 +22,5 @@ pub mod StoppedBefore
 pub mod NeverRoundTwice
 pub mod L1
 pub mod WaitedSo
+pub mod Asked
+pub mod AskedSo

@@ -1,6 +1,7 @@
 -- L6, "Branch order must not choose the channels": "let each Par, in each pass where both branches are suspended, run either branch first", which
 -- is by rule 8 or rule 9, at each such Par, in each pass anew, also in the one after the end.
--- Its premises here: t is at rest, and its program's Loops have bodies that stop (refusal 7).
+-- Its premises here: t is at rest, and its program's Loops have bodies that stop (refusal 7). L14: "L6 .. hold for equal values": the
+-- instants compared are of one `value`.
 use Prim.Native.Nat.{ℕ, suc, _+_, _≤_}
 use mathlib.Core.Bool.{Bool, true, false, cond, not, _&&_, _||_}
 use mathlib.Core.Path.{_≡_}
@@ -10,6 +11,7 @@ use Rattle.events.specs.Events.{Events, none as no-event}
 use Rattle.junior.specs.declared.Flag.the-variants.{SUSP}
 use Rattle.junior.specs.Configuration.{Env, declared-end, unmoved, handed-in, Event}
 use Rattle.junior.specs.Program.{Program, Atom, Seq, Par, Generate, Await}
+use Rattle.junior.specs.Values.{Values, zeros}
 use Rattle.junior.specs.Term.{Term, prog, fresh}
 use Rattle.junior.specs.Trace.{Place, root, Act, did-atom, did-generate, decided, waits, scope-answered, atoms}
 use Rattle.junior.specs.Rules.{left-first, either-first, Result, Rewrites}
@@ -18,20 +20,20 @@ use Rattle.junior.specs.Figures.{G}
 use Rattle.junior.specs.Waited.{waited}
 
 -- the instant so far: so many passes, each suspended, led from t in E to u in F, where the next pass begins
-pub data SoFar : ℕ → Term → Env → Term → Env → Type 0 where
-  begun : {t : Term} {E : Env} → SoFar 0 t E t E
+pub data SoFar (value : Values) : ℕ → Term → Env → Term → Env → Type 0 where
+  begun : {t : Term} {E : Env} → SoFar value 0 t E t E
   quiet : {k : ℕ} {t u : Term} {E F : Env} {r : Result}
-      → Rewrites either-first root t E r
+      → Rewrites (either-first value) root t E r
       → r .flag ≡ SUSP
       → r .env .move ≡ false
-      → SoFar k (r .to) (declared-end (r .env)) u F
-      → SoFar (suc k) t E u F
+      → SoFar value k (r .to) (declared-end (r .env)) u F
+      → SoFar value (suc k) t E u F
   moved : {k : ℕ} {t u : Term} {E F : Env} {r : Result}
-      → Rewrites either-first root t E r
+      → Rewrites (either-first value) root t E r
       → r .flag ≡ SUSP
       → r .env .move ≡ true
-      → SoFar k (r .to) (unmoved (r .env)) u F
-      → SoFar (suc k) t E u F
+      → SoFar value k (r .to) (unmoved (r .env)) u F
+      → SoFar value (suc k) t E u F
 
 -- how often a number stands in a list
 unfoldable pub often : ℕ → List ℕ → ℕ
@@ -59,22 +61,22 @@ pub record SameOutcome (r s : Result) : Type 0 where
   -- more than was asked: every test decided in one is decided in the other, with the same value (a Control's perhaps more often)
   pub decided-alike : (n : ℕ) (b : Bool) → decides n b (r .acts) ≡ decides n b (s .acts)
 
-pub record OrderFree (t : Term) (X : Events) : Type 0 where
+pub record OrderFree (value : Values) (t : Term) (X : Events) : Type 0 where
   -- the kernel's order, left branch first, is one of the choices
-  pub kernel-order : {n : ℕ} {r : Result} → Instant left-first t (handed-in X) n r → Instant either-first t (handed-in X) n r
+  pub kernel-order : {n : ℕ} {r : Result} → Instant (left-first value) t (handed-in X) n r → Instant (either-first value) t (handed-in X) n r
   -- whatever was chosen so far, the instant goes on to an end; and all end in time
-  pub ends : {k : ℕ} {u : Term} {F : Env} → SoFar k t (handed-in X) u F
-      → (n : ℕ) × (r : Result) × Instant either-first u F n r × (k + n ≤ G (prog t) + 2)
-  pub soon : {n : ℕ} {r : Result} → Instant either-first t (handed-in X) n r → n ≤ G (prog t) + 2
+  pub ends : {k : ℕ} {u : Term} {F : Env} → SoFar value k t (handed-in X) u F
+      → (n : ℕ) × (r : Result) × Instant (either-first value) u F n r × (k + n ≤ G (prog t) + 2)
+  pub soon : {n : ℕ} {r : Result} → Instant (either-first value) t (handed-in X) n r → n ≤ G (prog t) + 2
   -- "the same for all choices"
   pub same : {n m : ℕ} {r s : Result}
-      → Instant either-first t (handed-in X) n r
-      → Instant either-first t (handed-in X) m s
+      → Instant (either-first value) t (handed-in X) n r
+      → Instant (either-first value) t (handed-in X) m s
       → SameOutcome r s
   -- more than was asked: so is the test that L1 reports, and its event
   pub same-wait : {n m : ℕ} {r s : Result}
-      (i : Instant either-first t (handed-in X) n r)
-      (j : Instant either-first t (handed-in X) m s)
+      (i : Instant (either-first value) t (handed-in X) n r)
+      (j : Instant (either-first value) t (handed-in X) m s)
       → waited i ≡ waited j
 
 -- "Pass count .. may differ": with nothing handed in this program takes two passes by the kernel's order, and one if its right branch runs first
@@ -82,5 +84,5 @@ abbrev pub waits-for-a-sibling : Program
 waits-for-a-sibling = Par (Seq (Await (Event 1)) (Atom 5)) (Generate 1)
 
 pub record PassesDiffer : Type 0 where
-  pub left : (r : Result) × Instant left-first (fresh waits-for-a-sibling) (handed-in no-event) 2 r × (atoms (r .acts) ≡ 5 ∷ [])
-  pub right : (r : Result) × Instant either-first (fresh waits-for-a-sibling) (handed-in no-event) 1 r × (atoms (r .acts) ≡ 5 ∷ [])
+  pub left : (r : Result) × Instant (left-first zeros) (fresh waits-for-a-sibling) (handed-in no-event) 2 r × (atoms (r .acts) ≡ 5 ∷ [])
+  pub right : (r : Result) × Instant (either-first zeros) (fresh waits-for-a-sibling) (handed-in no-event) 1 r × (atoms (r .acts) ≡ 5 ∷ [])

@@ -1,7 +1,7 @@
--- 000's own terms and rules, to be held beside 000: as printed, but where a comment tells what 01, "Rules of a pass",
--- settles. Below them, how a program translates (000, 2.2), how a state reads (01, "State") and what a trace does.
+-- 000's own terms and rules, to be held beside 000, and 001's for If and RepeatExt (L14): as printed, but where a comment tells what 01, "Rules of
+-- a pass", settles. Below them, how a program translates (000, 2.2; 001, 2.3), how a state reads (01, "State") and what a trace does.
 -- Not here: Freezable, which 01 leaves for later (its terms, its table in E, rules 40 to 45).
-use Prim.Native.Nat.{ℕ, suc, _-_, _≤_, _<_}
+use Prim.Native.Nat.{ℕ, suc, _-_, _≤_, _<_, min}
 use mathlib.Core.Bool.{true, false}
 use mathlib.Core.Path.{_≡_}
 use mathlib.Core.Logic.{_≢_, _⊎_}
@@ -13,13 +13,14 @@ use Rattle.junior.specs.declared.Verdict.the-variants.{Sat, Unsat, Unkno
 use Rattle.junior.specs.Flags.{γ, δ₁, δ₂}
 use Rattle.junior.specs.Configuration.{Config, Event, Env, with-event, generated, declared-end, unmoved}
 use Rattle.junior.specs.Configuration.{verdict, sat, unsat, unknown}
+use Rattle.junior.specs.Values.{Values, nonzero, Times, exactly, asked}
 use Rattle.junior.specs.Program.{Program}
 use Rattle.junior.specs.Term.{Term, done, nothing, stop, atom, generate, await, seq0, seq2, par, loop0, loop1}
-use Rattle.junior.specs.Term.{repeat0, repeat1, when0, when1, when2, until0, until*, until2, control, local}
+use Rattle.junior.specs.Term.{repeat0, repeat1, when0, when1, when2, until0, until*, until2, control, local, if0, if1, if2}
 use Rattle.junior.specs.Term.{prog}
 use Rattle.junior.specs.Trace.{Act, did-atom, did-generate, decided, waits, scope-answered}
 
--- terms (2.1); actions, events and counts are numbers from 0 on (01)
+-- terms (2.1; 001, 2.3); actions, events and counts are numbers from 0 on (01). An If's expression is a value's number, a RepeatExt's also a cap (L14).
 pub data Abstract : Type 0 where
   Nothing Stop : Abstract
   Atom Generate : ℕ → Abstract
@@ -30,6 +31,8 @@ pub data Abstract : Type 0 where
   Par : Flag → Flag → Abstract → Abstract → Abstract
   When Until Until* : Config → Abstract → Abstract → Abstract
   Control Local- Local+ : ℕ → Abstract → Abstract
+  If : ℕ → Abstract → Abstract → Abstract
+  RepeatExt : ℕ → ℕ → Abstract → Abstract
 
 -- 01: what answers TERM leaves Nothing. Used where the printed conclusion keeps its construct around a part that may
 -- have ended.
@@ -44,107 +47,114 @@ pub data Deed : Type 0 where
   does generates : ℕ → Deed
   finds : Config → Verdict → Deed
 
--- t, E —α→ t′, E′ (2.3), doing l, in order
-infix 4 _∣_—[_doing_]→_∣_
-pub data _∣_—[_doing_]→_∣_ : Abstract → Env → Flag → List Deed → Abstract → Env → Type 0 where
-  rule1 : {E : Env} → Nothing ∣ E —[ TERM doing [] ]→ Nothing ∣ E
-  rule2 : {E : Env} → Stop ∣ E —[ STOP doing [] ]→ Nothing ∣ E
-  rule3 : {E : Env} {a : ℕ} → Atom a ∣ E —[ TERM doing does a ∷ [] ]→ Nothing ∣ E
+-- t, E —α→ t′, E′ (2.3), doing l, in order, the box's values being as `eval` says
+infix 4 _⊢_∣_—[_doing_]→_∣_
+pub data _⊢_∣_—[_doing_]→_∣_ (eval : Values) : Abstract → Env → Flag → List Deed → Abstract → Env → Type 0 where
+  rule1 : {E : Env} → eval ⊢ Nothing ∣ E —[ TERM doing [] ]→ Nothing ∣ E
+  rule2 : {E : Env} → eval ⊢ Stop ∣ E —[ STOP doing [] ]→ Nothing ∣ E
+  rule3 : {E : Env} {a : ℕ} → eval ⊢ Atom a ∣ E —[ TERM doing does a ∷ [] ]→ Nothing ∣ E
   rule4 : {t t′ u u′ : Abstract} {E E′ E″ : Env} {α : Flag} {k l : List Deed}
-      → t ∣ E —[ TERM doing k ]→ t′ ∣ E′ → u ∣ E′ —[ α doing l ]→ u′ ∣ E″
-      → Seq t u ∣ E —[ α doing k ++ l ]→ u′ ∣ E″
+      → eval ⊢ t ∣ E —[ TERM doing k ]→ t′ ∣ E′ → eval ⊢ u ∣ E′ —[ α doing l ]→ u′ ∣ E″
+      → eval ⊢ Seq t u ∣ E —[ α doing k ++ l ]→ u′ ∣ E″
   rule5 : {t t′ u : Abstract} {E E′ : Env} {α : Flag} {l : List Deed}
-      → t ∣ E —[ α doing l ]→ t′ ∣ E′ → α ≢ TERM → Seq t u ∣ E —[ α doing l ]→ Seq t′ u ∣ E′
+      → eval ⊢ t ∣ E —[ α doing l ]→ t′ ∣ E′ → α ≢ TERM → eval ⊢ Seq t u ∣ E —[ α doing l ]→ Seq t′ u ∣ E′
   -- 01: with both flags SUSP this rule only. Rules 6 and 7, which run one branch, are never taken; rule 9, the second
   -- branch first, isn't either (`Rewrites` has it as a parameter, for a later request)
   rule8 : {t t′ u u′ : Abstract} {E E′ E″ : Env} {α β : Flag} {k l : List Deed}
-      → t ∣ E —[ α doing k ]→ t′ ∣ E′ → u ∣ E′ —[ β doing l ]→ u′ ∣ E″
-      → Par SUSP SUSP t u ∣ E —[ γ α β doing k ++ l ]→ leaves (γ α β) (Par (δ₁ α β) (δ₂ α β) t′ u′) ∣ E″
+      → eval ⊢ t ∣ E —[ α doing k ]→ t′ ∣ E′ → eval ⊢ u ∣ E′ —[ β doing l ]→ u′ ∣ E″
+      → eval ⊢ Par SUSP SUSP t u ∣ E —[ γ α β doing k ++ l ]→ leaves (γ α β) (Par (δ₁ α β) (δ₂ α β) t′ u′) ∣ E″
   rule10 : {t t′ u : Abstract} {E E′ : Env} {α β : Flag} {l : List Deed}
-      → β ≢ SUSP → t ∣ E —[ α doing l ]→ t′ ∣ E′
-      → Par SUSP β t u ∣ E —[ γ α β doing l ]→ leaves (γ α β) (Par (δ₁ α β) (δ₂ α β) t′ u) ∣ E′
+      → β ≢ SUSP → eval ⊢ t ∣ E —[ α doing l ]→ t′ ∣ E′
+      → eval ⊢ Par SUSP β t u ∣ E —[ γ α β doing l ]→ leaves (γ α β) (Par (δ₁ α β) (δ₂ α β) t′ u) ∣ E′
   rule11 : {t u u′ : Abstract} {E E′ : Env} {α β : Flag} {l : List Deed}
-      → α ≢ SUSP → u ∣ E —[ β doing l ]→ u′ ∣ E′
-      → Par α SUSP t u ∣ E —[ γ α β doing l ]→ leaves (γ α β) (Par (δ₁ α β) (δ₂ α β) t u′) ∣ E′
+      → α ≢ SUSP → eval ⊢ u ∣ E —[ β doing l ]→ u′ ∣ E′
+      → eval ⊢ Par α SUSP t u ∣ E —[ γ α β doing l ]→ leaves (γ α β) (Par (δ₁ α β) (δ₂ α β) t u′) ∣ E′
   rule12 : {t t′ : Abstract} {E E′ : Env} {α : Flag} {l : List Deed}
-      → t ∣ E —[ α doing l ]→ t′ ∣ E′ → α ≢ TERM → Loop t ∣ E —[ α doing l ]→ Seq t′ (Loop t) ∣ E′
+      → eval ⊢ t ∣ E —[ α doing l ]→ t′ ∣ E′ → α ≢ TERM → eval ⊢ Loop t ∣ E —[ α doing l ]→ Seq t′ (Loop t) ∣ E′
   -- its second premise is in E′ (001; 000 prints E)
   rule13 : {t t′ u : Abstract} {E E′ E″ : Env} {α : Flag} {k l : List Deed}
-      → t ∣ E —[ TERM doing k ]→ t′ ∣ E′ → Loop t ∣ E′ —[ α doing l ]→ u ∣ E″
-      → Loop t ∣ E —[ α doing k ++ l ]→ u ∣ E″
-  rule14 : {t : Abstract} {E : Env} {n : ℕ} → n ≤ 0 → Repeat n t ∣ E —[ TERM doing [] ]→ Nothing ∣ E
+      → eval ⊢ t ∣ E —[ TERM doing k ]→ t′ ∣ E′ → eval ⊢ Loop t ∣ E′ —[ α doing l ]→ u ∣ E″
+      → eval ⊢ Loop t ∣ E —[ α doing k ++ l ]→ u ∣ E″
+  rule14 : {t : Abstract} {E : Env} {n : ℕ} → n ≤ 0 → eval ⊢ Repeat n t ∣ E —[ TERM doing [] ]→ Nothing ∣ E
   rule15 : {t u : Abstract} {E E′ : Env} {n : ℕ} {α : Flag} {l : List Deed}
-      → 0 < n → Seq t (Repeat (n - 1) t) ∣ E —[ α doing l ]→ u ∣ E′ → Repeat n t ∣ E —[ α doing l ]→ u ∣ E′
-  rule16 : {E : Env} {s : ℕ} → Generate s ∣ E —[ TERM doing generates s ∷ [] ]→ Nothing ∣ generated s E
+      → 0 < n → eval ⊢ Seq t (Repeat (n - 1) t) ∣ E —[ α doing l ]→ u ∣ E′ → eval ⊢ Repeat n t ∣ E —[ α doing l ]→ u ∣ E′
+  rule16 : {E : Env} {s : ℕ} → eval ⊢ Generate s ∣ E —[ TERM doing generates s ∷ [] ]→ Nothing ∣ generated s E
   rule17 : {c : Config} {t t′ u : Abstract} {E E′ : Env} {α : Flag} {l : List Deed}
-      → sat c E → E .eoi ≡ false → t ∣ E —[ α doing l ]→ t′ ∣ E′
-      → When c t u ∣ E —[ α doing finds c Sat ∷ l ]→ t′ ∣ E′
+      → sat c E → E .eoi ≡ false → eval ⊢ t ∣ E —[ α doing l ]→ t′ ∣ E′
+      → eval ⊢ When c t u ∣ E —[ α doing finds c Sat ∷ l ]→ t′ ∣ E′
   rule18 : {c : Config} {t u : Abstract} {E : Env}
-      → sat c E → E .eoi ≡ true → When c t u ∣ E —[ STOP doing finds c Sat ∷ [] ]→ t ∣ E
+      → sat c E → E .eoi ≡ true → eval ⊢ When c t u ∣ E —[ STOP doing finds c Sat ∷ [] ]→ t ∣ E
   rule19 : {c : Config} {t u u′ : Abstract} {E E′ : Env} {α : Flag} {l : List Deed}
-      → unsat c E → E .eoi ≡ false → u ∣ E —[ α doing l ]→ u′ ∣ E′
-      → When c t u ∣ E —[ α doing finds c Unsat ∷ l ]→ u′ ∣ E′
+      → unsat c E → E .eoi ≡ false → eval ⊢ u ∣ E —[ α doing l ]→ u′ ∣ E′
+      → eval ⊢ When c t u ∣ E —[ α doing finds c Unsat ∷ l ]→ u′ ∣ E′
   rule20 : {c : Config} {t u : Abstract} {E : Env}
-      → unsat c E → E .eoi ≡ true → When c t u ∣ E —[ STOP doing finds c Unsat ∷ [] ]→ u ∣ E
+      → unsat c E → E .eoi ≡ true → eval ⊢ When c t u ∣ E —[ STOP doing finds c Unsat ∷ [] ]→ u ∣ E
   rule21 : {c : Config} {t u : Abstract} {E : Env}
-      → unknown c E → When c t u ∣ E —[ SUSP doing finds c Unknown ∷ [] ]→ When c t u ∣ E
+      → unknown c E → eval ⊢ When c t u ∣ E —[ SUSP doing finds c Unknown ∷ [] ]→ When c t u ∣ E
   rule22 : {c : Config} {E : Env}
-      → sat c E → E .eoi ≡ false → Await c ∣ E —[ TERM doing finds c Sat ∷ [] ]→ Nothing ∣ E
+      → sat c E → E .eoi ≡ false → eval ⊢ Await c ∣ E —[ TERM doing finds c Sat ∷ [] ]→ Nothing ∣ E
   rule23 : {c : Config} {E : Env}
-      → sat c E → E .eoi ≡ true → Await c ∣ E —[ STOP doing finds c Sat ∷ [] ]→ Nothing ∣ E
-  rule24 : {c : Config} {E : Env} → unsat c E → Await c ∣ E —[ STOP doing finds c Unsat ∷ [] ]→ Await c ∣ E
-  rule25 : {c : Config} {E : Env} → unknown c E → Await c ∣ E —[ SUSP doing finds c Unknown ∷ [] ]→ Await c ∣ E
+      → sat c E → E .eoi ≡ true → eval ⊢ Await c ∣ E —[ STOP doing finds c Sat ∷ [] ]→ Nothing ∣ E
+  rule24 : {c : Config} {E : Env} → unsat c E → eval ⊢ Await c ∣ E —[ STOP doing finds c Unsat ∷ [] ]→ Await c ∣ E
+  rule25 : {c : Config} {E : Env} → unknown c E → eval ⊢ Await c ∣ E —[ SUSP doing finds c Unknown ∷ [] ]→ Await c ∣ E
   -- 01: it keeps the body's environment (001; 000 prints E)
   rule26 : {s : ℕ} {t t′ : Abstract} {E E′ : Env} {α : Flag} {l : List Deed}
-      → sat (Event s) E → t ∣ E —[ α doing l ]→ t′ ∣ E′
-      → Control s t ∣ E —[ α doing finds (Event s) Sat ∷ l ]→ leaves α (Control s t′) ∣ E′
+      → sat (Event s) E → eval ⊢ t ∣ E —[ α doing l ]→ t′ ∣ E′
+      → eval ⊢ Control s t ∣ E —[ α doing finds (Event s) Sat ∷ l ]→ leaves α (Control s t′) ∣ E′
   rule27 : {s : ℕ} {t : Abstract} {E : Env}
-      → unsat (Event s) E → Control s t ∣ E —[ STOP doing finds (Event s) Unsat ∷ [] ]→ Control s t ∣ E
+      → unsat (Event s) E → eval ⊢ Control s t ∣ E —[ STOP doing finds (Event s) Unsat ∷ [] ]→ Control s t ∣ E
   rule28 : {s : ℕ} {t : Abstract} {E : Env}
-      → unknown (Event s) E → Control s t ∣ E —[ SUSP doing finds (Event s) Unknown ∷ [] ]→ Control s t ∣ E
+      → unknown (Event s) E → eval ⊢ Control s t ∣ E —[ SUSP doing finds (Event s) Unknown ∷ [] ]→ Control s t ∣ E
   rule29 : {c : Config} {t t′ u : Abstract} {E E′ : Env} {α : Flag} {l : List Deed}
-      → t ∣ E —[ α doing l ]→ t′ ∣ E′ → α ≢ STOP → Until c t u ∣ E —[ α doing l ]→ leaves α (Until c t′ u) ∣ E′
+      → eval ⊢ t ∣ E —[ α doing l ]→ t′ ∣ E′ → α ≢ STOP → eval ⊢ Until c t u ∣ E —[ α doing l ]→ leaves α (Until c t′ u) ∣ E′
   rule30 : {c : Config} {t t′ u v : Abstract} {E E′ E″ : Env} {α : Flag} {k l : List Deed}
-      → t ∣ E —[ STOP doing k ]→ t′ ∣ E′ → Until* c t′ u ∣ E′ —[ α doing l ]→ v ∣ E″
-      → Until c t u ∣ E —[ α doing k ++ l ]→ v ∣ E″
+      → eval ⊢ t ∣ E —[ STOP doing k ]→ t′ ∣ E′ → eval ⊢ Until* c t′ u ∣ E′ —[ α doing l ]→ v ∣ E″
+      → eval ⊢ Until c t u ∣ E —[ α doing k ++ l ]→ v ∣ E″
   rule31 : {c : Config} {t u u′ : Abstract} {E E′ : Env} {α : Flag} {l : List Deed}
-      → sat c E → E .eoi ≡ false → u ∣ E —[ α doing l ]→ u′ ∣ E′
-      → Until* c t u ∣ E —[ α doing finds c Sat ∷ l ]→ u′ ∣ E′
+      → sat c E → E .eoi ≡ false → eval ⊢ u ∣ E —[ α doing l ]→ u′ ∣ E′
+      → eval ⊢ Until* c t u ∣ E —[ α doing finds c Sat ∷ l ]→ u′ ∣ E′
   rule32 : {c : Config} {t u : Abstract} {E : Env}
-      → sat c E → E .eoi ≡ true → Until* c t u ∣ E —[ STOP doing finds c Sat ∷ [] ]→ u ∣ E
+      → sat c E → E .eoi ≡ true → eval ⊢ Until* c t u ∣ E —[ STOP doing finds c Sat ∷ [] ]→ u ∣ E
   -- 01: whether or not the end is declared (001; 000 adds eoi(E) = true)
   rule33 : {c : Config} {t u : Abstract} {E : Env}
-      → unsat c E → Until* c t u ∣ E —[ STOP doing finds c Unsat ∷ [] ]→ Until c t u ∣ E
+      → unsat c E → eval ⊢ Until* c t u ∣ E —[ STOP doing finds c Unsat ∷ [] ]→ Until c t u ∣ E
   rule34 : {c : Config} {t u : Abstract} {E : Env}
-      → unknown c E → Until* c t u ∣ E —[ SUSP doing finds c Unknown ∷ [] ]→ Until* c t u ∣ E
+      → unknown c E → eval ⊢ Until* c t u ∣ E —[ SUSP doing finds c Unknown ∷ [] ]→ Until* c t u ∣ E
   rule35 : {s : ℕ} {t t′ : Abstract} {E E′ : Env} {l : List Deed}
-      → t ∣ with-event s false E —[ SUSP doing l ]→ t′ ∣ E′ → E′ .now s ≡ false
-      → Local- s t ∣ E —[ SUSP doing l ]→ Local- s t′ ∣ with-event s (E .now s) E′
+      → eval ⊢ t ∣ with-event s false E —[ SUSP doing l ]→ t′ ∣ E′ → E′ .now s ≡ false
+      → eval ⊢ Local- s t ∣ E —[ SUSP doing l ]→ Local- s t′ ∣ with-event s (E .now s) E′
   rule36 : {s : ℕ} {t t′ : Abstract} {E E′ : Env} {l : List Deed}
-      → t ∣ with-event s false E —[ SUSP doing l ]→ t′ ∣ E′ → E′ .now s ≡ true
-      → Local- s t ∣ E —[ SUSP doing l ]→ Local+ s t′ ∣ with-event s (E .now s) E′
+      → eval ⊢ t ∣ with-event s false E —[ SUSP doing l ]→ t′ ∣ E′ → E′ .now s ≡ true
+      → eval ⊢ Local- s t ∣ E —[ SUSP doing l ]→ Local+ s t′ ∣ with-event s (E .now s) E′
   rule37 : {s : ℕ} {t t′ : Abstract} {E E′ : Env} {l : List Deed}
-      → t ∣ with-event s true E —[ SUSP doing l ]→ t′ ∣ E′
-      → Local+ s t ∣ E —[ SUSP doing l ]→ Local+ s t′ ∣ with-event s (E .now s) E′
+      → eval ⊢ t ∣ with-event s true E —[ SUSP doing l ]→ t′ ∣ E′
+      → eval ⊢ Local+ s t ∣ E —[ SUSP doing l ]→ Local+ s t′ ∣ with-event s (E .now s) E′
   rule38 : {s : ℕ} {t t′ : Abstract} {E E′ : Env} {α : Flag} {l : List Deed}
-      → t ∣ with-event s false E —[ α doing l ]→ t′ ∣ E′ → (α ≡ TERM) ⊎ (α ≡ STOP)
-      → Local- s t ∣ E —[ α doing l ]→ leaves α (Local- s t′) ∣ with-event s (E .now s) E′
+      → eval ⊢ t ∣ with-event s false E —[ α doing l ]→ t′ ∣ E′ → (α ≡ TERM) ⊎ (α ≡ STOP)
+      → eval ⊢ Local- s t ∣ E —[ α doing l ]→ leaves α (Local- s t′) ∣ with-event s (E .now s) E′
   rule39 : {s : ℕ} {t t′ : Abstract} {E E′ : Env} {α : Flag} {l : List Deed}
-      → t ∣ with-event s true E —[ α doing l ]→ t′ ∣ E′ → (α ≡ TERM) ⊎ (α ≡ STOP)
-      → Local+ s t ∣ E —[ α doing l ]→ leaves α (Local- s t′) ∣ with-event s (E .now s) E′
+      → eval ⊢ t ∣ with-event s true E —[ α doing l ]→ t′ ∣ E′ → (α ≡ TERM) ⊎ (α ≡ STOP)
+      → eval ⊢ Local+ s t ∣ E —[ α doing l ]→ leaves α (Local- s t′) ∣ with-event s (E .now s) E′
+  -- 001, "Boolean Test", eval(exp) = true and eval(exp) = false, and "Extended Repeat", eval(exp) = n
+  if-true : {v : ℕ} {t t′ u : Abstract} {E E′ : Env} {α : Flag} {l : List Deed}
+      → nonzero (eval v) ≡ true → eval ⊢ t ∣ E —[ α doing l ]→ t′ ∣ E′ → eval ⊢ If v t u ∣ E —[ α doing l ]→ t′ ∣ E′
+  if-false : {v : ℕ} {t u u′ : Abstract} {E E′ : Env} {α : Flag} {l : List Deed}
+      → nonzero (eval v) ≡ false → eval ⊢ u ∣ E —[ α doing l ]→ u′ ∣ E′ → eval ⊢ If v t u ∣ E —[ α doing l ]→ u′ ∣ E′
+  repeat-ext : {v cap n : ℕ} {t t′ : Abstract} {E E′ : Env} {α : Flag} {l : List Deed}
+      → min cap (eval v) ≡ n → eval ⊢ Repeat n t ∣ E —[ α doing l ]→ t′ ∣ E′ → eval ⊢ RepeatExt v cap t ∣ E —[ α doing l ]→ t′ ∣ E′
 
 -- Instant(t), E —α→ Instant(t′), E′ (5.2; 000 leaves out E before the arrow), doing what all its passes do, with their
 -- number. Rule 46 runs it from an environment without events: 01 hands events in, and b is its `finished`.
-infix 4 _∣_—[_doing_]—_passes→_∣_
-pub data _∣_—[_doing_]—_passes→_∣_ : Abstract → Env → Flag → List Deed → ℕ → Abstract → Env → Type 0 where
+infix 4 _⊢_∣_—[_doing_]—_passes→_∣_
+pub data _⊢_∣_—[_doing_]—_passes→_∣_ (eval : Values) : Abstract → Env → Flag → List Deed → ℕ → Abstract → Env → Type 0 where
   rule47 : {t t′ : Abstract} {E E′ : Env} {α : Flag} {l : List Deed}
-      → t ∣ E —[ α doing l ]→ t′ ∣ E′ → α ≢ SUSP → t ∣ E —[ α doing l ]— 1 passes→ t′ ∣ E′
+      → eval ⊢ t ∣ E —[ α doing l ]→ t′ ∣ E′ → α ≢ SUSP → eval ⊢ t ∣ E —[ α doing l ]— 1 passes→ t′ ∣ E′
   rule48 : {t t′ u : Abstract} {E E′ E″ : Env} {α : Flag} {n : ℕ} {k l : List Deed}
-      → t ∣ E —[ SUSP doing k ]→ t′ ∣ E′ → E′ .move ≡ false → t′ ∣ declared-end E′ —[ α doing l ]— n passes→ u ∣ E″
-      → t ∣ E —[ α doing k ++ l ]— suc n passes→ u ∣ E″
+      → eval ⊢ t ∣ E —[ SUSP doing k ]→ t′ ∣ E′ → E′ .move ≡ false → eval ⊢ t′ ∣ declared-end E′ —[ α doing l ]— n passes→ u ∣ E″
+      → eval ⊢ t ∣ E —[ α doing k ++ l ]— suc n passes→ u ∣ E″
   rule49 : {t t′ u : Abstract} {E E′ E″ : Env} {α : Flag} {n : ℕ} {k l : List Deed}
-      → t ∣ E —[ SUSP doing k ]→ t′ ∣ E′ → E′ .move ≡ true → t′ ∣ unmoved E′ —[ α doing l ]— n passes→ u ∣ E″
-      → t ∣ E —[ α doing k ++ l ]— suc n passes→ u ∣ E″
+      → eval ⊢ t ∣ E —[ SUSP doing k ]→ t′ ∣ E′ → E′ .move ≡ true → eval ⊢ t′ ∣ unmoved E′ —[ α doing l ]— n passes→ u ∣ E″
+      → eval ⊢ t ∣ E —[ α doing k ++ l ]— suc n passes→ u ∣ E″
 
 -- the actions among the deeds
 unfoldable pub actions : List Deed → List ℕ
@@ -153,7 +163,12 @@ actions (does a ∷ l) = a ∷ actions l
 actions (generates s ∷ l) = actions l
 actions (finds c v ∷ l) = actions l
 
--- translation (2.2)
+-- a repetition by its number of runs
+abbrev pub repetition : Times → Abstract → Abstract
+repetition (exactly n) t = Repeat n t
+repetition (asked v cap) t = RepeatExt v cap t
+
+-- translation (2.2; 001, 2.3)
 unfoldable pub tr : Program → Abstract
 tr Program.Nothing = Nothing
 tr Program.Stop = Stop
@@ -161,13 +176,14 @@ tr (Program.Atom a) = Atom a
 tr (Program.Seq p q) = Seq (tr p) (tr q)
 tr (Program.Par p q) = Par SUSP SUSP (tr p) (tr q)
 tr (Program.Loop p) = Loop (tr p)
-tr (Program.Repeat n p) = Repeat n (tr p)
+tr (Program.Repeat n p) = repetition n (tr p)
 tr (Program.Generate s) = Generate s
 tr (Program.Await c) = Await c
 tr (Program.When c p q) = When c (tr p) (tr q)
 tr (Program.Until c p q) = Until c (tr p) (tr q)
 tr (Program.Control s p) = Control s (tr p)
 tr (Program.Local s p) = Local- s (tr p)
+tr (Program.If v p q) = If v (tr p) (tr q)
 
 -- how a state reads (01, "State")
 unfoldable pub reads : Term → Abstract
@@ -182,7 +198,7 @@ reads (seq2 p t) = reads t
 reads (par α β t u) = Par α β (reads t) (reads u)
 reads (loop0 p) = Loop (tr p)
 reads (loop1 t) = Seq (reads t) (Loop (tr (prog t)))
-reads (repeat0 n p) = Repeat n (tr p)
+reads (repeat0 n p) = repetition n (tr p)
 reads (repeat1 n k t) = Seq (reads t) (Repeat k (tr (prog t)))
 reads (when0 c p q) = When c (tr p) (tr q)
 reads (when1 c t q) = reads t
@@ -193,6 +209,9 @@ reads (until2 c p t) = reads t
 reads (control s t) = Control s (reads t)
 reads (local false s t) = Local- s (reads t)
 reads (local true s t) = Local+ s (reads t)
+reads (if0 v p q) = If v (tr p) (tr q)
+reads (if1 v t q) = reads t
+reads (if2 v p t) = reads t
 
 -- what a trace does: places, environments and the answers of scopes are not 000's
 unfoldable pub deeds : List Act → List Deed

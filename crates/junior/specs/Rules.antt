@@ -1,5 +1,6 @@
--- The rules of a pass: 000, rules 1 to 5 and 8 to 39, as 01, "Rules of a pass", settles them. A constructor carries the number of
--- its rule; one that ends in -on runs a node that was rewritten into its part earlier, by the part's own rule.
+-- The rules of a pass: 000, rules 1 to 5 and 8 to 39, as 01, "Rules of a pass", settles them, and 001's rules for If and RepeatExt (L14). A
+-- constructor carries the number of its rule, 001's, which have none, its name; one that ends in -on runs a node that was rewritten into its part
+-- earlier, by the part's own rule.
 use Prim.Native.Nat.{ℕ, zero, suc}
 use mathlib.Core.Bool.{Bool, true, false}
 use mathlib.Core.Path.{_≡_}
@@ -9,9 +10,10 @@ use Rattle.junior.specs.declared.Flag.{Flag}
 use Rattle.junior.specs.declared.Flag.the-variants.{SUSP, STOP, TERM}
 use Rattle.junior.specs.Flags.{γ, δ₁, δ₂}
 use Rattle.junior.specs.Configuration.{Config, Event, Env, with-event, generated, sat, unsat, unknown}
+use Rattle.junior.specs.Values.{Values, nonzero, Times, runs-of}
 use Rattle.junior.specs.Program.{Program, Nothing, Stop, Atom, Repeat, Generate, Await}
 use Rattle.junior.specs.Term.{Term, done, nothing, stop, atom, generate, await, seq0, seq2, par, loop0, loop1}
-use Rattle.junior.specs.Term.{repeat0, repeat1, when0, when1, when2, until0, until*, until2, control, local}
+use Rattle.junior.specs.Term.{repeat0, repeat1, when0, when1, when2, until0, until*, until2, control, local, if0, if1, if2}
 use Rattle.junior.specs.Term.{prog, fresh, leave}
 use Rattle.junior.specs.Trace.{Place, first, second, inside, Act, did-atom, did-generate, decided, waits}
 use Rattle.junior.specs.Trace.{scope-answered}
@@ -39,7 +41,7 @@ abbrev pub joined : Flag → Flag → Term → Term → Env → List Act → Res
 joined α β t u E l = answers (γ α β) (leave (γ α β) (par (δ₁ α β) (δ₂ α β) t u)) E l
 
 -- a Repeat(n) when k more runs are due: Nothing (rule 14), or Seq(body, Repeat(k-1)) (rule 15)
-abbrev pub again : ℕ → ℕ → Program → Term
+abbrev pub again : Times → ℕ → Program → Term
 again n zero p = done (Repeat n p)
 again n (suc k) p = repeat1 n k (fresh p)
 
@@ -59,24 +61,29 @@ left-scope P b s E r =
     (with-event s (E .now s) (r .env))
     (r .acts ++ (scope-answered (P .node) (r .flag) (r .env .now s) ∷ []))
 
--- which of two rules may be used: 9, a Par runs its right branch first; 13, a Loop's body that ends in the pass that begins it begins again
+-- what a pass is given: which of two rules it may use, 9, a Par runs its right branch first, and 13, a Loop's body that ends in the pass that begins
+-- it begins again; and the box's values
 pub record Allowed : Type 1 where
   pub rule-9 : Type 0
   pub rule-13 : Type 0
+  pub value : Values
 
 -- the kernel's rules: a Par runs its left branch first (01)
-abbrev pub left-first : Allowed
-left-first = record { rule-9 = ⊥; rule-13 = Unit {0} }
+abbrev pub left-first : Values → Allowed
+left-first value = record { rule-9 = ⊥; rule-13 = Unit {0}; value = value }
 
 -- a Par runs either branch first
-abbrev pub either-first : Allowed
-either-first = record { rule-9 = Unit {0}; rule-13 = Unit {0} }
+abbrev pub either-first : Values → Allowed
+either-first value = record { rule-9 = Unit {0}; rule-13 = Unit {0}; value = value }
 
--- the same, without rule 13
+-- the same, without rule 13; with other values
 abbrev pub without-13 : Allowed → Allowed
-without-13 free = record { rule-9 = free .rule-9; rule-13 = ⊥ }
+without-13 free = record { rule-9 = free .rule-9; rule-13 = ⊥; value = free .value }
 
--- `free` says which of the two may be used
+abbrev pub with-values : Values → Allowed → Allowed
+with-values value free = record { rule-9 = free .rule-9; rule-13 = free .rule-13; value = value }
+
+-- `free` says which of the two may be used, and what the values are
 pub data Rewrites (free : Allowed) : Place → Term → Env → Result → Type 0 where
   r1 : {P : Place} {E : Env} → Rewrites free P nothing E (answers TERM (done Nothing) E [])
   r1-on : {P : Place} {E : Env} {p : Program} → Rewrites free P (done p) E (answers TERM (done p) E [])
@@ -116,16 +123,19 @@ pub data Rewrites (free : Allowed) : Place → Term → Env → Result → Type 
   r5-loop : {P : Place} {E : Env} {t : Term} {r : Result}
       → Rewrites free (first P) t E r → r .flag ≢ TERM
       → Rewrites free P (loop1 t) E (under loop1 r)
-  r14 : {P : Place} {E : Env} {p : Program}
-      → Rewrites free P (repeat0 0 p) E (answers TERM (done (Repeat 0 p)) E [])
-  r15 : {P : Place} {E : Env} {n : ℕ} {p : Program} {r : Result}
-      → Rewrites free P (repeat1 (suc n) n (fresh p)) E r
-      → Rewrites free P (repeat0 (suc n) p) E r
+  -- rules 14 and 15 of a RepeatExt too, once its number of runs is known: "The semantics of an extended repeat is the one of a standard repeat after
+  -- evaluation of a Java integer expression" (001). So the value is "read when it begins".
+  r14 : {P : Place} {E : Env} {n : Times} {p : Program}
+      → runs-of (free .value) n ≡ 0
+      → Rewrites free P (repeat0 n p) E (answers TERM (done (Repeat n p)) E [])
+  r15 : {P : Place} {E : Env} {n : Times} {k : ℕ} {p : Program} {r : Result}
+      → runs-of (free .value) n ≡ suc k → Rewrites free P (repeat1 n k (fresh p)) E r
+      → Rewrites free P (repeat0 n p) E r
   -- rules 4 and 5 at Seq(rest, Repeat(k))
-  r4-repeat : {P : Place} {E E′ : Env} {n k : ℕ} {t t′ : Term} {l : List Act} {r : Result}
+  r4-repeat : {P : Place} {E E′ : Env} {n : Times} {k : ℕ} {t t′ : Term} {l : List Act} {r : Result}
       → Rewrites free (first P) t E (answers TERM t′ E′ l) → Rewrites free P (again n k (prog t)) E′ r
       → Rewrites free P (repeat1 n k t) E (after l r)
-  r5-repeat : {P : Place} {E : Env} {n k : ℕ} {t : Term} {r : Result}
+  r5-repeat : {P : Place} {E : Env} {n : Times} {k : ℕ} {t : Term} {r : Result}
       → Rewrites free (first P) t E r → r .flag ≢ TERM
       → Rewrites free P (repeat1 n k t) E (under (repeat1 n k) r)
   r16 : {P : Place} {E : Env} {s : ℕ}
@@ -199,3 +209,17 @@ pub data Rewrites (free : Allowed) : Place → Term → Env → Result → Type 
   r35-39 : {P : Place} {E : Env} {b : Bool} {s : ℕ} {t : Term} {r : Result}
       → Rewrites free (inside s P) t (with-event s b E) r
       → Rewrites free P (local b s t) E (left-scope P b s E r)
+  -- 001, "Boolean Test": "the first branch is immediately run if evaluation returns true"; "the second branch is immediately run if evaluation
+  -- returns false". L14: "If is chosen when reached".
+  if-true : {P : Place} {E : Env} {v : ℕ} {p q : Program} {r : Result}
+      → nonzero (free .value v) ≡ true → Rewrites free (first P) (fresh p) E r
+      → Rewrites free P (if0 v p q) E (under (λ x. if1 v x q) r)
+  if-true-on : {P : Place} {E : Env} {v : ℕ} {t : Term} {q : Program} {r : Result}
+      → Rewrites free (first P) t E r
+      → Rewrites free P (if1 v t q) E (under (λ x. if1 v x q) r)
+  if-false : {P : Place} {E : Env} {v : ℕ} {p q : Program} {r : Result}
+      → nonzero (free .value v) ≡ false → Rewrites free (second P p) (fresh q) E r
+      → Rewrites free P (if0 v p q) E (under (if2 v p) r)
+  if-false-on : {P : Place} {E : Env} {v : ℕ} {p : Program} {t : Term} {r : Result}
+      → Rewrites free (second P p) t E r
+      → Rewrites free P (if2 v p t) E (under (if2 v p) r)

@@ -6,7 +6,8 @@ use Rattle.junior.specs.declared.Flag.{Flag}
 use Rattle.junior.specs.declared.Flag.the-variants.{SUSP, STOP, TERM}
 use Rattle.junior.specs.Configuration.{Config}
 use Rattle.junior.specs.Program.{Program, Nothing, Stop, Atom, Seq, Par, Loop, Repeat, Generate, Await, When}
-use Rattle.junior.specs.Program.{Until, Control, Local}
+use Rattle.junior.specs.Program.{Until, Control, Local, If}
+use Rattle.junior.specs.Values.{Times}
 
 pub data Term : Type 0 where
   -- phase 3, any kind: reads as Nothing
@@ -21,9 +22,10 @@ pub data Term : Type 0 where
   -- Loop not begun, and Seq(rest of body, Loop)
   loop0 : Program → Term
   loop1 : Term → Term
-  -- Repeat(n) not begun, and Seq(rest, Repeat(k)) of a Repeat(n)
-  repeat0 : ℕ → Program → Term
-  repeat1 : ℕ → ℕ → Term → Term
+  -- Repeat(n) not begun, and Seq(rest, Repeat(k)) of a Repeat(n); a RepeatExt alike (L14: "If keeps When's phases,
+  -- RepeatExt Repeat's")
+  repeat0 : Times → Program → Term
+  repeat1 : Times → ℕ → Term → Term
   -- When testing, and gone over into its then or its else branch
   when0 : Config → Program → Program → Term
   when1 : Config → Term → Program → Term
@@ -34,6 +36,10 @@ pub data Term : Type 0 where
   control : ℕ → Term → Term
   -- Local- at false, Local+ at true
   local : Bool → ℕ → Term → Term
+  -- If not begun, and gone over into its first or its second branch (L14: "If keeps When's phases")
+  if0 : ℕ → Program → Program → Term
+  if1 : ℕ → Term → Program → Term
+  if2 : ℕ → Program → Term → Term
 
 -- the program that a term is a state of
 unfoldable pub prog : Term → Program
@@ -58,6 +64,9 @@ prog (until* c t q) = Until c (prog t) q
 prog (until2 c p t) = Until c p (prog t)
 prog (control s t) = Control s (prog t)
 prog (local b s t) = Local s (prog t)
+prog (if0 v p q) = If v p q
+prog (if1 v t q) = If v (prog t) q
+prog (if2 v p t) = If v p (prog t)
 
 -- the state all zero
 unfoldable pub fresh : Program → Term
@@ -74,6 +83,7 @@ fresh (When c p q) = when0 c p q
 fresh (Until c p q) = until0 c (fresh p) q
 fresh (Control s p) = control s (fresh p)
 fresh (Local s p) = local false s (fresh p)
+fresh (If v p q) = if0 v p q
 
 -- "A node that answers TERM leaves Nothing, phase 3."
 unfoldable pub leave : Flag → Term → Term

@@ -6,12 +6,13 @@ use mathlib.Core.List.{List, [], _∷_}
 use Rattle.events.specs.Events.{Events, none, put}
 use Rattle.junior.specs.Configuration.{Env, Event, Not, handed-in}
 use Rattle.junior.specs.Program.{Program, Stop, Atom, Seq, Par, Loop, Repeat, Generate, Await, Until}
+use Rattle.junior.specs.Values.{zeros, exactly}
 use Rattle.junior.specs.Term.{Term, prog, fresh}
 use Rattle.junior.specs.Trace.{Place}
 use Rattle.junior.specs.Rules.{Allowed, left-first, Result, Rewrites, r1, r1-on, r2, r3, r4, r4-on, r5, r8, r9, r10, r11, r12, r13}
 use Rattle.junior.specs.Rules.{r4-loop, r5-loop, r14, r15, r4-repeat, r5-repeat, r16, r17, r17-on, r18, r19}
 use Rattle.junior.specs.Rules.{r19-on, r20, r21, r22, r23, r24, r25, r26, r27, r28, r29, r30, r31, r31-on, r32}
-use Rattle.junior.specs.Rules.{r33, r34, r35-39}
+use Rattle.junior.specs.Rules.{r33, r34, r35-39, if-true, if-true-on, if-false, if-false-on}
 use Rattle.junior.specs.Instant.{Instant, r47, r48, r49}
 use Rattle.junior.specs.Figures.{every}
 
@@ -35,8 +36,8 @@ module _ (k : Program → ℕ) where
   below (r13 {p = p} f d e) = k p + below d + below e
   below (r4-loop {t = t} d e) = k (prog t) + below d + below e
   below (r5-loop {t = t} d h) = k (prog t) + below d
-  below r14 = 0
-  below (r15 d) = below d
+  below (r14 h) = 0
+  below (r15 h d) = below d
   below (r4-repeat {t = t} d e) = k (prog t) + below d + below e
   below (r5-repeat {t = t} d h) = k (prog t) + below d
   below r16 = 0
@@ -62,6 +63,10 @@ module _ (k : Program → ℕ) where
   below (r33 s) = 0
   below (r34 s) = 0
   below (r35-39 {t = t} d) = k (prog t) + below d
+  below (if-true {p = p} h d) = k p + below d
+  below (if-true-on {t = t} d) = k (prog t) + below d
+  below (if-false {q = q} h d) = k q + below d
+  below (if-false-on {t = t} d) = k (prog t) + below d
 
   -- what a pass runs
   abbrev pub visits : {free : Allowed} {P : Place} {t : Term} {E : Env} {r : Result} → Rewrites free P t E r → ℕ
@@ -86,7 +91,7 @@ sum (n ∷ l) = n + sum l
 pub data Visited : Term → List (Events × List ℕ) → Type 0 where
   no-more : {t : Term} → Visited t []
   next : {t : Term} {X : Events} {counts : List ℕ} {n : ℕ} {r : Result} {l : List (Events × List ℕ)}
-      (i : Instant left-first t (handed-in X) n r)
+      (i : Instant (left-first zeros) t (handed-in X) n r)
       → visits-by-pass every i ≡ counts
       → Visited (r .to) l
       → Visited t ((X, counts) ∷ l)
@@ -105,6 +110,6 @@ just-0 = put 0 true none
 -- Loop: itself, Seq, the Stop in phase 3, and again Seq, Await and, with the event, Stop. An Until that tests goes on as itself.
 pub record CountedSo : Type 0 where
   pub of-P : Visited (fresh P) ((none, 4 ∷ 4 ∷ []) ∷ (just-0, 7 ∷ []) ∷ (none, 1 ∷ []) ∷ [])
-  pub of-Repeat : Visited (fresh (Repeat 3 (Atom 4))) ((none, 4 ∷ []) ∷ [])
+  pub of-Repeat : Visited (fresh (Repeat (exactly 3) (Atom 4))) ((none, 4 ∷ []) ∷ [])
   pub of-Loop : Visited (fresh (Loop (Seq (Await (Event 0)) Stop))) ((just-0, 4 ∷ []) ∷ (just-0, 6 ∷ []) ∷ (none, 5 ∷ 3 ∷ []) ∷ [])
   pub of-Until : Visited (fresh preempted) ((none, 2 ∷ 1 ∷ []) ∷ (none, 2 ∷ []) ∷ [])

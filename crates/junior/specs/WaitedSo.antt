@@ -7,6 +7,7 @@ use mathlib.Core.Option.{Option, none, some}
 use Rattle.events.specs.Events.{Events, put, none as no-event}
 use Rattle.junior.specs.Configuration.{Event, And, Or, handed-in}
 use Rattle.junior.specs.Program.{Nothing, Seq, Par, Generate, Await, When, Until, Control, Local, Atom, Stop}
+use Rattle.junior.specs.Values.{zeros}
 use Rattle.junior.specs.Term.{Term, fresh}
 use Rattle.junior.specs.Rules.{left-first, Result}
 use Rattle.junior.specs.Instant.{Instant}
@@ -17,7 +18,7 @@ use Rattle.junior.specs.Waited.{Wait, waits-for, waited}
 pub data Reported : Term → List (Events × Option Wait) → Type 0 where
   no-more : {t : Term} → Reported t []
   next : {t : Term} {X : Events} {w : Option Wait} {n : ℕ} {r : Result} {l : List (Events × Option Wait)}
-      (i : Instant left-first t (handed-in X) n r)
+      (i : Instant (left-first zeros) t (handed-in X) n r)
       → waited i ≡ w
       → Reported (r .to) l
       → Reported t ((X, w) ∷ l)

@@ -6,8 +6,9 @@ use mathlib.Core.List.{List, [], _∷_, _++_, append-assoc, append-nil}
 use native.Mathlib.Omega.{arith}
 use lib.Dec.{ltb, leb}
 use borrow.Author.Tests.{leb-true, ltb-false}
+use Rattle.junior.specs.Values.{exactly, asked}
 use Rattle.junior.specs.Program.{Program, Nothing, Stop, Atom, Seq, Par, Loop, Repeat, Generate, Await, When, Until}
-use Rattle.junior.specs.Program.{Control, Local, size, kind}
+use Rattle.junior.specs.Program.{Control, Local, If, size, kind}
 use Rattle.junior.specs.Figures.{stops, LoopsStop, G, A, W}
 use Rattle.table.specs.declared.Checked.{Checked}
 use Rattle.table.specs.declared.Checked.the-variants.{TooDeep, EndlessLoop, TooHeavy, Accepted}
@@ -50,13 +51,15 @@ loops-stop (Loop p) d k m h = go (stops p) refl (loops-stop p (suc d) k m) h
         → ((stops p ≡ true) × LoopsStop p) × (k ≤ firstSuch endless m)
     go true e f h = let (a, x) = f (omega arith) in ((e, a), x)
     go false e f h = absurd (omega arith)
-loops-stop (Repeat n p) d k m h = loops-stop p (suc d) k m (omega arith)
+loops-stop (Repeat (exactly n) p) d k m h = loops-stop p (suc d) k m (omega arith)
+loops-stop (Repeat (asked v cap) p) d k m h = loops-stop p (suc d) k m (omega arith)
 loops-stop (Generate s) d k m h = (tt, omega arith)
 loops-stop (Await c) d k m h = (tt, omega arith)
 loops-stop (When c p q) d k m h = clean-two (suc d) p q (loops-stop p (suc d)) (loops-stop q (suc d)) k m h
 loops-stop (Until c p q) d k m h = clean-two (suc d) p q (loops-stop p (suc d)) (loops-stop q (suc d)) k m h
 loops-stop (Control s p) d k m h = loops-stop p (suc d) k m (omega arith)
 loops-stop (Local s p) d k m h = loops-stop p (suc d) k m (omega arith)
+loops-stop (If v p q) d k m h = clean-two (suc d) p q (loops-stop p (suc d)) (loops-stop q (suc d)) k m h
 
 -- what the program of an accepted table has
 record Allowed (p : Program) (g a w : ℕ) : Type 0 where

@@ -7,6 +7,7 @@ use native.Mathlib.Omega.{arith}
 use lib.ListN.{length, getD, take, drop, drop-of-length-le}
 use lib.Seq.{length-take-le, take-all}
 use Rattle.events.specs.Events.{Events}
+use Rattle.junior.specs.Values.{Values}
 use Rattle.table.specs.Records.{nodes}
 use Rattle.state.specs.StateBytes.{stateBytes}
 use Rattle.state.proofs.Standing.{standing}
@@ -35,9 +36,9 @@ startable t s p b =
     }
 
 -- what was run in the state's own bytes was run in the room
-run-in-room : {t s : List ℕ} {X : Events} {row s′ row′ : List ℕ} {r : Answer} → 4 * nodes t ≤ length s
-    → Run t (take (4 * nodes t) s) X row s′ row′ r
-    → Run t s X row (s′ ++ drop (4 * nodes t) s) row′ r
+run-in-room : {t s : List ℕ} {X : Events} {value : Values} {row s′ row′ : List ℕ} {r : Answer} → 4 * nodes t ≤ length s
+    → Run t (take (4 * nodes t) s) X value row s′ row′ r
+    → Run t s X value row (s′ ++ drop (4 * nodes t) s) row′ r
 run-in-room {t} {s} h o =
     let long = length-take-le (4 * nodes t) s h in
     let all : take (4 * nodes t) (take (4 * nodes t) s) ≡ take (4 * nodes t) s = take-all (4 * nodes t) (take (4 * nodes t) s) (omega arith) in
@@ -64,15 +65,15 @@ run-in-room {t} {s} h o =
       row-is = o .row-is;
     }
 
-pub answered-ran : {t s : List ℕ} {X : Events} {row s′ row′ : List ℕ} {r : Answer} → 4 * nodes t ≤ length s
+pub answered-ran : {t s : List ℕ} {X : Events} {value : Values} {row s′ row′ : List ℕ} {r : Answer} → 4 * nodes t ≤ length s
     → Ran ≡ instantOutcome t s X row
     → r .outcome ≡ Ran
-    → Run t (take (4 * nodes t) s) X row s′ row′ r
-    → Answered t s X row (s′ ++ drop (4 * nodes t) s) row′ r
+    → Run t (take (4 * nodes t) s) X value row s′ row′ r
+    → Answered t s X value row (s′ ++ drop (4 * nodes t) s) row′ r
 answered-ran h i e o = record { outcome-is = e ∙ i; ran = λ z. run-in-room h o; refused = λ n. absurd (n e) }
 
-pub answered-refused : {t s : List ℕ} {X : Events} {row : List ℕ} {r : Answer} → r .outcome ≡ instantOutcome t s X row
+pub answered-refused : {t s : List ℕ} {X : Events} {value : Values} {row : List ℕ} {r : Answer} → r .outcome ≡ instantOutcome t s X row
     → r .outcome ≢ Ran
     → Refused r
-    → Answered t s X row s row r
+    → Answered t s X value row s row r
 answered-refused i n o = record { outcome-is = i; ran = λ e. absurd (n e); refused = λ z. (o, refl, refl) }

@@ -5,6 +5,7 @@ use mathlib.Core.List.{List}
 use Rattle.events.specs.Events.{Events}
 use Rattle.junior.specs.Term.{prog}
 use Rattle.junior.specs.Figures.{LoopsStop}
+use Rattle.junior.specs.Values.{Values}
 use Rattle.junior.specs.Order.{often}
 use Rattle.junior.proofs.Order.{waits-in-any-order, order-free}
 use Rattle.kernel.specs.declared.Answer.{Answer}
@@ -15,13 +16,15 @@ use Rattle.kernel.proofs.Accepted.{admitted}
 use Rattle.kernel.proofs.Demand2.{runs, stands, gives}
 use Rattle.state.specs.StateBytes.{stateBytes}
 
-pub any-order : {t s : List ℕ} {X : Events} {row s′ row′ : List ℕ} {a : Answer} → Premises t s X row → Answered t s X row s′ row′ a
-    → AnyOrder t s X s′ row′ a
-any-order {t} {X = X} p o =
+pub any-order : {t s : List ℕ} {X : Events} {value : Values} {row s′ row′ : List ℕ} {a : Answer}
+    → Premises t s X row
+    → Answered t s X value row s′ row′ a
+    → AnyOrder t s X value s′ row′ a
+any-order {t} {X = X} {value = value} p o =
     let ran = o .outcome-is ∙ sym (runs p) in
     let r = o .ran ran in
     let loops : LoopsStop (prog (r .term)) = rw (r .program) (admitted t (p .accepted) .loops) in
-    let free = order-free (r .term) X loops (r .at-rest) in
+    let free = order-free value (r .term) X loops (r .at-rest) in
     let given = gives p r in
     record {
       ran = ran;
@@ -37,6 +40,6 @@ any-order {t} {X = X} p o =
             equally-often = λ n. ap (often n) (given .actions) ∙ same .equally-often n;
           };
       reports = λ i.
-          let same = waits-in-any-order (r .instant) i loops refl in
+          let same = waits-in-any-order (r .instant) i refl loops refl in
           record { node = r .waits-node-is ∙ ap nodeOf same; event = r .waits-event-is ∙ ap eventOf same };
     }

@@ -21,7 +21,7 @@ use Rattle.junior.specs.Waited.{waited, first-wait, before-the-end, lacks}
 use Rattle.junior.proofs.Going.{fresh-at-rest, leaves-rest, program-kept}
 use Rattle.junior.proofs.Kept.{prog-fresh}
 use Rattle.junior.proofs.Exists.{goes-by, begins, seq0-runs, loop0-runs, loop1-runs, repeat0-runs, again-runs}
-use Rattle.junior.proofs.Exists.{repeat1-runs, await-runs, when0-runs, until*-runs, until0-runs, control-runs}
+use Rattle.junior.proofs.Exists.{repeat1-runs, await-runs, when0-runs, if0-runs, until*-runs, until0-runs, control-runs}
 use Rattle.junior.proofs.Exists.{pass-exists}
 use Rattle.junior.proofs.Figures.{loops-fresh}
 use Rattle.junior.proofs.Instants.{ends-by, ends-within, ends}
@@ -40,10 +40,10 @@ use Rattle.state.specs.Resting.{zeroNode, zeroNodes, phaseRests, flagsRest, cou
 use Rattle.kernel.specs.declared.Outcome.{Outcome}
 use Rattle.kernel.specs.declared.Outcome.the-variants.{Ran, Table}
 use Rattle.kernel.specs.Answer.{outcomeNumber, outcomeIndex, onAccepted, startOutcome, instantOutcome, startedRoom}
-use Rattle.kernel.specs.Answer.{Started}
+use Rattle.kernel.specs.Answer.{valuesOf, Started}
 use Rattle.kernel.specs.Bench.{Line, Entry, accepted, refused, not-started, not-run, resumed, Checks, Starts, Answers}
-use Rattle.kernel.specs.Bench.{Follow, Alone, word-of, words-of, set, turned-down, Shown, All, phases, K1-to-K12}
-use Rattle.kernel.specs.Bench.{more-of-the-forms, loops, resumed-rooms, tests, figures, harmless-loops, waiting-tests}
+use Rattle.kernel.specs.Bench.{Follow, Alone, word-of, words-of, set, turned-down, asking, Shown, All, phases, K1-to-K12}
+use Rattle.kernel.specs.Bench.{more-of-the-forms, loops, resumed-rooms, tests, figures, harmless-loops, waiting-tests, asking-the-box}
 use Rattle.kernel.specs.Bench.{many-events, refused-tables, refused-rooms, not-at-rest, bench-list}
 use Rattle.kernel.proofs.Accepted.{admitted}
 use Rattle.kernel.proofs.Outcomes.{start-ran}
@@ -57,7 +57,7 @@ told-by : List ℕ → ℕ → List ℕ → (x : Term) → LoopsStop (prog x) �
     → ((u : Term) → LoopsStop (prog u) → AtRest u → List Seen)
     → List Seen
 told-by t a b x o r y (inl e) later =
-    let (n, u, i) = ends left-first x o r (members (y .handed)) in
+    let (n, u, i) = ends (left-first (valuesOf (y .values))) x o r (members (y .handed)) in
     seen-run y b (past-rest t a y) n u (waited i) ∷ later (u .to) (rw (program-kept i) o) (leaves-rest i r)
 told-by t a b x o r y (inr e) later = seen-refused y (stateBytes x ++ b) (past-rest t a y) ∷ later x o r
 
@@ -81,7 +81,7 @@ follows t {a = a} v b x e o r (y ∷ l) h =
         → told-by t a b x o r y c (λ u p q. told t a b u p q l) ≡ seen y ∷ map seen l
         → Answers t (stateBytes x ++ b) y × Follow t (y .state) l
     go (inl ran) f h =
-        let (n, u, i) = ends left-first x o r (members (y .handed)) in
+        let (n, u, i) = ends (left-first (valuesOf (y .values))) x o r (members (y .handed)) in
         let now : seen-run y b (past-rest t a y) n u (waited i) ≡ seen y = cc in
         let later : told t a b (u .to) (rw (program-kept i) o) (leaves-rest i r) l ≡ map seen l = cc in (
           run-answers t v b x e r y i ran now,
@@ -197,9 +197,9 @@ module _ (t : List ℕ) (c : Checked) {n i : ℕ} (h : Checks t c n i 0 0 0) (aw
   no-start s =
       starts-by (record { outcome-is = rw (h .verdict-is, away _); room-is = refl }) (h .number-is) (h .index-is)
 
-  no-instant : (s : List ℕ) (X : EventSet) (row : List ℕ) → Answers t s (turned-down X row s (Table c) n i)
+  no-instant : (s : List ℕ) (X : EventSet) (values row : List ℕ) → Answers t s (asking values (turned-down X row s (Table c) n i))
   unfolding instantOutcome outcomeNumber outcomeIndex word-of words-of fit
-  no-instant s X row =
+  no-instant s X values row =
       let nowhere : members (set []) ≡ none = marks-zeros (places / 64) in
       only-answers
       (record {
@@ -290,7 +290,7 @@ unfolding computed listed if-accepted if-refused judged told told-by told-alone 
     figuresOf goodNode laidOut children argumentLimit goodConfiguration goodButHeight heightAtMost parts configurationOf form programOf
     size kind stops early-true early-false figure outcomeNumber outcomeIndex startOutcome startedRoom instantOutcome rests phaseRests flagsRest
     countRests zeroNode zeroNodes lowest howMany marks put test fixed eval prog fresh leave collect below ends ends-within ends-by pass-exists begins goes-by
-    seq0-runs loop0-runs loop1-runs repeat0-runs repeat1-runs again-runs await-runs when0-runs until0-runs until*-runs control-runs
+    seq0-runs loop0-runs loop1-runs repeat0-runs repeat1-runs again-runs await-runs when0-runs if0-runs until0-runs until*-runs control-runs
     LoopsStop AtRest first-wait before-the-end lacks
 bench =
     and-all K1-to-K12 _ (all-show K1-to-K12 refl)
@@ -302,8 +302,9 @@ bench =
     (and-all harmless-loops _ (all-show harmless-loops refl)
     (and-all waiting-tests _ (all-show waiting-tests refl)
     (and-all many-events _ (all-show many-events refl)
+    (and-all asking-the-box _ (all-show asking-the-box refl)
     (and-all refused-tables _ (all-show refused-tables refl)
-    (and-all refused-rooms _ (all-show refused-rooms refl) (all-show not-at-rest refl)))))))))))
+    (and-all refused-rooms _ (all-show refused-rooms refl) (all-show not-at-rest refl))))))))))))
   where
     resumed-shown : All Shown resumed-rooms
     resumed-shown =

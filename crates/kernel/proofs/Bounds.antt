@@ -2,6 +2,7 @@
 use Prim.Native.Nat.{ℕ}
 use mathlib.Core.List.{List}
 use Rattle.events.specs.Events.{Events}
+use Rattle.junior.specs.Values.{Values}
 use Rattle.junior.specs.Term.{prog}
 use Rattle.junior.specs.Figures.{LoopsStop}
 use Rattle.junior.proofs.Figures.{at-most-G, at-most-A}
@@ -12,7 +13,8 @@ use Rattle.kernel.specs.Demand3.{Demand3}
 use Rattle.kernel.specs.Bounds.{Bounds}
 use Rattle.kernel.proofs.Accepted.{admitted}
 
-pub bounds : {t s : List ℕ} {X : Events} {row s′ : List ℕ} {a : Answer} {p : Premises t s X row} (d : Demand3 p s′ a) → Bounds d
+pub bounds : {t s : List ℕ} {X : Events} {row s′ : List ℕ} {a : Answer} {p : Premises t s X row} {value : Values}
+    (d : Demand3 p value s′ a) → Bounds d
 bounds {t} {p = p} d =
     let accepted = admitted t (p .accepted) in
     let program = d .stands .program in

@@ -13,6 +13,7 @@ use borrow.Author.Tests.{not-false}
 use Rattle.events.specs.Events.{Events, lowest}
 use Rattle.events.specs.Members.{places}
 use Rattle.events.proofs.Events.{before-lowest, at-lowest, lowest-is}
+use Rattle.junior.specs.Values.{exactly, asked}
 use Rattle.junior.specs.Program.{Program, Loop, loop, repeat, control, local, Parts, no-part, one-part, two-parts, parts, size, kind}
 use Rattle.junior.specs.Figures.{stops, G, A, W}
 use Rattle.table.specs.declared.Checked.the-variants.{BadLength, BadCounts, BadDistances, BadConfiguration, BadNode}
@@ -189,7 +190,8 @@ endless-so : {p : Program} (v : Parts p) → endlessParts v ≡ true → (q : Pr
 unfolding kind
 endless-so (no-part f) e = absurd (false≢true e)
 endless-so (one-part (loop q) v) e = (q, refl, not-true (stops q) e)
-endless-so (one-part (repeat n q) v) e = absurd (false≢true e)
+endless-so (one-part (repeat (exactly n) q) v) e = absurd (false≢true e)
+endless-so (one-part (repeat (asked n cap) q) v) e = absurd (false≢true e)
 endless-so (one-part (control s q) v) e = absurd (false≢true e)
 endless-so (one-part (local s q) v) e = absurd (false≢true e)
 endless-so (two-parts f v w) e = absurd (false≢true e)

@@ -13,12 +13,13 @@ use Rattle.events.specs.Events.{Events}
 use Rattle.events.specs.Members.{places}
 use Rattle.events.proofs.Events.{lowest-is}
 use Rattle.junior.specs.declared.Flag.{Flag}
+use Rattle.junior.specs.Values.{Values}
 use Rattle.junior.specs.Configuration.{Env, handed-in}
 use Rattle.junior.specs.Trace.{atoms}
 use Rattle.junior.specs.Rules.{left-first, Result}
 use Rattle.junior.specs.Instant.{Instant}
 use Rattle.junior.specs.Waited.{waited}
-use Rattle.junior.specs.Printed.{Abstract, reads, Deed, actions, _∣_—[_doing_]—_passes→_∣_}
+use Rattle.junior.specs.Printed.{Abstract, reads, Deed, actions, _⊢_∣_—[_doing_]—_passes→_∣_}
 use Rattle.junior.proofs.Deterministic.{one-outcome}
 use Rattle.junior.proofs.Waited.{one-waited}
 use Rattle.junior.proofs.Going.{leaves-rest, program-kept}
@@ -51,7 +52,7 @@ runs {t} {s} {X} {row} p =
     instant-ran t s (p .accepted) X row (p .room) (omega arith) (omega arith) (p .row-room)
 
 -- the term that was run stands in the state
-pub stands : {t s : List ℕ} {X : Events} {row s′ row′ : List ℕ} {a : Answer} (r : Run t s X row s′ row′ a) → TermInState t s (r .term)
+pub stands : {t s : List ℕ} {X : Events} {value : Values} {row s′ row′ : List ℕ} {a : Answer} (r : Run t s X value row s′ row′ a) → TermInState t s (r .term)
 stands r = record {
   program = r .program;
   bytes = r .bytes;
@@ -59,7 +60,7 @@ stands r = record {
   only = λ y e b. one-term y (r .term) (e ∙ sym (r .program)) (sym b ∙ r .bytes);
 }
 
-module _ {t s : List ℕ} {X : Events} {row s′ row′ : List ℕ} {a : Answer} (p : Premises t s X row) (r : Run t s X row s′ row′ a) where
+module _ {t s : List ℕ} {X : Events} {value : Values} {row s′ row′ : List ℕ} {a : Answer} (p : Premises t s X row) (r : Run t s X value row s′ row′ a) where
   -- the bytes that an instant leaves are as many
   long : length (stateBytes (r .result .to)) ≡ 4 * nodes t
   long = rw (len-bytes (r .result .to), program-kept (r .instant), r .program, admitted t (p .accepted) .whole)
@@ -80,13 +81,13 @@ module _ {t s : List ℕ} {X : Events} {row s′ row′ : List ℕ} {a : Answer}
       }
 
   -- whatever the rules give is what was run
-  gives-all : (n : ℕ) (u : Result) → Instant left-first (r .term) (handed-in X) n u → Gives t s row s′ row′ a n u
+  gives-all : (n : ℕ) (u : Result) → Instant (left-first value) (r .term) (handed-in X) n u → Gives t s row s′ row′ a n u
   gives-all n u i =
       let (same-passes, same-result) = one-outcome (r .instant) i in
       subst (λ m. Gives t s row s′ row′ a m u) same-passes (subst (λ x. Gives t s row s′ row′ a (a .passes) x) same-result gives)
 
   -- and whatever they report is what was answered
-  reports-all : (n : ℕ) (u : Result) (i : Instant left-first (r .term) (handed-in X) n u) → Reports a (waited i)
+  reports-all : (n : ℕ) (u : Result) (i : Instant (left-first value) (r .term) (handed-in X) n u) → Reports a (waited i)
   reports-all n u i =
       let same = one-waited (r .instant) i in
       record { node = r .waits-node-is ∙ ap nodeOf same; event = r .waits-event-is ∙ ap eventOf same }
@@ -103,7 +104,7 @@ module _ {t s : List ℕ} {X : Events} {row s′ row′ : List ℕ} {a : Answer}
 
   -- whatever the printed rules give is what was run
   gives-printed : {n : ℕ} {α : Flag} {l : List Deed} {u : Abstract} {E : Env}
-      → reads (r .term) ∣ handed-in X —[ α doing l ]— n passes→ u ∣ E
+      → value ⊢ reads (r .term) ∣ handed-in X —[ α doing l ]— n passes→ u ∣ E
       → GivesPrinted t s′ row′ a n α l u E
   gives-printed i =
       let (passes, flag, did, to, env) = printed-exactly (r .instant) i in
@@ -117,8 +118,8 @@ module _ {t s : List ℕ} {X : Events} {row s′ row′ : List ℕ} {a : Answer}
         next-reads = to;
       }
 
-pub demand-2 : {t s : List ℕ} {X : Events} {row s′ row′ : List ℕ} {a : Answer} → Premises t s X row → Answered t s X row s′ row′ a
-    → Demand2 t s X row s′ row′ a
+pub demand-2 : {t s : List ℕ} {X : Events} {value : Values} {row s′ row′ : List ℕ} {a : Answer} → Premises t s X row → Answered t s X value row s′ row′ a
+    → Demand2 t s X value row s′ row′ a
 demand-2 p o =
     let ran = o .outcome-is ∙ sym (runs p) in
     let r = o .ran ran in

@@ -3,6 +3,7 @@ use Prim.Native.Nat.{ℕ}
 use mathlib.Core.Path.{sym, _∙_}
 use mathlib.Core.List.{List}
 use Rattle.events.specs.Events.{Events}
+use Rattle.junior.specs.Values.{Values}
 use Rattle.junior.proofs.Demand3.{demand-3 as by-the-rules}
 use Rattle.state.proofs.Blameless.{resting}
 use Rattle.kernel.specs.declared.Answer.{Answer}
@@ -12,13 +13,13 @@ use Rattle.kernel.specs.Demand3.{Demand3}
 use Rattle.kernel.proofs.Accepted.{admitted}
 use Rattle.kernel.proofs.Demand2.{runs, stands, gives}
 
-pub demand-3 : {t s : List ℕ} {X : Events} {row s′ row′ : List ℕ} {a : Answer} (p : Premises t s X row) → Answered t s X row s′ row′ a
-    → Demand3 p s′ a
-demand-3 {t} {s} {X} {s′ = s′} {a = a} p o =
+pub demand-3 : {t s : List ℕ} {X : Events} {value : Values} {row s′ row′ : List ℕ} {a : Answer} (p : Premises t s X row) → Answered t s X value row s′ row′ a
+    → Demand3 p value s′ a
+demand-3 {t} {s} {X} {value} {s′ = s′} {a = a} p o =
     let ran = o .outcome-is ∙ sym (runs p) in
     let r = o .ran ran in
     let accepted = admitted t (p .accepted) in
-    let settled = by-the-rules (r .term) X (rw (r .program) (accepted .loops)) (r .at-rest) .settled (r .instant) in
+    let settled = by-the-rules value (r .term) X (rw (r .program) (accepted .loops)) (r .at-rest) .settled (r .instant) in
     let next = gives p r .next-state in
     record {
       ran = ran;

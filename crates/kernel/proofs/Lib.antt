@@ -2,6 +2,7 @@
 pub mod Unlisted
 pub mod Accepted
 pub mod Outcomes
+pub mod ValueWords
 pub mod Passing
 pub mod Answers
 pub mod Checks
@@ -15,5 +16,6 @@ pub mod OneAnswer
 pub mod Listed
 pub mod TablesBefore
 pub mod ThousandEvents
+pub mod AskTheBox
 pub mod Lines
 pub mod Bench

@@ -35,7 +35,7 @@ use Rattle.state.specs.Resting.{blamed}
 use Rattle.state.proofs.Blameless.{resting}
 use Rattle.kernel.specs.declared.Outcome.{Outcome}
 use Rattle.kernel.specs.declared.Outcome.the-variants.{Ran, StateRoom, NotAtRest, UnlistedEvent, AtomRoom}
-use Rattle.kernel.specs.Answer.{outcomeNumber, outcomeIndex, onAccepted, hasRoom, instantOutcome, ended, nodeOf, eventOf, Answered}
+use Rattle.kernel.specs.Answer.{outcomeNumber, outcomeIndex, onAccepted, hasRoom, instantOutcome, ended, nodeOf, eventOf, valuesOf, Answered}
 use Rattle.kernel.specs.Bench.{Line, Answers}
 use Rattle.kernel.proofs.Accepted.{admitted}
 use Rattle.kernel.proofs.Outcomes.{instant-is}
@@ -268,7 +268,7 @@ outcome-past-rest t v b x e rest y =
     )
 
 -- a line that is seen so is what instant answers, and nothing else
-pub only-answers : {t s : List ℕ} {y : Line} → Answered t s (members (y .handed)) (y .lent) (y .state) (y .row) (y .answer)
+pub only-answers : {t s : List ℕ} {y : Line} → Answered t s (members (y .handed)) (valuesOf (y .values)) (y .lent) (y .state) (y .row) (y .answer)
     → Whole (y .answer .events)
     → outcomeNumber (y .answer .outcome) ≡ y .number
     → outcomeIndex (y .answer .outcome) ≡ y .index
@@ -279,7 +279,7 @@ pub run-answers : (t : List ℕ) {g a w : ℕ} → verdictOf t ≡ Accepted g a 
     → AtRest x
     → (y : Line)
     → {n : ℕ} {r : Result}
-    → (i : Instant left-first x (handed-in (members (y .handed))) n r)
+    → (i : Instant (left-first (valuesOf (y .values))) x (handed-in (members (y .handed))) n r)
     → y .answer .outcome ≡ Ran
     → seen-run y b (past-rest t a y) n r (waited i) ≡ seen y
     → Answers t (stateBytes x ++ b) y
@@ -292,8 +292,8 @@ run-answers t v b x e rest y {n} {r} i ran s =
     let past : (k : ℕ) → places ≤ k → r .env .now k ≡ false =
     λ k h. only-generated-in-all i k (not-among (generations (r .acts)) placed-all k h) (members-past (y .handed) handed k h) in
     let atoms-are = sym (ap (λ z. z .atoms) s) in
-    let instant : Instant left-first x (handed-in (members (y .handed))) (y .answer .passes) r =
-    subst (λ m. Instant left-first x (handed-in (members (y .handed))) m r) (ap (λ z. z .passes) s) i in
+    let instant : Instant (left-first (valuesOf (y .values))) x (handed-in (members (y .handed))) (y .answer .passes) r =
+    subst (λ m. Instant (left-first (valuesOf (y .values))) x (handed-in (members (y .handed))) m r) (ap (λ z. z .passes) s) i in
     let reports = one-waited i instant in
     only-answers
     (record {

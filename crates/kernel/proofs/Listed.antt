@@ -10,7 +10,8 @@ use borrow.Author.Tests.{ne-eqb}
 use Rattle.events.specs.Events.{Events}
 use Rattle.junior.specs.Configuration.{handed-in}
 use Rattle.junior.specs.Program.{Program, Nothing, Stop, Atom, Seq, Par, Loop, Repeat, Generate, Await, When, Until}
-use Rattle.junior.specs.Program.{Control, Local, kind}
+use Rattle.junior.specs.Program.{Control, Local, If, kind}
+use Rattle.junior.specs.Values.{exactly, asked}
 use Rattle.junior.specs.Term.{Term, prog}
 use Rattle.junior.specs.Trace.{Act, did-atom, did-generate, decided, waits, scope-answered, collect, generations}
 use Rattle.junior.specs.Rules.{Allowed, Result}
@@ -46,6 +47,7 @@ module _ (e : ℕ) where
   raises (Until c p q) = 0
   raises (Control s p) = 0
   raises (Local s p) = 0
+  raises (If v p q) = 0
 
   -- acts that weigh nothing don't generate it
   none-raised : (l : List Act) → cost raises l ≡ 0 → among e (generations l) ≡ false
@@ -84,7 +86,8 @@ module _ (e : ℕ) where
         let c = pair a i l (ap children k) in
         omega (arith, weightless p (i + 1) (c .first-in) y, weightless q (secondAt t i) (c .second-in) z)
     weightless (Loop p) i l ((k, w), x, y) = omega (arith, weightless p (i + 1) (body a i l (ap children k) .first-in) y)
-    weightless (Repeat n p) i l ((k, w), x, y) = rw (weightless p (i + 1) (body a i l (ap children k) .first-in) y) (omega arith)
+    weightless (Repeat (exactly n) p) i l ((k, w), x, y) = rw (weightless p (i + 1) (body a i l (ap children k) .first-in) y) (omega arith)
+    weightless (Repeat (asked v n) p) i l ((k, w), x, y) = rw (weightless p (i + 1) (body a i l (ap children k) .first-in) y) (omega arith)
     weightless (Generate s) i l ((k, w), x) =
         let below = listed s i l k x in
         rw (ne-eqb e s (λ z. omega arith))
@@ -97,6 +100,9 @@ module _ (e : ℕ) where
         omega (arith, weightless p (i + 1) (c .first-in) y, weightless q (secondAt t i) (c .second-in) z)
     weightless (Control s p) i l ((k, w), x, y) = omega (arith, weightless p (i + 1) (body a i l (ap children k) .first-in) y)
     weightless (Local s p) i l ((k, w), x, y) = omega (arith, weightless p (i + 1) (body a i l (ap children k) .first-in) y)
+    weightless (If v p q) i l ((k, w), x, y, z) =
+        let c = pair a i l (ap children k) in
+        omega (arith, weightless p (i + 1) (c .first-in) y, weightless q (secondAt t i) (c .second-in) z)
 
 pub reports-listed : (t : List ℕ) {g a w : ℕ} → verdictOf t ≡ Accepted g a w → {free : Allowed} {x : Term} {X : Events} {n : ℕ} {r : Result}
     → prog x ≡ treeOf t

@@ -3,6 +3,7 @@ use Prim.Native.Nat.{ℕ}
 use mathlib.Core.Path.{sym, _∙_}
 use mathlib.Core.List.{List}
 use Rattle.events.specs.Events.{Events}
+use Rattle.junior.specs.Values.{Values}
 use Rattle.junior.proofs.NeverRoundTwice.{never-round-twice as by-the-rules}
 use Rattle.kernel.specs.declared.Answer.{Answer}
 use Rattle.kernel.specs.Answer.{Answered}
@@ -11,8 +12,9 @@ use Rattle.kernel.specs.NeverRoundTwice.{NeverRoundTwice}
 use Rattle.kernel.proofs.Accepted.{admitted}
 use Rattle.kernel.proofs.Demand2.{runs, stands, gives}
 
-pub never-round-twice : {t s : List ℕ} {X : Events} {row s′ row′ : List ℕ} {a : Answer} → Premises t s X row → Answered t s X row s′ row′ a
-    → NeverRoundTwice t s X row s′ row′ a
+pub never-round-twice : {t s : List ℕ} {X : Events} {value : Values} {row s′ row′ : List ℕ} {a : Answer} → Premises t s X row
+    → Answered t s X value row s′ row′ a
+    → NeverRoundTwice t s X value row s′ row′ a
 never-round-twice {t} p o =
     let r = o .ran (o .outcome-is ∙ sym (runs p)) in
     record {

@@ -9,6 +9,7 @@ use Rattle.events.specs.declared.EventSet.{EventSet}
 use Rattle.events.specs.Events.{Events, howMany, lowest}
 use Rattle.events.specs.Members.{places, members, Whole}
 use Rattle.events.proofs.Sets.{same-members}
+use Rattle.junior.specs.Values.{Values}
 use Rattle.junior.specs.Configuration.{Env}
 use Rattle.junior.specs.Term.{Term}
 use Rattle.junior.specs.Trace.{atoms}
@@ -54,10 +55,11 @@ same-answer q r a b c d e f g h k =
     }
 
 -- from one term, however that is said, instants report one test
-same-waited : {x y : Term} {E : Env} {m n : ℕ} {r s : Result} → x ≡ y → (i : Instant left-first x E m r) (j : Instant left-first y E n s)
+same-waited : {value : Values} {x y : Term} {E : Env} {m n : ℕ} {r s : Result} → x ≡ y
+    → (i : Instant (left-first value) x E m r) (j : Instant (left-first value) y E n s)
     → waited i ≡ waited j
-same-waited {E = E} {n = n} {s = s} e i j =
-    subst (λ z. (k : Instant left-first z E n s) → waited i ≡ waited k) e (λ k. one-waited i k) j
+same-waited {value} {E = E} {n = n} {s = s} e i j =
+    subst (λ z. (k : Instant (left-first value) z E n s) → waited i ≡ waited k) e (λ k. one-waited i k) j
 
 same-events : (x y : EventSet) → Whole x → Whole y → members x ≡ members y → x ≡ y
 same-events x y f g e = same-members x y f g (λ n h. ap (λ X. X n) e)
@@ -72,7 +74,8 @@ ran-or-not AtomRoom = inr (λ e. let z : _≡_ {A = ℕ} 0 1 = cc in omega arith
 
 module _ {q r : Answer} (f : Whole (q .events)) (g : Whole (r .events)) (o : q .outcome ≡ r .outcome) where
   -- two that ran: the state has one term, and the rules one result
-  same-run : {t s : List ℕ} {X : Events} {row s₁ s₂ row₁ row₂ : List ℕ} → Run t s X row s₁ row₁ q → Run t s X row s₂ row₂ r
+  same-run : {t s : List ℕ} {X : Events} {value : Values} {row s₁ s₂ row₁ row₂ : List ℕ} → Run t s X value row s₁ row₁ q
+      → Run t s X value row s₂ row₂ r
       → (q ≡ r) × (s₁ ≡ s₂) × (row₁ ≡ row₂)
   same-run {t} {s} {row = row} x y =
       let term-is = one-term (y .term) (x .term) (y .program ∙ sym (x .program)) (sym (y .bytes) ∙ x .bytes) in
@@ -102,9 +105,9 @@ module _ {q r : Answer} (f : Whole (q .events)) (g : Whole (r .events)) (o : q .
       (x .waits-node-is ∙ sym (y .waits-node-is)) (x .waits-event-is ∙ sym (y .waits-event-is))
 
 -- what a running program holds as a set of events is Whole (`whole` in crate events, proofs/Sets)
-pub one-instant : {t s : List ℕ} {X : Events} {row s₁ s₂ row₁ row₂ : List ℕ} {q r : Answer} → Whole (q .events) → Whole (r .events)
-    → Answered t s X row s₁ row₁ q
-    → Answered t s X row s₂ row₂ r
+pub one-instant : {t s : List ℕ} {X : Events} {value : Values} {row s₁ s₂ row₁ row₂ : List ℕ} {q r : Answer} → Whole (q .events) → Whole (r .events)
+    → Answered t s X value row s₁ row₁ q
+    → Answered t s X value row s₂ row₂ r
     → (q ≡ r) × (s₁ ≡ s₂) × (row₁ ≡ row₂)
 one-instant {s₁ = s₁} {s₂ = s₂} {row₁ = row₁} {row₂ = row₂} {q = q} {r = r} f g a b = go (ran-or-not (q .outcome))
   where
@@ -135,9 +138,9 @@ whole-in-places p a l e =
       fits = λ q. let n = suc (suc (suc (suc (suc (suc (suc (suc (suc q)))))))) in rw (ap (λ z. getD z n 0) e) at (l .fits n);
     }
 
-pub one-instant-in-places : {t s words row s₁ s₂ row₁ row₂ p₁ p₂ : List ℕ} → Places instant-length p₁ → Places instant-length p₂
-    → AnsweredInPlaces t s words row s₁ row₁ p₁
-    → AnsweredInPlaces t s words row s₂ row₂ p₂
+pub one-instant-in-places : {t s words values row s₁ s₂ row₁ row₂ p₁ p₂ : List ℕ} → Places instant-length p₁ → Places instant-length p₂
+    → AnsweredInPlaces t s words values row s₁ row₁ p₁
+    → AnsweredInPlaces t s words values row s₂ row₂ p₂
     → (p₁ ≡ p₂) × (s₁ ≡ s₂) × (row₁ ≡ row₂)
 one-instant-in-places {p₁ = p₁} {p₂ = p₂} f g a b =
     let (r, s, row) =

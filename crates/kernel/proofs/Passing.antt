@@ -17,11 +17,12 @@ use Rattle.events.specs.Events.{Events, howMany, lowest}
 use Rattle.events.specs.Members.{places, marks, members}
 use Rattle.junior.specs.declared.Flag.{Flag}
 use Rattle.junior.specs.declared.Flag.the-variants.{SUSP, TERM}
+use Rattle.junior.specs.Values.{Values}
 use Rattle.junior.specs.Configuration.{Env, handed-in, unmoved, declared-end}
 use Rattle.junior.specs.Program.{Program, size}
 use Rattle.junior.specs.Term.{Term, prog, done}
 use Rattle.junior.specs.Trace.{Act, root, atom-of, atoms, collect}
-use Rattle.junior.specs.Rules.{left-first, Result, answers, after}
+use Rattle.junior.specs.Rules.{left-first, Result, answers, after, Rewrites}
 use Rattle.junior.specs.Instant.{Instant, r47, r48, r49}
 use Rattle.junior.specs.Figures.{per, G}
 use Rattle.junior.specs.Inside.{pot}
@@ -39,17 +40,17 @@ use Rattle.table.specs.Records.{nodes}
 use Rattle.table.proofs.Tree.{size-pos}
 use Rattle.state.specs.StateBytes.{zeros, below, stateBytes}
 use Rattle.state.proofs.Parts.{len-bytes}
-use Rattle.steps.specs.Running.{atoms-done, envOf, Any, Ready, Ran, Wrote, something-moved, end-declared}
+use Rattle.steps.specs.Running.{atoms-done, envOf, valuesIn, Any, Ready, Ran, Wrote, something-moved, end-declared}
 use Rattle.table.specs.Reading.{event-words}
 use Rattle.steps.specs.Numbers.{moved-at, ended-at, places-of-row, wordsOf, tallyOf, firstNumbers, nextNumbers, Numbers}
 use Rattle.steps.specs.Flags.{flagOf}
 use Rattle.steps.specs.Kinds.{all-seen}
 use Rattle.steps.specs.Lent.{lent, Stands, Went, CanRun, HasRun}
-use Rattle.steps.proofs.Done.{wrote-long, few}
+use Rattle.steps.proofs.Done.{wrote-long, few, values-apart}
 use Rattle.steps.proofs.Row.{still, tally-1, tally-2, first-words, first-tally, first-holds, next-words, next-holds}
 use Rattle.kernel.specs.declared.Answer.{Answer}
 use Rattle.kernel.specs.Answer.{Run, ended as ended-by, nodeOf, eventOf}
-use Rattle.kernel.specs.Passes.{Startable, Reported, LeadsIfStill, WaitsAfter}
+use Rattle.kernel.specs.Passes.{wordValues, Startable, Reported, LeadsIfStill, WaitsAfter}
 use Rattle.waiting.specs.declared.Wait as W
 use Rattle.waiting.specs.Down.{StandsAt, Leads}
 
@@ -62,19 +63,22 @@ abbrev next-env : Bool → Env → Env
 next-env true E = unmoved E
 next-env false E = declared-end E
 
-next-is : (words l : List ℕ) → length l ≡ 3 → ltb 0 (end-declared l) ≡ false → (m : Bool) → ltb 0 (something-moved l) ≡ m
+next-is : (words l : List ℕ) → 3 ≤ length l → ltb 0 (end-declared l) ≡ false → (m : Bool) → ltb 0 (something-moved l) ≡ m
     → envOf words (next-tally l) ≡ next-env m (envOf words l)
 next-is words [] h e m f = absurd (omega arith)
 next-is words (a ∷ []) h e m f = absurd (omega arith)
 next-is words (a ∷ b ∷ []) h e m f = absurd (omega arith)
-next-is words (a ∷ b ∷ c ∷ []) h e true f =
+next-is words (a ∷ b ∷ c ∷ l) h e true f =
     let some = ltb-true 0 b f in
     rw (ne-eqb b 0 (λ z. omega arith), e)
-next-is words (a ∷ b ∷ c ∷ []) h e false f =
+next-is words (a ∷ b ∷ c ∷ l) h e false f =
     let none = ltb-false 0 b f in
     let zero-is : b ≡ 0 = omega arith in
     rw (eq-eqb b 0 zero-is, f)
-next-is words (a ∷ b ∷ c ∷ d ∷ l) h e m f = absurd (omega arith)
+
+-- which has the same values
+next-values : (l : List ℕ) → valuesIn (next-tally l) ≡ valuesIn l
+next-values l = values-apart (set l 2 _) 1 0 (omega arith) ∙ values-apart l 2 _ (omega arith)
 
 next-done : (l : List ℕ) → atoms-done (next-tally l) ≡ atoms-done l
 next-done [] = refl
@@ -91,13 +95,13 @@ wrote-on {xs} {row = row} {at = at} ys row₀ w e f =
     w .row-is ∙ rw (front, back) (sym (append-assoc ys xs (drop (length (ys ++ xs)) row₀)))
 
 -- what ends the instant from t in E ends, after so many passes that did these acts, the whole of it
-abbrev Onward : Term → Events → ℕ → List Act → Term → Env → Type 0
-Onward t₀ X passes acts t E =
-    (n : ℕ) (r : Result) → Instant left-first t E n r → Instant left-first t₀ (handed-in X) (passes + n) (after acts r)
+abbrev Onward : Values → Term → Events → ℕ → List Act → Term → Env → Type 0
+Onward value t₀ X passes acts t E =
+    (n : ℕ) (r : Result) → Instant (left-first value) t E n r → Instant (left-first value) t₀ (handed-in X) (passes + n) (after acts r)
 
 -- what the whole instant reports: o, once the end is declared in E, else what the instant from t in E will
-pub record Tells (t₀ : Term) (X : Events) (t : Term) (E : Env) (o : Option Wait) : Type 0 where
-  pub reports : {m n : ℕ} {r s : Result} (j : Instant left-first t₀ (handed-in X) m r) (i : Instant left-first t E n s)
+pub record Tells (value : Values) (t₀ : Term) (X : Events) (t : Term) (E : Env) (o : Option Wait) : Type 0 where
+  pub reports : {m n : ℕ} {r s : Result} (j : Instant (left-first value) t₀ (handed-in X) m r) (i : Instant (left-first value) t E n s)
       → waited j ≡ cond (E .eoi) o (waited i)
   pub undeclared : E .eoi ≡ false → o ≡ none
 
@@ -110,22 +114,23 @@ pub record Names (w : W.Wait) (o : Option Wait) : Type 0 where
 abbrev Soon : Term → ℕ → Term → Bool → Type 0
 Soon t₀ passes t ended = passes + cond ended 0 (pot (per 7) t) ≤ G (prog t₀) + cond ended 1 0
 
--- from t₀ with X handed in, over the row row₀: the state, the words, the row and the tally after so many passes
-pub record Underway (table : List ℕ) (t₀ : Term) (X : Events) (row₀ state words row tally : List ℕ) (passes : ℕ) : Type 0 where
+-- from t₀ with X and these values handed in, over the row row₀: the state, the words, the row and the tally after so many passes
+pub record Underway (table : List ℕ) (t₀ : Term) (X : Events) (value : Values) (row₀ state words row tally : List ℕ) (passes : ℕ) : Type 0 where
   pub term : Term
   pub acts : List Act
   pub ready : Ready 0 table 0 state words row tally term
   pub same-program : prog term ≡ prog t₀
-  pub onward : Onward t₀ X passes acts term (envOf words tally)
+  pub same-values : valuesIn tally ≡ value
+  pub onward : Onward value t₀ X passes acts term (envOf words tally)
   pub done-is : atoms-done tally ≡ length (atoms acts)
   pub row-is : row ≡ atoms acts ++ drop (length (atoms acts)) row₀
   pub still : envOf words tally .move ≡ false
   pub soon : Soon t₀ passes term (envOf words tally .eoi)
   pub named : Option Wait
-  pub tells : Tells t₀ X term (envOf words tally) named
+  pub tells : Tells value t₀ X term (envOf words tally) named
 
-module _ {table : List ℕ} {t₀ : Term} {X : Events} {row₀ state words row tally : List ℕ} {passes : ℕ}
-    (u : Underway table t₀ X row₀ state words row tally passes) where
+module _ {table : List ℕ} {t₀ : Term} {X : Events} {value : Values} {row₀ state words row tally : List ℕ} {passes : ℕ}
+    (u : Underway table t₀ X value row₀ state words row tally passes) where
   pub few-passes : passes ≤ G (prog t₀) + 1
   few-passes = go (envOf words tally .eoi) (u .soon)
     where
@@ -148,14 +153,22 @@ module _ {table : List ℕ} {t₀ : Term} {X : Events} {row₀ state words row t
     done-after =
         rw (all-atoms, length-append (atoms (u .acts)) (atoms (ran .acts))) (rw (u .done-is) at (ran .wrote .done-is))
 
+    -- by the values that were handed in
+    by-values : Rewrites (left-first value) root (u .term) (envOf words tally) (answers α (ran .to) (envOf words′ tally′) (ran .acts))
+    by-values =
+        subst
+        (λ v. Rewrites (left-first v) root (u .term) (envOf words tally) (answers α (ran .to) (envOf words′ tally′) (ran .acts)))
+        (u .same-values)
+        (ran .rewrites)
+
     -- a pass that doesn't suspend ends the instant
-    pub ends : α ≢ SUSP → Instant left-first t₀ (handed-in X) (passes + 1) (answers α (ran .to) (envOf words′ tally′) all-acts)
-    ends h = u .onward 1 _ (r47 (ran .rewrites) h)
+    pub ends : α ≢ SUSP → Instant (left-first value) t₀ (handed-in X) (passes + 1) (answers α (ran .to) (envOf words′ tally′) all-acts)
+    ends h = u .onward 1 _ (r47 by-values h)
 
     -- and what was named is what it reports
-    pub reported : α ≢ SUSP → {m : ℕ} {r : Result} (j : Instant left-first t₀ (handed-in X) m r) → waited j ≡ u .named
+    pub reported : α ≢ SUSP → {m : ℕ} {r : Result} (j : Instant (left-first value) t₀ (handed-in X) m r) → waited j ≡ u .named
     unfolding before-the-end first-wait
-    reported h j = u .tells .reports j (r47 (ran .rewrites) h) ∙ go (envOf words tally .eoi) refl
+    reported h j = u .tells .reports j (r47 by-values h) ∙ go (envOf words tally .eoi) refl
       where
         go : (b : Bool) → envOf words tally .eoi ≡ b → cond b (u .named) none ≡ u .named
         go true e = refl
@@ -194,7 +207,7 @@ module _ {table : List ℕ} {t₀ : Term} {X : Events} {row₀ state words row t
     -- by whether something moved
     module _ (m : Bool) (moved : envOf words′ tally′ .move ≡ m) where
       next : envOf words′ (next-tally tally′) ≡ next-env m (envOf words′ tally′)
-      next = next-is words′ tally′ (ran .lengths .of-tally ∙ u .ready .tallied) off m moved
+      next = next-is words′ tally′ (omega (arith, ran .lengths .of-tally, u .ready .tallied)) off m moved
 
     still-again : (m : Bool) → envOf words′ tally′ .move ≡ m → envOf words′ (next-tally tally′) .move ≡ false
     still-again true e = ap (λ E. E .move) (next true e)
@@ -210,43 +223,44 @@ module _ {table : List ℕ} {t₀ : Term} {X : Events} {row₀ state words row t
         rw (ap (λ E. E .eoi) (next false e)) (omega arith)
 
     onward-again : (m : Bool) → envOf words′ tally′ .move ≡ m
-        → Onward t₀ X (passes + 1) (all-acts ran) (ran .to) (envOf words′ (next-tally tally′))
+        → Onward value t₀ X (passes + 1) (all-acts ran) (ran .to) (envOf words′ (next-tally tally′))
     onward-again m e n s i =
         let count : passes + suc n ≡ passes + 1 + n = omega arith in
         rw (append-assoc (u .acts) (ran .acts) (s .acts)) (rw count at (u .onward (suc n) _ (on m e (rw (next m e) at i))))
       where
-        on : (m : Bool) → envOf words′ tally′ .move ≡ m → Instant left-first (ran .to) (next-env m (envOf words′ tally′)) n s
-            → Instant left-first (u .term) (envOf words tally) (suc n) (after (ran .acts) s)
-        on true e i = r49 (ran .rewrites) refl e i
-        on false e i = r48 (ran .rewrites) refl e i
+        on : (m : Bool) → envOf words′ tally′ .move ≡ m → Instant (left-first value) (ran .to) (next-env m (envOf words′ tally′)) n s
+            → Instant (left-first value) (u .term) (envOf words tally) (suc n) (after (ran .acts) s)
+        on true e i = r49 (by-values ran) refl e i
+        on false e i = r48 (by-values ran) refl e i
 
     -- what is named after it: what waits in it, if nothing moved
     abbrev pub next-named : Bool → Option Wait
     next-named m = cond m (u .named) (first-wait (ran .acts))
 
-    tells-next : (m : Bool) → envOf words′ tally′ .move ≡ m → Tells t₀ X (ran .to) (next-env m (envOf words′ tally′)) (next-named m)
+    tells-next : (m : Bool) → envOf words′ tally′ .move ≡ m → Tells value t₀ X (ran .to) (next-env m (envOf words′ tally′)) (next-named m)
     unfolding before-the-end
     tells-next true e = record {
       reports = λ j i.
-          u .tells .reports j (r49 (ran .rewrites) refl e i)
+          u .tells .reports j (r49 (by-values ran) refl e i)
           ∙ (ap (λ b. cond b (u .named) (waited i)) not-ended ∙ sym (ap (λ b. cond b (u .named) (waited i)) off));
       undeclared = λ z. u .tells .undeclared not-ended;
     }
     tells-next false e = record {
       reports = λ j i.
-          u .tells .reports j (r48 (ran .rewrites) refl e i) ∙ ap (λ b. cond b (u .named) (first-wait (ran .acts))) not-ended;
+          u .tells .reports j (r48 (by-values ran) refl e i) ∙ ap (λ b. cond b (u .named) (first-wait (ran .acts))) not-ended;
       undeclared = λ z. absurd (false≢true (sym z));
     }
 
-    tells-again : (m : Bool) → envOf words′ tally′ .move ≡ m → Tells t₀ X (ran .to) (envOf words′ (next-tally tally′)) (next-named m)
-    tells-again m e = subst (λ F. Tells t₀ X (ran .to) F (next-named m)) (sym (next m e)) (tells-next m e)
+    tells-again : (m : Bool) → envOf words′ tally′ .move ≡ m → Tells value t₀ X (ran .to) (envOf words′ (next-tally tally′)) (next-named m)
+    tells-again m e = subst (λ F. Tells value t₀ X (ran .to) F (next-named m)) (sym (next m e)) (tells-next m e)
 
-    pub goes : Underway table t₀ X row₀ state′ words′ row′ (next-tally tally′) (passes + 1)
+    pub goes : Underway table t₀ X value row₀ state′ words′ row′ (next-tally tally′) (passes + 1)
     goes = record {
       term = ran .to;
       acts = all-acts ran;
       ready = ready-again;
       same-program = kept (ran .rewrites) ∙ u .same-program;
+      same-values = next-values tally′ ∙ (ran .lengths .of-values ∙ u .same-values);
       onward = onward-again _ refl;
       done-is = next-done tally′ ∙ done-after ran;
       row-is = row-after ran;
@@ -268,10 +282,10 @@ module _ {table : List ℕ} {t₀ : Term} {X : Events} {row₀ state words row t
         (w, record { term = ran .to; stands = stands-there; leads = led }, first)
 
 -- before the first pass
-pub begins : {table state row : List ℕ} (words : List ℕ) (b : Startable table state row) → 64 * length words ≡ places
-    → Underway table (b .term) (marks words) row state words row (0 ∷ 0 ∷ 0 ∷ []) 0
+pub begins : {table state row : List ℕ} (words : List ℕ) (low high : ℕ) (b : Startable table state row) → 64 * length words ≡ places
+    → Underway table (b .term) (marks words) (wordValues low high) row state words row (0 ∷ 0 ∷ 0 ∷ low ∷ high ∷ []) 0
 unfolding collect
-begins words b wide =
+begins words low high b wide =
     let t = b .term in
     record {
       term = t;
@@ -287,6 +301,7 @@ begins words b wide =
         room = omega (arith, pot-at-rest (per 2) t (b .at-rest), b .room);
       };
       same-program = refl;
+      same-values = refl;
       onward = λ n r i. rw (zero-add n) i;
       done-is = refl;
       row-is = refl;
@@ -301,8 +316,8 @@ ended-bytes : (p : Program) → set (zeros p) 0 3 ≡ stateBytes (done p)
 unfolding below
 ended-bytes p = let e : 4 * size p ≡ suc (suc (suc (suc (4 * size p - 4)))) = omega (arith, size-pos p) in ap (λ n. set (replicate n 0) 0 3) e
 
-module _ {table : List ℕ} {t₀ : Term} {X : Events} {row₀ state words row tally : List ℕ} {passes : ℕ}
-    (u : Underway table t₀ X row₀ state words row tally passes) {state′ words′ row′ tally′ : List ℕ} where
+module _ {table : List ℕ} {t₀ : Term} {X : Events} {value : Values} {row₀ state words row tally : List ℕ} {passes : ℕ}
+    (u : Underway table t₀ X value row₀ state words row tally passes) {state′ words′ row′ tally′ : List ℕ} where
   pub marked-ended : (ran : Ran root (u .term) words row tally state′ words′ row′ tally′ TERM) → set state′ 0 3 ≡ stateBytes (ran .to)
   unfolding prog
   marked-ended ran =
@@ -317,19 +332,19 @@ module _ {table : List ℕ} {t₀ : Term} {X : Events} {row₀ state words row t
       omega (arith, size-pos p)
 
 -- the answer of an instant that has ended
-pub run-of : {t s row₀ state words row tally : List ℕ} {X : Events} {passes : ℕ} (b : Startable t s row₀)
-    (u : Underway t (b .term) X row₀ state words row tally passes) {state′ words′ row′ tally′ : List ℕ} {α : Flag}
+pub run-of : {t s row₀ state words row tally : List ℕ} {X : Events} {passes : ℕ} {value : Values} (b : Startable t s row₀)
+    (u : Underway t (b .term) X value row₀ state words row tally passes) {state′ words′ row′ tally′ : List ℕ} {α : Flag}
     (ran : Ran root (u .term) words row tally state′ words′ row′ tally′ α)
     → α ≢ SUSP
     → {s′ : List ℕ} → s′ ≡ stateBytes (ran .to)
     → {events : EventSet} → events .words ≡ words′
     → {waits : W.Wait} → Names waits (u .named)
     → {r : Answer} → Reported events (atoms-done tally′) (ended-by α) (passes + 1) waits r
-    → Run t s X row₀ s′ row′ r
-run-of {t} {s} {row₀ = row₀} {words = words} {tally = tally} {X = X} b u {words′ = words′} {row′ = row′} {tally′ = tally′} {α} ran h {s′} e w n {r} o =
+    → Run t s X value row₀ s′ row′ r
+run-of {t} {s} {row₀ = row₀} {words = words} {tally = tally} {X} {value = value} b u {words′ = words′} {row′} {tally′} {α} ran h {s′} e w n {r} o =
     let all : take (4 * nodes t) s ≡ s = take-all (4 * nodes t) s (omega (arith, b .long)) in
     let none : drop (4 * nodes t) s ≡ [] = drop-of-length-le s {i = 4 * nodes t} (omega (arith, b .long)) in
-    let instant : Instant left-first (b .term) (handed-in X) (r .passes) (answers α (ran .to) (envOf words′ tally′) (all-acts u ran)) =
+    let instant : Instant (left-first value) (b .term) (handed-in X) (r .passes) (answers α (ran .to) (envOf words′ tally′) (all-acts u ran)) =
     rw (o .passes-are) (ends u ran h) in
     let told = reported u ran h instant in
     record {
@@ -357,20 +372,29 @@ next-tallied m l =
     tally-1 declared 0 (length-set m ended-at _ ∙ l) ∙ ap (λ x. set x 1 0) (tally-2 m _ l)
 
 -- the row before the first pass has the words handed in
-pub handed-words : (table words : List ℕ) → length words ≡ event-words → (base : ℕ) {m : List ℕ} → m ≡ firstNumbers words base → wordsOf m ≡ words
-handed-words table words l base e = ap wordsOf e ∙ first-words table words l base
+pub handed-words : (table words : List ℕ) → length words ≡ event-words → (low high base : ℕ) {m : List ℕ}
+    → m ≡ firstNumbers words low high base
+    → wordsOf m ≡ words
+handed-words table words l low high base e = ap wordsOf e ∙ first-words table words l low high base
+
+-- and the values
+pub handed-values : (table words : List ℕ) → length words ≡ event-words → (low high base : ℕ) {m : List ℕ}
+    → m ≡ firstNumbers words low high base
+    → valuesIn (tallyOf m) ≡ wordValues low high
+handed-values table words l low high base e = ap valuesIn (ap tallyOf e ∙ first-tally table words l low high base)
 
 -- before the first pass, by the row
-pub begins-by : {table state row : List ℕ} (words : List ℕ) (b : Startable table state row) → length words ≡ event-words
-    → {m : List ℕ} → m ≡ firstNumbers words (6 * nodes table)
-    → (u : Underway table (b .term) (marks (wordsOf m)) row state (wordsOf m) row (tallyOf m) 0) × Numbers table m × (u .named ≡ none)
+pub begins-by : {table state row : List ℕ} (words : List ℕ) (low high : ℕ) (b : Startable table state row) → length words ≡ event-words
+    → {m : List ℕ} → m ≡ firstNumbers words low high (6 * nodes table)
+    → (u : Underway table (b .term) (marks (wordsOf m)) (valuesIn (tallyOf m)) row state (wordsOf m) row (tallyOf m) 0) × Numbers table m × (u .named ≡ none)
 unfolding begins
-begins-by {table} words b l e =
+begins-by {table} words low high b l e =
     let base = 6 * nodes table in
-    rw (e, first-words table words l base, first-tally table words l base) (begins words b (ap (λ n. 64 * n) l), first-holds table words l, refl)
+    rw (e, first-words table words l low high base, first-tally table words l low high base)
+    (begins words low high b (ap (λ n. 64 * n) l), first-holds table words l low high base refl, refl)
 
-module _ {table : List ℕ} {t₀ : Term} {X : Events} {row₀ state m row : List ℕ} {passes : ℕ}
-    (u : Underway table t₀ X row₀ state (wordsOf m) row (tallyOf m) passes) (n : Numbers table m) where
+module _ {table : List ℕ} {t₀ : Term} {X : Events} {value : Values} {row₀ state m row : List ℕ} {passes : ℕ}
+    (u : Underway table t₀ X value row₀ state (wordsOf m) row (tallyOf m) passes) (n : Numbers table m) where
   -- node 0 can be run: its bytes are all of the state
   whole : Stands all-seen Any (lent table state m row) 0 [] state []
   whole = record {
@@ -418,7 +442,7 @@ module _ {table : List ℕ} {t₀ : Term} {X : Events} {row₀ state m row : Lis
 
     -- neither STOP nor TERM: another pass
     pub goes-by : r ≢ 1 → r ≢ 2
-        → (v : Underway table t₀ X row₀ state′ (wordsOf (nextNumbers m′)) row′ (tallyOf (nextNumbers m′)) (passes + 1))
+        → (v : Underway table t₀ X value row₀ state′ (wordsOf (nextNumbers m′)) row′ (tallyOf (nextNumbers m′)) (passes + 1))
         × ((before after : W.Wait) → Names before (u .named) → WaitsAfter table state′ m′ before after → Names after (v .named))
     unfolding goes ran-by went
     goes-by x y =

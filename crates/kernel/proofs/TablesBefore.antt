@@ -8,7 +8,7 @@ use lib.Dec.{leb}
 use borrow.Author.Tests.{lt-ltb, le-leb, leb-true}
 use Rattle.events.specs.Members.{places}
 use Rattle.junior.specs.Configuration.{Config, Event, Not, And, Or}
-use Rattle.junior.specs.Program.{Program, Argument, no-argument, number, event, configuration, argument}
+use Rattle.junior.specs.Program.{Program, Argument, no-argument, number, event, configuration, value, capped, argument}
 use Rattle.junior.specs.Program.{Parts, no-part, one-part, two-parts, parts}
 use Rattle.table.specs.declared.Checked.the-variants.{Accepted}
 use Rattle.table.specs.Records.{byte, nodes, configurations, events, configurationAt, kindByte, partKind, partEvent, partSize}
@@ -78,6 +78,8 @@ module _ (t : List ℕ) where
   still-argues i (number n) x = x
   still-argues i (event s) x = x
   still-argues i (configuration c) x = still-configured c _ x
+  still-argues i (value v) x = absurd x
+  still-argues i (capped v cap) x = absurd x
 
   still-spells : {p : Program} (v : Parts p) (i : ℕ) → SpellsBefore t i v → SpellsParts t i v
   still-spells {p} (no-part f) i (h, x) = (h, still-argues i (argument p) x)

@@ -11,6 +11,7 @@ use borrow.Author.Tests.{lt-ltb, ltb-true, ltb-false}
 use Rattle.events.specs.Events.{Events, none as no-event, howMany, lowest}
 use Rattle.events.specs.Members.{places, members}
 use Rattle.events.proofs.Events.{howMany-then, before-lowest, at-lowest, lowest-is}
+use Rattle.junior.specs.Values.{Values}
 use Rattle.junior.specs.Program.{Program, kind, size}
 use Rattle.junior.specs.Figures.{stops, figure}
 use Rattle.junior.specs.Waited.{Wait, waited}
@@ -104,9 +105,9 @@ module _ {t : List ℕ} {p : Program} {g a w : ℕ} (b : AcceptedBefore t p g a 
         (ap (λ o. cond (hasRoom t s) (cond (ltb (blamed t s) (nodes t)) (NotAtRest (blamed t s)) o) StateRoom)
         (listed-alike _ (same-lowest (λ e. X e && leb (events t) e) (λ e l. rw (few e l)))))
 
-    module _ {s′ row′ : List ℕ} {r : Answer} (q : Answered t s X row s′ row′ r) where
+    module _ {values : Values} {s′ row′ : List ℕ} {r : Answer} (q : Answered t s X values row s′ row′ r) where
       abbrev Before : Type 0
-      Before = (before : AnswerBefore) × AnsweredBefore p t a s X row s′ row′ before × SameAnswer r before
+      Before = (before : AnswerBefore) × AnsweredBefore p t a s X values row s′ row′ before × SameAnswer r before
 
       ran-before : r .outcome ≡ Ran → Before
       ran-before e =
@@ -243,7 +244,7 @@ thousand-events =
       places-are = refl;
       v-at-most = λ t e. accepted t e .loaded .framed .v-most;
       v-of-all = (refl, refl, refl);
-      none-lowest = λ {t} {s} {X} {row} {s′} {row′} {r} q e. lowest-none q e (ran-or-not (r .outcome));
+      none-lowest = λ {t} {s} {X} {values} {row} {s′} {row′} {r} q e. lowest-none q e (ran-or-not (r .outcome));
       none-refused = λ q n. (q .refused n .0 .lowest-is, q .refused n .0 .waits-event-is);
       none-waited = λ x e. x .waits-event-is ∙ ap eventOf e;
       records = λ t j e h. good-record (accepted t e .loaded) j h;
@@ -251,7 +252,7 @@ thousand-events =
       answers-as-before = λ {s = s} {X = X} {row = row} b few q. as-before b s X row few q;
     }
   where
-    lowest-none : {t s : List ℕ} {X : Events} {row s′ row′ : List ℕ} {r : Answer} → Answered t s X row s′ row′ r
+    lowest-none : {t s : List ℕ} {X : Events} {values : Values} {row s′ row′ : List ℕ} {r : Answer} → Answered t s X values row s′ row′ r
         → members (r .events) ≡ no-event → (r .outcome ≡ Ran) ⊎ (r .outcome ≢ Ran) → r .lowest ≡ 1024
     lowest-none q e (inl ran) =
         let x = q .ran ran in

@@ -5,12 +5,13 @@ use mathlib.Core.Path.{_≡_}
 use mathlib.Core.Logic.{_≢_}
 use mathlib.Core.List.{List, _++_}
 use mathlib.Core.Option.{Option, none, some}
-use lib.ListN.{length, take, drop, replicate}
+use lib.ListN.{length, getD, take, drop, replicate}
 use lib.Dec.{leb, ltb}
 use Rattle.events.specs.Events.{Events, none as no-event, howMany, lowest}
 use Rattle.events.specs.Members.{places, members}
 use Rattle.junior.specs.declared.Flag.{Flag}
 use Rattle.junior.specs.declared.Flag.the-variants.{SUSP, STOP, TERM}
+use Rattle.junior.specs.Values.{Values}
 use Rattle.junior.specs.Configuration.{handed-in}
 use Rattle.junior.specs.Term.{Term, prog}
 use Rattle.junior.specs.Trace.{atoms}
@@ -112,14 +113,18 @@ abbrev pub eventOf : Option Wait → ℕ
 eventOf none = places
 eventOf (some w) = w .event
 
+-- the sixteen values that the box hands in with an instant, one a byte (L14)
+abbrev pub valuesOf : List ℕ → Values
+valuesOf bytes v = cond (ltb v 16) (getD bytes v 0) 0
+
 -- an instant was run: the term that stands in the state's bytes, the instant that the rules give it, and all of it in the answer and the rooms
-pub record Run (t s : List ℕ) (X : Events) (row s′ row′ : List ℕ) (r : Answer) : Type 0 where
+pub record Run (t s : List ℕ) (X : Events) (value : Values) (row s′ row′ : List ℕ) (r : Answer) : Type 0 where
   pub term : Term
   pub program : prog term ≡ treeOf t
   pub bytes : take (4 * nodes t) s ≡ stateBytes term
   pub at-rest : AtRest term
   pub result : Result
-  pub instant : Instant left-first term (handed-in X) (r .passes) result
+  pub instant : Instant (left-first value) term (handed-in X) (r .passes) result
   pub events-are : members (r .events) ≡ result .env .now
   pub count-is : r .count ≡ howMany places (result .env .now)
   pub lowest-is : r .lowest ≡ lowest places (result .env .now)
@@ -143,8 +148,8 @@ pub record Refused (r : Answer) : Type 0 where
   pub waits-event-is : r .waits .event ≡ places
 
 -- the whole of what an instant answers
-pub record Answered (t s : List ℕ) (X : Events) (row s′ row′ : List ℕ) (r : Answer) : Type 0 where
+pub record Answered (t s : List ℕ) (X : Events) (value : Values) (row s′ row′ : List ℕ) (r : Answer) : Type 0 where
   pub outcome-is : r .outcome ≡ instantOutcome t s X row
-  pub ran : r .outcome ≡ Ran → Run t s X row s′ row′ r
+  pub ran : r .outcome ≡ Ran → Run t s X value row s′ row′ r
   -- nothing is written
   pub refused : r .outcome ≢ Ran → Refused r × (s′ ≡ s) × (row′ ≡ row)

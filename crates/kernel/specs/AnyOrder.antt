@@ -6,6 +6,7 @@ use mathlib.Core.List.{List}
 use lib.ListN.{take}
 use Rattle.events.specs.Events.{Events}
 use Rattle.events.specs.Members.{members}
+use Rattle.junior.specs.Values.{Values}
 use Rattle.junior.specs.Configuration.{handed-in}
 use Rattle.junior.specs.Term.{Term}
 use Rattle.junior.specs.Trace.{atoms}
@@ -27,13 +28,13 @@ pub record GivesInAnyOrder (t s′ row′ : List ℕ) (a : Answer) (r : Result) 
   pub end-state : take (4 * nodes t) s′ ≡ stateBytes (r .to)
   pub equally-often : (n : ℕ) → often n (take (a .atoms) row′) ≡ often n (atoms (r .acts))
 
-pub record AnyOrder (t s : List ℕ) (X : Events) (s′ row′ : List ℕ) (a : Answer) : Type 0 where
+pub record AnyOrder (t s : List ℕ) (X : Events) (value : Values) (s′ row′ : List ℕ) (a : Answer) : Type 0 where
   pub ran : a .outcome ≡ Ran
   pub term : Term
   pub stands : TermInState t s term
   -- the choices: each goes on to an end, and they all agree
-  pub order-free : OrderFree term X
+  pub order-free : OrderFree value term X
   -- and what they agree in is the answer
-  pub gives : {n : ℕ} {r : Result} → Instant either-first term (handed-in X) n r → GivesInAnyOrder t s′ row′ a r
+  pub gives : {n : ℕ} {r : Result} → Instant (either-first value) term (handed-in X) n r → GivesInAnyOrder t s′ row′ a r
   -- more than was asked: also in the two fields of L1
-  pub reports : {n : ℕ} {r : Result} (i : Instant either-first term (handed-in X) n r) → Reports a (waited i)
+  pub reports : {n : ℕ} {r : Result} (i : Instant (either-first value) term (handed-in X) n r) → Reports a (waited i)

@@ -19,12 +19,13 @@ use Rattle.kernel.specs.declared.Outcome.{Outcome}
 use Rattle.kernel.specs.declared.Outcome.the-variants.{Ran, Table, StateRoom, NotAtRest, UnlistedEvent}
 use Rattle.kernel.specs.declared.Outcome.the-variants.{AtomRoom}
 use Rattle.kernel.specs.declared.Answer.{Answer}
-use Rattle.kernel.specs.Answer.{outcomeNumber, outcomeIndex, Started, Answered}
+use Rattle.kernel.specs.Answer.{outcomeNumber, outcomeIndex, valuesOf, Started, Answered}
 
--- an instant: the events handed in and the row lent for atoms; its whole answer, with the outcome's number and index; the state room and the row
--- after it
+-- an instant: the events and the bytes of the values handed in, the row lent for atoms; its whole answer, with the outcome's number and index; the
+-- state room and the row after it
 pub record Line : Type 0 where
   pub handed : EventSet
+  pub values : List ℕ
   pub lent : List ℕ
   pub answer : Answer
   pub number : ℕ
@@ -61,8 +62,8 @@ pub record Starts (t s : List ℕ) (o : Outcome) (number index : ℕ) (s′ : Li
 
 -- instant answers exactly this line in the room s: its contract allows this and nothing else (Whole: words of 64 bits for all places, as in a running program)
 pub record Answers (t s : List ℕ) (x : Line) : Type 0 where
-  pub answered : Answered t s (members (x .handed)) (x .lent) (x .state) (x .row) (x .answer)
-  pub only : {q : Answer} {s′ row′ : List ℕ} → Whole (q .events) → Answered t s (members (x .handed)) (x .lent) s′ row′ q
+  pub answered : Answered t s (members (x .handed)) (valuesOf (x .values)) (x .lent) (x .state) (x .row) (x .answer)
+  pub only : {q : Answer} {s′ row′ : List ℕ} → Whole (q .events) → Answered t s (members (x .handed)) (valuesOf (x .values)) (x .lent) s′ row′ q
       → (q ≡ x .answer) × (s′ ≡ x .state) × (row′ ≡ x .row)
   pub number-is : outcomeNumber (x .answer .outcome) ≡ x .number
   pub index-is : outcomeIndex (x .answer .outcome) ≡ x .index
@@ -119,14 +120,36 @@ waiting n e a =
 abbrev pub refusal : Outcome → Answer
 refusal o = record { outcome = o; events = set []; count = 0; lowest = no-event; atoms = 0; finished = false; passes = 0; waits = no-wait }
 
+-- the values that are handed in where a line says nothing of them
+abbrev pub no-values : List ℕ
+no-values = replicate 16 0
+
 -- an instant that ran: the events handed in, the row, the answer, the row after it, the state room after it
 abbrev pub instant-in : List ℕ → List ℕ → Answer → List ℕ → List ℕ → Line
-instant-in X lent a row s = record { handed = set X; lent = lent; answer = a; number = 0; index = 0; state = s; row = row }
+instant-in X lent a row s = record { handed = set X; values = no-values; lent = lent; answer = a; number = 0; index = 0; state = s; row = row }
 
 -- one that was refused: the events handed in, row and room, both as they were; the outcome, its number, its index
 abbrev pub turned-down : EventSet → List ℕ → List ℕ → Outcome → ℕ → ℕ → Line
 turned-down X row s o number index =
-    record { handed = X; lent = row; answer = refusal o; number = number; index = index; state = s; row = row }
+    record { handed = X; values = no-values; lent = row; answer = refusal o; number = number; index = index; state = s; row = row }
+
+-- one value, by its number, and the rest 0
+abbrev pub value-is : ℕ → ℕ → List ℕ
+value-is v n = replicate v 0 ++ (n ∷ replicate (15 - v) 0)
+
+-- the same line with these values handed in
+abbrev pub asking : List ℕ → Line → Line
+asking values x =
+    record {
+      handed = x .handed;
+      values = values;
+      lent = x .lent;
+      answer = x .answer;
+      number = x .number;
+      index = x .index;
+      state = x .state;
+      row = x .row;
+    }
 
 -- what an entry says
 unfoldable pub Shown : Entry → Type 0
@@ -136,7 +159,7 @@ Shown (accepted t g a w l) =
 Shown (refused t c n i) =
     Checks t c n i 0 0 0
     × ((s : List ℕ) → Starts t s (Table c) n i s)
-    × ((s : List ℕ) (X : EventSet) (row : List ℕ) → Answers t s (turned-down X row s (Table c) n i))
+    × ((s : List ℕ) (X : EventSet) (values row : List ℕ) → Answers t s (asking values (turned-down X row s (Table c) n i)))
 Shown (not-started t s o n i) = Starts t s o n i s
 Shown (not-run t l) = Alone t l
 Shown (resumed t s l) = Follow t s l
@@ -189,6 +212,13 @@ control e p = form 11 e p
 
 abbrev pub local : ℕ → List ℕ → List ℕ
 local e p = form 12 e p
+
+-- these two ask for a value by its number
+abbrev pub if-value : ℕ → List ℕ → List ℕ → List ℕ
+if-value v p q = form 14 v (p ++ q)
+
+abbrev pub repeat-ext : ℕ → ℕ → List ℕ → List ℕ
+repeat-ext v cap p = form 15 (16 * cap + v) p
 
 -- configurations likewise: an event, a not, an and, an or
 abbrev pub event : ℕ → List ℕ
@@ -869,10 +899,68 @@ not-at-rest =
     ∷ not-run (table (local 0 stop) [] 1) (blames (phases (1 ∷ 0 ∷ [])) 0 ∷ [])
     ∷ []
 
+-- L14: If and RepeatExt
+abbrev pub row6 : List ℕ
+row6 = 9 ∷ 9 ∷ 9 ∷ 9 ∷ 9 ∷ 9 ∷ []
+
+abbrev pub asking-the-box : List Entry
+asking-the-box =
+    -- If(3, Atom 1, Atom 2): nonzero means the first branch
+    accepted (table (if-value 3 (atom 1) (atom 2)) [] 1) 0 1 2
+    (instant [] (ran [] 0 no-event 1 true 1) (2 ∷ 9 ∷ 9 ∷ 9 ∷ []) (room (3 ∷ 0 ∷ 0 ∷ [])) ∷ [])
+    ∷ accepted (table (if-value 3 (atom 1) (atom 2)) [] 1) 0 1 2
+    (asking (value-is 3 255) (instant [] (ran [] 0 no-event 1 true 1) (1 ∷ 9 ∷ 9 ∷ 9 ∷ []) (room (3 ∷ 0 ∷ 0 ∷ []))) ∷ [])
+    -- If(0, Stop, Atom 1): chosen when reached, and the second instant's value changes nothing
+    ∷ accepted (table (if-value 0 stop (atom 1)) [] 1) 0 1 2
+    (asking (value-is 0 1) (instant [] (ran [] 0 no-event 0 false 1) row9 (room (1 ∷ 3 ∷ 0 ∷ [])))
+    ∷ instant [] (ran [] 0 no-event 0 true 1) row9 (room (3 ∷ 0 ∷ 0 ∷ []))
+    ∷ [])
+    -- RepeatExt(2, 5, Atom 7): the lesser of cap and value; the figure uses the cap
+    ∷ accepted (table (repeat-ext 2 5 (atom 7)) [] 1) 0 5 6
+    (asking (value-is 2 3) (instant-in [] row6 (ran [] 0 no-event 3 true 1) (7 ∷ 7 ∷ 7 ∷ 9 ∷ 9 ∷ 9 ∷ []) (room (3 ∷ 0 ∷ []))) ∷ [])
+    ∷ accepted (table (repeat-ext 2 5 (atom 7)) [] 1) 0 5 6
+    (asking (value-is 2 9) (instant-in [] row6 (ran [] 0 no-event 5 true 1) (7 ∷ 7 ∷ 7 ∷ 7 ∷ 7 ∷ 9 ∷ []) (room (3 ∷ 0 ∷ []))) ∷ [])
+    ∷ accepted (table (repeat-ext 2 5 (atom 7)) [] 1) 0 5 6 (instant-in [] row6 (ran [] 0 no-event 0 true 1) row6 (room (3 ∷ 0 ∷ [])) ∷ [])
+    -- RepeatExt(0, 4, Seq(Stop, Atom 1)): the value is read once, when it begins; the body stops, so the figure takes 2 of the cap's 4
+    ∷ accepted (table (repeat-ext 0 4 (seq stop (atom 1))) [] 1) 0 2 7
+    (asking (value-is 0 2) (instant [] (ran [] 0 no-event 0 false 1) row9 (own 1 0 1 ++ room (0 ∷ 3 ∷ 0 ∷ [])))
+    ∷ asking (value-is 0 200) (instant [] (ran [] 0 no-event 1 false 1) (1 ∷ 9 ∷ 9 ∷ 9 ∷ []) (room (1 ∷ 0 ∷ 3 ∷ 0 ∷ [])))
+    ∷ asking (value-is 0 200) (instant [] (ran [] 0 no-event 1 true 1) (1 ∷ 9 ∷ 9 ∷ 9 ∷ []) (room (3 ∷ 0 ∷ 0 ∷ 0 ∷ [])))
+    ∷ [])
+    -- in a Loop: a value of 0 ends a RepeatExt at once; an If stops if both branches do
+    ∷ refused (table (loop (repeat-ext 0 1 stop)) [] 1) (EndlessLoop 0) 7 0
+    ∷ accepted (table (loop (if-value 0 stop stop)) [] 1) 0 0 5 []
+    ∷ refused (table (loop (if-value 0 stop nothing)) [] 1) (EndlessLoop 0) 7 0
+    -- sixteen values, 0 to 15; caps up to 255
+    ∷ refused (table (if-value 16 stop stop) [] 1) (BadNode 0) 5 0
+    ∷ refused (table (repeat-ext 0 256 stop) [] 1) (BadNode 0) 5 0
+    ∷ accepted (table (repeat-ext 15 255 stop) [] 1) 0 0 3 []
+    -- RepeatExt(0, 2, Stop): its count is below the cap
+    ∷ not-run (table (repeat-ext 0 2 stop) [] 1) (blames (own 1 0 2 ++ phases (0 ∷ [])) 0 ∷ [])
+    ∷ accepted (table (repeat-ext 0 2 stop) [] 1) 0 0 3
+    (asking (value-is 0 2) (instant [] (ran [] 0 no-event 0 false 1) row9 (own 1 0 1 ++ room (3 ∷ [])))
+    ∷ instant [] (ran [] 0 no-event 0 false 1) row9 (room (1 ∷ 3 ∷ []))
+    ∷ [])
+    -- RepeatExt(0, 0, Stop): never begun
+    ∷ accepted (table (repeat-ext 0 0 stop) [] 1) 0 0 1 []
+    ∷ not-run (table (repeat-ext 0 0 stop) [] 1) (blames (phases (1 ∷ 0 ∷ [])) 0 ∷ [])
+    -- If(0, Repeat(3, Atom 1), Atom 2): as When, the larger branch
+    ∷ accepted (table (if-value 0 (repeat 3 (atom 1)) (atom 2)) [] 1) 0 3 5 []
+    -- RepeatExt(0, 3, If(1, Stop, Atom 4)): each round's If is a new one and asks anew; the round begun before keeps its choice
+    ∷ accepted (table (repeat-ext 0 3 (if-value 1 stop (atom 4))) [] 1) 0 3 7
+    (asking (value-is 0 3) (instant [] (ran [] 0 no-event 3 true 1) (4 ∷ 4 ∷ 4 ∷ 9 ∷ []) (room (3 ∷ 0 ∷ 0 ∷ 0 ∷ []))) ∷ [])
+    ∷ accepted (table (repeat-ext 0 3 (if-value 1 stop (atom 4))) [] 1) 0 3 7
+    (asking (3 ∷ 1 ∷ replicate 14 0) (instant [] (ran [] 0 no-event 0 false 1) row9 (own 1 0 2 ++ room (1 ∷ 3 ∷ 0 ∷ [])))
+    ∷ instant [] (ran [] 0 no-event 2 true 1) (4 ∷ 4 ∷ 9 ∷ 9 ∷ []) (room (3 ∷ 0 ∷ 0 ∷ 0 ∷ []))
+    ∷ [])
+    ∷ []
+
 abbrev pub bench-list : List Entry
 bench-list =
     K1-to-K12
     ++ (more-of-the-forms
     ++ (loops
     ++ (resumed-rooms
-    ++ (tests ++ (figures ++ (harmless-loops ++ (waiting-tests ++ (many-events ++ (refused-tables ++ (refused-rooms ++ not-at-rest))))))))))
+    ++ (tests
+    ++ (figures
+    ++ (harmless-loops ++ (waiting-tests ++ (many-events ++ (asking-the-box ++ (refused-tables ++ (refused-rooms ++ not-at-rest)))))))))))

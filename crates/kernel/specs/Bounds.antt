@@ -3,6 +3,7 @@ use Prim.Native.Nat.{ℕ, _+_, _*_, _≤_}
 use mathlib.Core.List.{List}
 use lib.ListN.{length}
 use Rattle.events.specs.Events.{Events}
+use Rattle.junior.specs.Values.{Values}
 use Rattle.junior.specs.Trace.{atoms, generations}
 use Rattle.junior.specs.Figures.{every}
 use Rattle.junior.specs.Visits.{visits-by-pass, EachAtMost, sum}
@@ -10,7 +11,8 @@ use Rattle.kernel.specs.declared.Answer.{Answer}
 use Rattle.kernel.specs.Demand2.{Premises}
 use Rattle.kernel.specs.Demand3.{Demand3}
 
-pub record Bounds {t s : List ℕ} {X : Events} {row s′ : List ℕ} {a : Answer} {p : Premises t s X row} (d : Demand3 p s′ a) : Type 0 where
+pub record Bounds {t s : List ℕ} {X : Events} {row s′ : List ℕ} {a : Answer} {p : Premises t s X row} {value : Values}
+    (d : Demand3 p value s′ a) : Type 0 where
   -- the instant generates at most G events and does at most A atoms
   pub few-generations : length (generations (d .result .acts)) ≤ p .generations
   pub few-atoms : length (atoms (d .result .acts)) ≤ p .most-atoms

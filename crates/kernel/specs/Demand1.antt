@@ -9,6 +9,7 @@ use mathlib.Core.List.{List, [], _∷_, _++_}
 use lib.ListN.{length}
 use Rattle.events.specs.Events.{Events, none}
 use Rattle.events.specs.Members.{places}
+use Rattle.junior.specs.Values.{Values}
 use Rattle.junior.specs.Program.{Program, Loop, size}
 use Rattle.junior.specs.Figures.{stops, G, A, W}
 use Rattle.table.specs.declared.Checked.{Checked}
@@ -149,15 +150,15 @@ pub record Demand1 : Type 0 where
       → ByFirstCheck checks-of-table (handed t [] none []) (numberOf r) (indexOf r)
   pub started : {t s s′ : List ℕ} {r : Outcome} → Started t s s′ r
       → ByFirstCheck checks-of-start (handed t s none []) (outcomeNumber r) (outcomeIndex r)
-  pub answered : {t s : List ℕ} {X : Events} {row s′ row′ : List ℕ} {r : Answer} → Answered t s X row s′ row′ r
+  pub answered : {t s : List ℕ} {X : Events} {value : Values} {row s′ row′ : List ℕ} {r : Answer} → Answered t s X value row s′ row′ r
       → ByFirstCheck checks-of-instant (handed t s X row) (outcomeNumber (r .outcome)) (outcomeIndex (r .outcome))
   -- "and then nothing lent has been written"
   pub start-writes-nothing : {t s s′ : List ℕ} {r : Outcome} → Started t s s′ r → outcomeNumber r ≢ 0 → s′ ≡ s
-  pub instant-writes-nothing : {t s : List ℕ} {X : Events} {row s′ row′ : List ℕ} {r : Answer} → Answered t s X row s′ row′ r
+  pub instant-writes-nothing : {t s : List ℕ} {X : Events} {value : Values} {row s′ row′ : List ℕ} {r : Answer} → Answered t s X value row s′ row′ r
       → outcomeNumber (r .outcome) ≢ 0
       → (s′ ≡ s) × (row′ ≡ row)
   -- "No table is run in part"
   pub starts-whole : {t s s′ : List ℕ} {r : Outcome} → Started t s s′ r → outcomeNumber r ≡ 0 → WholeTable t
-  pub runs-whole : {t s : List ℕ} {X : Events} {row s′ row′ : List ℕ} {r : Answer} → Answered t s X row s′ row′ r
+  pub runs-whole : {t s : List ℕ} {X : Events} {value : Values} {row s′ row′ : List ℕ} {r : Answer} → Answered t s X value row s′ row′ r
       → outcomeNumber (r .outcome) ≡ 0
       → WholeTable t

@@ -10,12 +10,13 @@ use lib.ListN.{length, take, drop}
 use Rattle.events.specs.Events.{Events, howMany, lowest}
 use Rattle.events.specs.Members.{places, members}
 use Rattle.junior.specs.declared.Flag.{Flag}
+use Rattle.junior.specs.Values.{Values}
 use Rattle.junior.specs.Configuration.{Env, handed-in}
 use Rattle.junior.specs.Term.{Term, prog}
 use Rattle.junior.specs.Trace.{atoms}
 use Rattle.junior.specs.Rules.{left-first, Result}
 use Rattle.junior.specs.Instant.{Instant}
-use Rattle.junior.specs.Printed.{Abstract, reads, Deed, actions, _∣_—[_doing_]—_passes→_∣_}
+use Rattle.junior.specs.Printed.{Abstract, reads, Deed, actions, _⊢_∣_—[_doing_]—_passes→_∣_}
 use Rattle.junior.specs.AtRest.{AtRest}
 use Rattle.junior.specs.Waited.{Wait, waited}
 use Rattle.table.specs.declared.Checked.the-variants.{Accepted}
@@ -86,19 +87,19 @@ pub record GivesPrinted (t s′ row′ : List ℕ) (a : Answer) (n : ℕ) (α : 
   pub next-stands : TermInState t s′ next
   pub next-reads : reads next ≡ u
 
-pub record Demand2 (t s : List ℕ) (X : Events) (row s′ row′ : List ℕ) (a : Answer) : Type 0 where
+pub record Demand2 (t s : List ℕ) (X : Events) (value : Values) (row s′ row′ : List ℕ) (a : Answer) : Type 0 where
   -- "one instant": it isn't refused
   pub ran : a .outcome ≡ Ran
   pub term : Term
   pub stands : TermInState t s term
   -- "that Junior's rewriting rules give .. left branch first": by rules without rule 9
-  pub there : (n : ℕ) × (r : Result) × Instant left-first term (handed-in X) n r
-  pub gives : {n : ℕ} {r : Result} → Instant left-first term (handed-in X) n r → Gives t s row s′ row′ a n r
-  pub reports : {n : ℕ} {r : Result} (i : Instant left-first term (handed-in X) n r) → Reports a (waited i)
+  pub there : (n : ℕ) × (r : Result) × Instant (left-first value) term (handed-in X) n r
+  pub gives : {n : ℕ} {r : Result} → Instant (left-first value) term (handed-in X) n r → Gives t s row s′ row′ a n r
+  pub reports : {n : ℕ} {r : Result} (i : Instant (left-first value) term (handed-in X) n r) → Reports a (waited i)
   -- "Junior's rewriting rules .. read as the requirements settle them": by the rules as 000 prints them, too, there is an instant, and every
   -- instant gives this
   pub printed-there : (n : ℕ) × (α : Flag) × (l : List Deed) × (u : Abstract) × (E : Env)
-      × (reads term ∣ handed-in X —[ α doing l ]— n passes→ u ∣ E)
+      × (value ⊢ reads term ∣ handed-in X —[ α doing l ]— n passes→ u ∣ E)
   pub printed-gives : {n : ℕ} {α : Flag} {l : List Deed} {u : Abstract} {E : Env}
-      → reads term ∣ handed-in X —[ α doing l ]— n passes→ u ∣ E
+      → value ⊢ reads term ∣ handed-in X —[ α doing l ]— n passes→ u ∣ E
       → GivesPrinted t s′ row′ a n α l u E

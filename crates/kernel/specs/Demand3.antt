@@ -6,6 +6,7 @@ use mathlib.Core.Path.{_≡_}
 use mathlib.Core.List.{List}
 use Rattle.events.specs.Events.{Events}
 use Rattle.events.specs.Members.{members}
+use Rattle.junior.specs.Values.{Values}
 use Rattle.junior.specs.Configuration.{handed-in}
 use Rattle.junior.specs.Term.{Term}
 use Rattle.junior.specs.Rules.{left-first, Result}
@@ -18,13 +19,13 @@ use Rattle.kernel.specs.declared.Outcome.the-variants.{Ran}
 use Rattle.kernel.specs.declared.Answer.{Answer}
 use Rattle.kernel.specs.Demand2.{Premises, TermInState}
 
-pub record Demand3 {t s : List ℕ} {X : Events} {row : List ℕ} (p : Premises t s X row) (s′ : List ℕ) (a : Answer) : Type 0 where
+pub record Demand3 {t s : List ℕ} {X : Events} {row : List ℕ} (p : Premises t s X row) (value : Values) (s′ : List ℕ) (a : Answer) : Type 0 where
   -- "an instant always ends": not by a limit, but by the rules; `instant` is the one that was run
   pub ran : a .outcome ≡ Ran
   pub term : Term
   pub stands : TermInState t s term
   pub result : Result
-  pub instant : Instant left-first term (handed-in X) (a .passes) result
+  pub instant : Instant (left-first value) term (handed-in X) (a .passes) result
   pub event-set : members (a .events) ≡ result .env .now
   -- "within two passes more than the event generations worked out at loading"
   pub soon : a .passes ≤ p .generations + 2

@@ -8,7 +8,7 @@ use Rattle.table.specs.declared.Checked.{Checked}
 use Rattle.table.specs.Verdict.{numberOf, indexOf, figuresOf}
 use Rattle.kernel.specs.declared.Outcome.{Outcome}
 use Rattle.kernel.specs.declared.Answer.{Answer}
-use Rattle.kernel.specs.Answer.{outcomeNumber, outcomeIndex, Started, Answered}
+use Rattle.kernel.specs.Answer.{outcomeNumber, outcomeIndex, valuesOf, Started, Answered}
 
 -- number, index, G, A, W
 abbrev pub checkPlaces : Checked → List ℕ
@@ -33,8 +33,8 @@ pub record StartedInPlaces (t s s′ into : List ℕ) : Type 0 where
   pub started : Started t s s′ outcome
   pub written : into ≡ startPlaces outcome
 
--- `words` are those of the events handed in
-pub record AnsweredInPlaces (t s words row s′ row′ into : List ℕ) : Type 0 where
+-- `words` are those of the events handed in, `values` the bytes of the sixteen values
+pub record AnsweredInPlaces (t s words values row s′ row′ into : List ℕ) : Type 0 where
   pub answer : Answer
-  pub answered : Answered t s (marks words) row s′ row′ answer
+  pub answered : Answered t s (marks words) (valuesOf values) row s′ row′ answer
   pub written : into ≡ instantPlaces answer

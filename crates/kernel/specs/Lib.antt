@@ -8,5 +8,6 @@ pub mod AnyOrder
 pub mod Bounds
 pub mod TablesBefore
 pub mod ThousandEvents
+pub mod AskTheBox
 pub mod Bench
 pub mod Exports

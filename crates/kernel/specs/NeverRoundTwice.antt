@@ -2,6 +2,7 @@
 use Prim.Native.Nat.{ℕ}
 use mathlib.Core.List.{List}
 use Rattle.events.specs.Events.{Events}
+use Rattle.junior.specs.Values.{Values}
 use Rattle.junior.specs.Configuration.{handed-in}
 use Rattle.junior.specs.Term.{Term}
 use Rattle.junior.specs.Rules.{left-first, without-13, Result}
@@ -9,9 +10,9 @@ use Rattle.junior.specs.Instant.{Instant}
 use Rattle.kernel.specs.declared.Answer.{Answer}
 use Rattle.kernel.specs.Demand2.{TermInState, Gives}
 
-pub record NeverRoundTwice (t s : List ℕ) (X : Events) (row s′ row′ : List ℕ) (a : Answer) : Type 0 where
+pub record NeverRoundTwice (t s : List ℕ) (X : Events) (value : Values) (row s′ row′ : List ℕ) (a : Answer) : Type 0 where
   pub term : Term
   pub stands : TermInState t s term
   pub result : Result
-  pub instant : Instant (without-13 left-first) term (handed-in X) (a .passes) result
+  pub instant : Instant (without-13 (left-first value)) term (handed-in X) (a .passes) result
   pub gives : Gives t s row s′ row′ a (a .passes) result

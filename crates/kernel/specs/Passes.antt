@@ -1,14 +1,15 @@
 -- What the functions of src/passes.rt promise. Private contracts alone cite this file; no public one does.
-use Prim.Native.Nat.{ℕ, _*_, _≤_}
+use Prim.Native.Nat.{ℕ, _+_, _*_, _/_, _%_, _^_, _≤_, _<_}
 use mathlib.Core.Bool.{Bool}
 use mathlib.Core.Path.{_≡_}
-use mathlib.Core.List.{List}
+use mathlib.Core.List.{List, [], _∷_}
 use mathlib.Core.Logic.{_≢_}
 use lib.ListN.{length, getD}
 use denote.Ref.{RefT}
 use Rattle.events.specs.declared.EventSet.{EventSet}
 use Rattle.events.specs.Events.{Events, howMany, lowest}
 use Rattle.events.specs.Members.{places, marks, members}
+use Rattle.junior.specs.Values.{Values}
 use Rattle.junior.specs.Term.{Term, prog}
 use Rattle.junior.specs.Figures.{LoopsStop, G, A}
 use Rattle.junior.specs.AtRest.{AtRest}
@@ -16,12 +17,21 @@ use Rattle.table.specs.Records.{nodes}
 use Rattle.table.specs.Spells.{treeOf}
 use Rattle.table.specs.Inside.{Placed}
 use Rattle.state.specs.StateBytes.{stateBytes}
+use Rattle.steps.specs.Running.{valuesIn}
 use Rattle.steps.specs.Numbers.{moved-at, places-of-row, wordsOf}
 use Rattle.waiting.specs.declared.Wait.{Wait}
 use Rattle.waiting.specs.Down.{SomeLeads, LeadsTo}
 use Rattle.kernel.specs.declared.Outcome.the-variants.{Ran}
 use Rattle.kernel.specs.declared.Answer.{Answer}
 use Rattle.kernel.specs.Answer.{Run}
+
+-- the values that stand in two words, eight in each, the first in the lowest byte
+abbrev pub wordValues : ℕ → ℕ → Values
+wordValues low high = valuesIn (0 ∷ 0 ∷ 0 ∷ low ∷ high ∷ [])
+
+-- a word holds the eight bytes from a place on, the first the lowest
+abbrev pub Eight : List ℕ → ℕ → ℕ → Type 0
+Eight bytes from word = (k : ℕ) → k < 8 → word / 2 ^ (8 * k) % 256 ≡ getD bytes (from + k) 0
 
 -- past all refusals: a term at rest stands in the state, which is just as long, and the row has room for its atoms
 pub record Startable (t s row : List ℕ) : Type 0 where
@@ -37,9 +47,9 @@ pub record Startable (t s row : List ℕ) : Type 0 where
 
 -- an instant was run behind two references to slices, of the state and of the row: from what they held, s and w, to what they hold, s′ and w′.
 -- These are the slices that were lent, and no others: they have the same names.
-pub record RanBehind (t : List ℕ) (s : RefT (List ℕ)) (X : Events) (w s′ w′ : RefT (List ℕ)) (r : Answer) : Type 0 where
+pub record RanBehind (t : List ℕ) (s : RefT (List ℕ)) (X : Events) (value : Values) (w s′ w′ : RefT (List ℕ)) (r : Answer) : Type 0 where
   pub outcome-is : r .outcome ≡ Ran
-  pub run : Run t (s .now) X (w .now) (s′ .now) (w′ .now) r
+  pub run : Run t (s .now) X value (w .now) (s′ .now) (w′ .now) r
   pub same-state : s′ .name ≡ s .name
   pub same-row : w′ .name ≡ w .name
 

@@ -11,8 +11,9 @@ use lib.Dec.{eqb, leb, ltb}
 use lib.ListN.{length, take, drop}
 use Rattle.events.specs.Events.{Events, none as no-event, howMany, lowest}
 use Rattle.junior.specs.Configuration.{Config, Event, Not, And, Or, handed-in}
-use Rattle.junior.specs.Program.{Program, Argument, no-argument, number, event, configuration, argument}
+use Rattle.junior.specs.Program.{Program, Argument, no-argument, number, event, configuration, value, capped, argument}
 use Rattle.junior.specs.Program.{Parts, no-part, one-part, two-parts, parts}
+use Rattle.junior.specs.Values.{Values}
 use Rattle.junior.specs.Term.{Term, prog}
 use Rattle.junior.specs.Trace.{atoms}
 use Rattle.junior.specs.Rules.{left-first, Result}
@@ -65,12 +66,14 @@ ConfiguredBefore t c (Or d e) =
     × ConfiguredBefore t (firstPart c) d
     × ConfiguredBefore t (secondPart t c) e
 
--- the program at node i was p
+-- the program at node i was p; none asked for a value of the box (L14)
 abbrev pub ArguesBefore : List ℕ → ℕ → Argument → Type 0
 ArguesBefore t i no-argument = Unit {0}
 ArguesBefore t i (number n) = argumentAt t i ≡ n
 ArguesBefore t i (event s) = argumentAt t i ≡ s
 ArguesBefore t i (configuration c) = ConfiguredBefore t (tested t i) c
+ArguesBefore t i (value v) = ⊥
+ArguesBefore t i (capped v cap) = ⊥
 
 abbrev pub SpellsBefore : {p : Program} → List ℕ → ℕ → Parts p → Type 0
 SpellsBefore {p} t i (no-part f) = Heads t i p × ArguesBefore t i (argument p)
@@ -124,14 +127,15 @@ abbrev pub eventBefore : Option Wait → ℕ
 eventBefore none = places-before
 eventBefore (some w) = w .event
 
--- an instant was run: the term that stood in the state's bytes, the instant that the rules gave it, and all of it in the answer and the rooms
-pub record RunBefore (p : Program) (t s : List ℕ) (X : Events) (row s′ row′ : List ℕ) (r : AnswerBefore) : Type 0 where
+-- an instant was run: the term that stood in the state's bytes, the instant that the rules gave it, whatever the values that it didn't ask for,
+-- and all of it in the answer and the rooms
+pub record RunBefore (p : Program) (t s : List ℕ) (X : Events) (values : Values) (row s′ row′ : List ℕ) (r : AnswerBefore) : Type 0 where
   pub term : Term
   pub program : prog term ≡ p
   pub bytes : take (4 * nodes t) s ≡ stateBytes term
   pub at-rest : AtRest term
   pub result : Result
-  pub instant : Instant left-first term (handed-in X) (r .passes) result
+  pub instant : Instant (left-first values) term (handed-in X) (r .passes) result
   pub events-are : r .events ≡ result .env .now
   pub count-is : r .count ≡ howMany places-before (result .env .now)
   pub lowest-is : r .lowest ≡ lowest places-before (result .env .now)
@@ -153,7 +157,8 @@ pub record RefusedBefore (r : AnswerBefore) : Type 0 where
   pub event-is : r .event ≡ places-before
 
 -- the whole of what an instant answered, of a table accepted with the tree p and A atoms at most
-pub record AnsweredBefore (p : Program) (t : List ℕ) (a : ℕ) (s : List ℕ) (X : Events) (row s′ row′ : List ℕ) (r : AnswerBefore) : Type 0 where
+pub record AnsweredBefore (p : Program) (t : List ℕ) (a : ℕ) (s : List ℕ) (X : Events) (values : Values) (row s′ row′ : List ℕ) (r : AnswerBefore)
+    : Type 0 where
   pub outcome-is : r .outcome ≡ outcomeBefore t a s X row
-  pub ran : r .outcome ≡ Ran → RunBefore p t s X row s′ row′ r
+  pub ran : r .outcome ≡ Ran → RunBefore p t s X values row s′ row′ r
   pub refused : r .outcome ≢ Ran → RefusedBefore r × (s′ ≡ s) × (row′ ≡ row)

@@ -7,6 +7,7 @@ use mathlib.Core.Option.{none}
 use Rattle.events.specs.Events.{Events, none as no-event}
 use Rattle.events.specs.Members.{places, members}
 use Rattle.junior.specs.Configuration.{Event}
+use Rattle.junior.specs.Values.{Values}
 use Rattle.junior.specs.Program.{Program, Await}
 use Rattle.junior.specs.Waited.{waited}
 use Rattle.table.specs.declared.Checked.the-variants.{Accepted}
@@ -58,16 +59,16 @@ pub record ThousandEvents : Type 0 where
   pub v-at-most : (t : List ℕ) → numberOf (verdictOf t) ≡ 0 → events t ≤ 1024
   pub v-of-all : (events await-1023 ≡ 1024) × (verdictOf await-1023 ≡ Accepted 0 0 1) × (treeOf await-1023 ≡ Await (Event 1023))
   -- "and 'none' becomes 1,024."
-  pub none-lowest : {t s : List ℕ} {X : Events} {row s′ row′ : List ℕ} {r : Answer}
-      → Answered t s X row s′ row′ r
+  pub none-lowest : {t s : List ℕ} {X : Events} {values : Values} {row s′ row′ : List ℕ} {r : Answer}
+      → Answered t s X values row s′ row′ r
       → members (r .events) ≡ no-event
       → r .lowest ≡ 1024
-  pub none-refused : {t s : List ℕ} {X : Events} {row s′ row′ : List ℕ} {r : Answer}
-      → Answered t s X row s′ row′ r
+  pub none-refused : {t s : List ℕ} {X : Events} {values : Values} {row s′ row′ : List ℕ} {r : Answer}
+      → Answered t s X values row s′ row′ r
       → r .outcome ≢ Ran
       → (r .lowest ≡ 1024) × (r .waits .event ≡ 1024)
-  pub none-waited : {t s : List ℕ} {X : Events} {row s′ row′ : List ℕ} {r : Answer}
-      → (x : Run t s X row s′ row′ r)
+  pub none-waited : {t s : List ℕ} {X : Events} {values : Values} {row s′ row′ : List ℕ} {r : Answer}
+      → (x : Run t s X values row s′ row′ r)
       → waited (x .instant) ≡ none
       → r .waits .event ≡ 1024
   -- "In a configuration record the kind byte of an event may be 0, 16, 32 or 48, adding 0, 256, 512 or 768 to the event number."
@@ -79,8 +80,9 @@ pub record ThousandEvents : Type 0 where
   pub read-as-before : (t : List ℕ) {p : Program} {g a w : ℕ}
       → AcceptedBefore t p g a w
       → (verdictOf t ≡ Accepted g a w) × (treeOf t ≡ p)
-  pub answers-as-before : {t : List ℕ} {p : Program} {g a w : ℕ} {s : List ℕ} {X : Events} {row s′ row′ : List ℕ} {now : Answer}
+  pub answers-as-before : {t : List ℕ} {p : Program} {g a w : ℕ} {s : List ℕ} {X : Events} {values : Values}
+      {row s′ row′ : List ℕ} {now : Answer}
       → AcceptedBefore t p g a w
       → HandedBefore X
-      → Answered t s X row s′ row′ now
-      → (before : AnswerBefore) × AnsweredBefore p t a s X row s′ row′ before × SameAnswer now before
+      → Answered t s X values row s′ row′ now
+      → (before : AnswerBefore) × AnsweredBefore p t a s X values row s′ row′ before × SameAnswer now before

@@ -58,14 +58,15 @@ pub extern "C" fn zapper_instant(
     table: &[u8],
     state: &mut [u8],
     handed_in: &[u64; WORDS],
+    values: &[u8; 16],
     atoms: &mut [u16],
     answer: &mut [u64; INSTANT_PLACES],
 )
-    ensures { λ _. ⌜ AnsweredInPlaces (now (table .entry)) (now (state .entry)) (now («handed_in» .entry)) (now (atoms .entry))
-        (now (state .exit)) (now (atoms .exit)) (now (answer .exit)) ⌝ }
+    ensures { λ _. ⌜ AnsweredInPlaces (now (table .entry)) (now (state .entry)) (now («handed_in» .entry)) (now (values .entry))
+        (now (atoms .entry)) (now (state .exit)) (now (atoms .exit)) (now (answer .exit)) ⌝ }
 {
     let words = *handed_in;
-    let a = instant(table, state, EventSet { words }, atoms);
+    let a = instant(table, state, EventSet { words }, values, atoms);
     let outcome = a.outcome;
     let refusal = refusal_of(outcome);
     let leading = [

@@ -1,12 +1,14 @@
-// The kernel: check, start and run one instant. Each call takes its table, state, events and rooms as they come.
+// The kernel: check, start and run one instant. Each call takes its table, state, events, values and rooms as they come.
 
 ghost use mathlib.Core.Path.{_≡_};
 ghost use mathlib.Core.Bool.{_&&_};
 ghost use lib.Dec.{leb};
 ghost use Rattle.events.specs.Events.{lowest};
 ghost use Rattle.events.specs.Members.{places, members};
-ghost use Rattle.kernel.specs.Answer.{Started, instantOutcome, Answered, Refused};
+ghost use Rattle.kernel.specs.Answer.{Started, instantOutcome, valuesOf, Answered, Refused};
+use crate::passes::HandedIn;
 use crate::passes::run_passes;
+use crate::values::eight_from;
 use events::EventSet;
 use events::WORDS;
 use state::clear;
@@ -20,6 +22,7 @@ use waiting::no_wait;
 pub mod exports;
 pub mod numbers;
 mod passes;
+mod values;
 
 // How a call ended; specs/Answer.antt has each case's number and index (01, "Refusal numbers").
 pub enum Outcome {
@@ -71,15 +74,28 @@ pub fn start(table: &[u8], state: &mut [u8]) -> Outcome
     }
 }
 
-// Runs one instant with these events handed in: refusals 1 to 12. The numbers of the atoms done go into the row `atoms`, in order.
-pub fn instant(table: &[u8], state: &mut [u8], events: EventSet, atoms: &mut [u16]) -> Answer
-    ensures { λ r. ⌜ Answered (now (table .entry)) (now (state .entry)) (members events) (now (atoms .entry)) (now (state .exit)) (now (atoms .exit)) r ⌝ }
+// Runs one instant with these events and values handed in: refusals 1 to 12. The numbers of the atoms done go into the row `atoms`, in order.
+pub fn instant(
+    table: &[u8],
+    state: &mut [u8],
+    events: EventSet,
+    values: &[u8; 16],
+    atoms: &mut [u16],
+) -> Answer
+    ensures { λ r.
+        ⌜ Answered (now (table .entry)) (now (state .entry)) (members events) (valuesOf (now (values .entry))) (now (atoms .entry))
+        (now (state .exit)) (now (atoms .exit)) r ⌝ }
 {
     let outcome = outcome_of(table, state, events, atoms);
     match outcome {
         Outcome::Ran => {
             let n = word_at(table, table.len() - 10);
-            run_passes(table, &mut state[..4 * n], events, atoms)
+            let handed = HandedIn {
+                events,
+                low: eight_from(values, 0),
+                high: eight_from(values, 8),
+            };
+            run_passes(table, &mut state[..4 * n], handed, atoms)
         }
         _ => refused(outcome),
     }

@@ -3,7 +3,7 @@ ghost use mathlib.Core.Path.{_≡_};
 ghost use Rattle.events.specs.Members.{members};
 ghost use Rattle.kernel.specs.declared.Outcome.the-variants.{Ran};
 ghost use Rattle.kernel.specs.Answer.{Run};
-ghost use Rattle.kernel.specs.Passes.{Startable, RanBehind, Reported, LeadsIfStill, WaitsAfter};
+ghost use Rattle.kernel.specs.Passes.{wordValues, Startable, RanBehind, Reported, LeadsIfStill, WaitsAfter};
 use crate::Answer;
 use crate::Outcome;
 use events::EventSet;
@@ -22,25 +22,35 @@ use waiting::Wait;
 use waiting::no_wait;
 use waiting::waiting;
 
+// What the box hands in with an instant: the events, and the sixteen values in two words, the first in the lowest byte of `low`.
+pub struct HandedIn {
+    pub events: EventSet,
+    pub low: u64,
+    pub high: u64,
+}
+
 // Passes from node 0 until one answers STOP or TERM (01, "Instant"). All that stands here is walked by hand: the slices are handed on as
 // references of one register each, which no slice that is a parameter can be lent as otherwise.
-pub fn run_passes(table: &[u8], state: &mut [u8], events: EventSet, atoms: &mut [u16]) -> Answer
+pub fn run_passes(table: &[u8], state: &mut [u8], handed: HandedIn, atoms: &mut [u16]) -> Answer
     requires { ⌜ Startable (now table) (now state) (now atoms) ⌝ }
     ensures { λ r. ⌜ (r .outcome ≡ Ran)
-        × Run (now (table .entry)) (now (state .entry)) (members events) (now (atoms .entry)) (now (state .exit)) (now (atoms .exit)) r ⌝ }
+        × Run (now (table .entry)) (now (state .entry)) (members (handed .events)) (wordValues (handed .low) (handed .high)) (now (atoms .entry))
+        (now (state .exit)) (now (atoms .exit)) r ⌝ }
 {
     let mut s = state;
     let mut w = atoms;
-    run_from(table, &mut s, events, &mut w)
+    run_from(table, &mut s, handed, &mut w)
 }
 
 // The passes themselves. The slices left behind the two references have the names of those lent: they are no others.
-fn run_from(table: &[u8], state: &mut &mut [u8], events: EventSet, atoms: &mut &mut [u16]) -> Answer
+fn run_from(table: &[u8], state: &mut &mut [u8], handed: HandedIn, atoms: &mut &mut [u16]) -> Answer
     requires { ⌜ Startable (now table) (now (now state)) (now (now atoms)) ⌝ }
-    ensures { λ r. ⌜ RanBehind (now (table .entry)) (now (state .entry)) (members events) (now (atoms .entry)) (now (state .exit)) (now (atoms .exit)) r ⌝ }
+    ensures { λ r.
+        ⌜ RanBehind (now (table .entry)) (now (state .entry)) (members (handed .events)) (wordValues (handed .low) (handed .high))
+        (now (atoms .entry)) (now (state .exit)) (now (atoms .exit)) r ⌝ }
 {
     let nodes = word_at(table, table.len() - 10);
-    let mut row = first_numbers(events, 6 * nodes);
+    let mut row = first_numbers(handed.events, handed.low, handed.high, 6 * nodes);
     let mut passes = 0;
     let mut waits = no_wait();
     loop {

@@ -1,18 +1,20 @@
 -- A line that was read and listed is answered.
-use mathlib.Core.Path.{_≡_, sym, ap, _∙_}
-use mathlib.Core.Bool.{Bool, true, false, not}
+use mathlib.Core.Path.{_≡_, refl, sym, ap, _∙_, fun-ext}
+use mathlib.Core.Bool.{Bool, true, false, not, cond, false≢true}
 use mathlib.Core.List.{List, _++_}
 use Prim.Native.Nat.{ℕ, _≤_}
 use native.Mathlib.Nat.{zero-add}
 use native.Mathlib.Omega.{arith}
-use lib.ListN.{length, drop, length-append}
-use borrow.Author.Tests.{le-leb}
+use lib.ListN.{length, getD, drop, replicate, getD-replicate, length-append}
+use lib.Dec.{ltb}
+use borrow.Author.Tests.{le-leb, ltb-true}
 use Rattle.events.specs.Events.{Events, none}
 use Rattle.junior.specs.Trace.{atoms}
+use Rattle.junior.specs.Values.{Values, zeros}
 use Rattle.listing.specs.Input.{Reading}
 use Rattle.listing.specs.Output.{Written}
 use Rattle.kernel.specs.declared.Answer.{Answer}
-use Rattle.kernel.specs.Answer.{Run}
+use Rattle.kernel.specs.Answer.{valuesOf, Run}
 use Rattle.waiting.specs.declared.Wait.{Wait}
 use Rattle.letters.specs.Rooms.{Puts}
 use Rattle.letters.proofs.Rooms.{sets-front}
@@ -21,15 +23,24 @@ use Rattle.player.specs.Answering.{Lists, Answers}
 use Rattle.player.specs.Inside.{PutsUnder}
 
 pub read-bad : {line : List ℕ} {good : Bool} {X : Events} → not good ≡ true → Reading line good X → Reading line false none
-read-bad e (Reading.good-line l n) = absurd (let z : _≡_ {A = ℕ} 0 1 = cc in omega arith)
+read-bad e (Reading.good-line l n) = absurd (false≢true e)
 read-bad e (Reading.bad-line never) = Reading.bad-line never
 
 pub read-good : {line : List ℕ} {good : Bool} {X : Events} → not good ≡ false → Reading line good X → Reading line true X
 read-good e (Reading.good-line l n) = Reading.good-line l n
-read-good e (Reading.bad-line never) = absurd (let z : _≡_ {A = ℕ} 0 1 = cc in omega arith)
+read-good e (Reading.bad-line never) = absurd (false≢true (sym e))
+
+-- sixteen bytes that are 0 hand in zeros
+pub zeros-handed : valuesOf (replicate 16 0) ≡ zeros
+zeros-handed = fun-ext (λ v. go v (ltb v 16) refl)
+  where
+    go : (v : ℕ) (below : Bool) → ltb v 16 ≡ below → _≡_ {A = ℕ} (cond below (getD (replicate 16 0) v 0) 0) 0
+    go v true e = getD-replicate 16 v 0 0 (ltb-true v 16 e)
+    go v false e = refl
 
 -- the atoms done are in the row
-pub atoms-within : {t s : List ℕ} {X : Events} {row s′ row′ : List ℕ} {r : Answer} → Run t s X row s′ row′ r → r .atoms ≤ length row′
+pub atoms-within : {t s : List ℕ} {X : Events} {value : Values} {row s′ row′ : List ℕ} {r : Answer} → Run t s X value row s′ row′ r
+    → r .atoms ≤ length row′
 atoms-within {row = row} {row′ = row′} {r = r} run =
     let long : length row′ ≡ _ = ap length (run .row-is) ∙ length-append (atoms (run .result .acts)) (drop (r .atoms) row) in
     omega (arith, run .atoms-are, long)

@@ -8,6 +8,7 @@ use native.Mathlib.Omega.{arith}
 use lib.ListN.{take}
 use Rattle.events.specs.Events.{Events}
 use Rattle.events.specs.Members.{members}
+use Rattle.junior.specs.Values.{Values}
 use Rattle.junior.specs.Program.{size}
 use Rattle.junior.specs.Term.{prog}
 use Rattle.junior.specs.Waited.{Wait, waited}
@@ -49,10 +50,11 @@ unnamed : (o : Option Wait) → found o ≡ false → nodeOf o ≡ 4096
 unnamed none e = refl
 unnamed (some w) e = absurd (false≢true (sym e))
 
-one-line-more : {t s : List ℕ} {X : Events} {row s′ row′ : List ℕ} {a : Answer} {more : List ℕ} → Answered t s X row s′ row′ a
+one-line-more : {t s : List ℕ} {X : Events} {value : Values} {row s′ row′ : List ℕ} {a : Answer} {more : List ℕ}
+    → Answered t s X value row s′ row′ a
     → a .outcome ≡ Ran
     → Under t (a .waits) true more
-    → (run : Run t s X row s′ row′ a)
+    → (run : Run t s X value row s′ row′ a)
     → OneLineMore run more
 one-line-more {t} {a = a} r e u run = go u
   where

@@ -7,6 +7,7 @@ use mathlib.Core.Option.{Option, none, some}
 use native.Mathlib.Omega.{arith}
 use Rattle.events.specs.Events.{Events}
 use Rattle.junior.specs.Configuration.{Env}
+use Rattle.junior.specs.Values.{Values}
 use Rattle.junior.specs.Program.{size}
 use Rattle.junior.specs.Term.{Term, prog}
 use Rattle.junior.specs.Rules.{Allowed, Result}
@@ -34,14 +35,14 @@ node-below : {n m : ℕ} (o : Option Wait) → Within 0 m o → n ≡ nodeOf o �
 node-below none a e h = absurd (h e)
 node-below (some w) a e h = omega (arith, a .nodes w refl .1)
 
-module _ {t s : List ℕ} {X : Events} {row s′ row′ : List ℕ} {a : Answer} (r : Answered t s X row s′ row′ a) (e : a .outcome ≡ Ran) where
+module _ {t s : List ℕ} {X : Events} {value : Values} {row s′ row′ : List ℕ} {a : Answer} (r : Answered t s X value row s′ row′ a) (e : a .outcome ≡ Ran) where
   past : Passed t s X row
   past = all-passed t s X row (sym (r .outcome-is) ∙ e)
 
   ok : Admitted t (past .generations) (past .most) (past .weight)
   ok = admitted t (past .verdict)
 
-  pub all-its-nodes : (run : Run t s X row s′ row′ a) → (size (prog (run .term)) ≡ nodes t) × (nodes t ≤ 4096)
+  pub all-its-nodes : (run : Run t s X value row s′ row′ a) → (size (prog (run .term)) ≡ nodes t) × (nodes t ≤ 4096)
   all-its-nodes run = (ap size (run .program) ∙ ok .whole, ok .loaded .framed .n-most)
 
   pub one-of-its-nodes : OneOfItsNodes t (a .waits)

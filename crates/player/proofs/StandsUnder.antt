@@ -1,8 +1,8 @@
 -- What stands under an instant's line, case by case.
 use Prim.Native.Nat.{ℕ, _+_, _^_, _≤_, _<_}
-use mathlib.Core.Path.{_≡_}
+use mathlib.Core.Path.{_≡_, sym}
 use mathlib.Core.Logic.{_≢_}
-use mathlib.Core.Bool.{Bool, true, false, not}
+use mathlib.Core.Bool.{Bool, true, false, not, false≢true}
 use mathlib.Core.List.{List, []}
 use native.Mathlib.Omega.{arith}
 use lib.ListN.{length}
@@ -20,13 +20,13 @@ module _ {t : List ℕ} {w : Wait} where
   nothing-under old at room u = record { more = []; under = u; puts = puts-none old at; within = omega arith }
 
   pub nobody-asks : (why : Bool) (old : List ℕ) (at : ℕ) → at + room-under ≤ length old → not why ≡ true → PutsUnder why t w old old at at
-  nobody-asks true old at room e = absurd (let z : _≡_ {A = ℕ} 0 1 = cc in omega arith)
+  nobody-asks true old at room e = absurd (false≢true e)
   nobody-asks false old at room e = nothing-under old at room Under.not-asked
 
   pub not-declared : (why : Bool) (old : List ℕ) (at : ℕ) → at + room-under ≤ length old → not why ≡ false → w .node ≡ 4096
       → PutsUnder why t w old old at at
   not-declared true old at room e n = nothing-under old at room (Under.never-declared n)
-  not-declared false old at room e n = absurd (let z : _≡_ {A = ℕ} 0 1 = cc in omega arith)
+  not-declared false old at room e n = absurd (false≢true (sym e))
 
 module _ {t : List ℕ} {w : Wait} (h : OneOfItsNodes t w) (n : w .node ≢ 4096) where
   placed : Placed t (w .node) (treeAt t (w .node))
@@ -45,4 +45,4 @@ module _ {t : List ℕ} {w : Wait} (h : OneOfItsNodes t w) (n : w .node ≢ 4096
         puts = put;
         within = omega (arith, put .next, line-few placed k);
       }
-  wait-under false e k room s = absurd (let z : _≡_ {A = ℕ} 0 1 = cc in omega arith)
+  wait-under false e k room s = absurd (false≢true (sym e))

@@ -37,7 +37,7 @@ small w v i = let f : Fits w64 (w .event) = search needs in f .fits
 
 -- how long the three that vary can be, and so the line
 pub few : {t : List ℕ} {node event : ℕ} {p : Program} → Placed t node p → event < 2 ^ 64
-    → (length (decimal node) ≤ 20) × (length (outline p) ≤ 14353) × (length (decimal event) ≤ 20)
+    → (length (decimal node) ≤ 20) × (length (outline p) ≤ 14363) × (length (decimal event) ≤ 20)
 few {node = node} {event = event} h k =
     let inside : node < 10 ^ 20 = omega (arith, own-node h, h .loaded .framed .n-most) in
     (decimal-length 19 node inside, outline-few h, decimal-length 19 event (omega arith))

@@ -8,6 +8,7 @@ use mathlib.Core.List.{List, _++_}
 use lib.ListN.{length, take, drop}
 use Rattle.events.specs.Events.{Events, none}
 use Rattle.events.specs.Members.{members}
+use Rattle.junior.specs.Values.{zeros}
 use Rattle.listing.specs.Input.{Reading}
 use Rattle.listing.specs.Output.{ranLine, badLine, refusedLine}
 use Rattle.kernel.specs.declared.Outcome.the-variants.{Ran}
@@ -16,12 +17,13 @@ use Rattle.kernel.specs.Answer.{outcomeNumber, outcomeIndex, Answered}
 use Rattle.player.specs.Waiting.{Under}
 
 -- the table t, the state s and the row before; the state s′, the row′ and the output line after. A refused instant's Answered says that neither
--- moves. `why` is whether something stands under the line of an instant that ran; zap_run prints none.
+-- moves. `why` is whether something stands under the line of an instant that ran; zap_run prints none. The values that a program asks for are
+-- zeros: "The box hands in sixteen 8-bit values with each instant (..; `zap-run` zeros)" (02, L14).
 pub data Lists (why : Bool) (t s row line : List ℕ) (number : ℕ) : List ℕ → List ℕ → List ℕ → Type 0 where
   bad : Reading line false none → Lists why t s row line number s row (badLine number)
-  refused : (X : Events) (a : Answer) {s′ row′ : List ℕ} → Reading line true X → Answered t s X row s′ row′ a → a .outcome ≢ Ran
+  refused : (X : Events) (a : Answer) {s′ row′ : List ℕ} → Reading line true X → Answered t s X zeros row s′ row′ a → a .outcome ≢ Ran
       → Lists why t s row line number s′ row′ (refusedLine number (outcomeNumber (a .outcome)) (outcomeIndex (a .outcome)))
-  ran : (X : Events) (a : Answer) {s′ row′ more : List ℕ} → Reading line true X → Answered t s X row s′ row′ a → a .outcome ≡ Ran
+  ran : (X : Events) (a : Answer) {s′ row′ more : List ℕ} → Reading line true X → Answered t s X zeros row s′ row′ a → a .outcome ≡ Ran
       → Under t (a .waits) why more
       → Lists why t s row line number s′ row′ (ranLine number (a .passes) (a .finished) (members (a .events)) (take (a .atoms) row′) ++ more)
 

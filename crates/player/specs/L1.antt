@@ -4,6 +4,7 @@ use mathlib.Core.Path.{_≡_}
 use mathlib.Core.Bool.{true, false}
 use mathlib.Core.List.{List, [], _++_}
 use Rattle.events.specs.Events.{Events}
+use Rattle.junior.specs.Values.{Values}
 use Rattle.junior.specs.Program.{Program}
 use Rattle.table.specs.Spells.{Spells}
 use Rattle.kernel.specs.declared.Outcome.the-variants.{Ran}
@@ -20,7 +21,8 @@ pub record AsListed (t s row line : List ℕ) (number : ℕ) (s′ row′ text :
   pub whole : text ≡ listed ++ more
 
 -- what stands under the line of an instant that was run, by whether its end was declared
-pub record OneLineMore {t s : List ℕ} {X : Events} {row s′ row′ : List ℕ} {a : Answer} (run : Run t s X row s′ row′ a) (more : List ℕ) : Type 0 where
+pub record OneLineMore {t s : List ℕ} {X : Events} {value : Values} {row s′ row′ : List ℕ} {a : Answer} (run : Run t s X value row s′ row′ a)
+    (more : List ℕ) : Type 0 where
   pub if-declared : run .result .env .eoi ≡ true
       → (p : Program) × Spells t (a .waits .node) p × (more ≡ waitsLine (a .waits .node) p (a .waits .event))
   pub if-never : run .result .env .eoi ≡ false → more ≡ []
@@ -31,8 +33,9 @@ pub record L1 : Type 0 where
       → AsListed t s row line number s′ row′ text
   -- "under each instant whose end was declared, one line more that says what the program waits for: the node, the test in written form ..,
   -- and the event"; under another instant none
-  pub one-line-more : {t s : List ℕ} {X : Events} {row s′ row′ : List ℕ} {a : Answer} {more : List ℕ} → Answered t s X row s′ row′ a
+  pub one-line-more : {t s : List ℕ} {X : Events} {value : Values} {row s′ row′ : List ℕ} {a : Answer} {more : List ℕ}
+      → Answered t s X value row s′ row′ a
       → a .outcome ≡ Ran
       → Under t (a .waits) true more
-      → (run : Run t s X row s′ row′ a)
+      → (run : Run t s X value row s′ row′ a)
       → OneLineMore run more

@@ -33,7 +33,7 @@ closing-few (leaf h f) = rw (closing-none f) (omega arith)
 closing-few (one h f x) = rw (closing-one f) (omega arith)
 closing-few (two h f x y) = rw (closing-two f) (omega arith)
 
-pub outline-few : {t : List ℕ} {i : ℕ} {p : Program} → Placed t i p → length (outline p) ≤ 14353
+pub outline-few : {t : List ℕ} {i : ℕ} {p : Program} → Placed t i p → length (outline p) ≤ 14363
 outline-few {t} {i} {p} h =
     rw (outlined-by p, length-append (head p) (closing p)) (omega (arith, head-few h, closing-few (tree t i p (h .spelled))))
 

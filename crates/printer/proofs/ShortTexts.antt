@@ -1,10 +1,11 @@
 -- The text of a loaded table's program is so short that every place in it is a number of 64 bits.
-use Prim.Native.Nat.{ℕ, zero, suc, _+_, _*_, _≤_}
+use Prim.Native.Nat.{ℕ, zero, suc, _+_, _*_, _/_, _%_, _≤_}
 use mathlib.Core.Bool.{Bool, true, false, cond, _&&_}
 use mathlib.Core.List.{List, [], _++_}
 use native.Mathlib.Omega.{arith}
 use lib.ListN.{length, length-append}
 use lib.Dec.{eqb, leb}
+use Rattle.letters.specs.Decimal.{decimal}
 use Rattle.letters.specs.Text.{bytes}
 use Rattle.letters.proofs.Decimal.{decimal-length}
 use Rattle.junior.specs.Program.{Program, size, kind}
@@ -19,7 +20,7 @@ use Rattle.form.specs.Inside.Rows.{inside}
 use Rattle.printer.specs.Printing.{argument, linked, link, head, rest, Fits}
 use Rattle.printer.proofs.SpelledBy.{spelled-by, rest-none, rest-one, rest-two}
 use Rattle.printer.proofs.ShortTests.{test-short}
-use Rattle.printer.proofs.ArgumentsIn.{Argued, no-argument, a-number, a-test, argued, test-at}
+use Rattle.printer.proofs.ArgumentsIn.{Argued, no-argument, a-number, a-cap, a-test, argued, test-at}
 use Rattle.printer.proofs.ArgumentsIn.{name-short}
 
 linked-few : (x y : ℕ) → length (linked x y) ≤ 2
@@ -37,16 +38,22 @@ link-few k = linked-few (inside k 0) (inside k 1)
 argument-few : {t : List ℕ} {i : ℕ} {p : Program} → Placed t i p → length (argument p) ≤ 14336
 argument-few {t} {i} {p} h = go (argued t i p (h .spelled))
   where
-    go : {a b : Bool} → Argued t i p a b → length (argument p) ≤ 14336
+    go : {a b c : Bool} → Argued t i p a b c → length (argument p) ≤ 14336
     go (no-argument e) = rw e (omega arith)
     go (a-number e) =
         let n = argumentAt t i in
         rw e (omega (arith, decimal-length 4 n (omega (arith, fine-at h .argument-below, limit-few (h .loaded) (kind p)))))
+    go (a-cap e) =
+        let n = argumentAt t i in
+        let l : n ≤ 65535 = omega (arith, fine-at h .argument-below, limit-few (h .loaded) (kind p)) in
+        let first = decimal-length 4 (n % 16) (omega arith) in
+        let second = decimal-length 4 (n / 16) (omega arith) in
+        rw e (omega (arith, length-append (decimal (n % 16)) (bytes ", " ++ decimal (n / 16))))
     go (a-test d c l e) =
         let x = test-at h l d c in
         rw e (omega (arith, ends-inside (h .loaded .configurations-good) d x, test-short (h .loaded) d x, h .loaded .framed .m-most))
 
-pub head-few : {t : List ℕ} {i : ℕ} {p : Program} → Placed t i p → length (head p) ≤ 14350
+pub head-few : {t : List ℕ} {i : ℕ} {p : Program} → Placed t i p → length (head p) ≤ 14360
 head-few {t} {i} {p} h =
     simp length-append (omega (arith, name-short p, argument-few h, link-few (kind p)))
 

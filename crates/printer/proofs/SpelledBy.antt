@@ -7,20 +7,22 @@ use Prim.Native.Nat.{ℕ}
 use Rattle.letters.specs.Text.{bytes}
 use Rattle.junior.specs.Configuration.{Config}
 use Rattle.junior.specs.Program.{Program, Nothing, Stop, Atom, Seq, Par, Loop, Repeat, Generate, Await, When, Until}
-use Rattle.junior.specs.Program.{Control, Local, Argument, no-argument, number, event, configuration, argument as own, kind}
+use Rattle.junior.specs.Program.{Control, Local, If, Argument, no-argument, number, event, configuration, value, capped, argument as own, kind}
+use Rattle.junior.specs.Values.{exactly, asked}
 use Rattle.junior.specs.Program.{Leaf, One, Two, Parts, no-part, one-part, two-parts, parts}
 use Rattle.junior.proofs.Parts.{parts-none, parts-one, parts-two}
-use Rattle.form.specs.Names.{opening}
-use Rattle.form.specs.Spelling.{spellArgument, before, spellParts, spell}
+use Rattle.form.specs.Spelling.{name, spellArgument, before, spellParts, spell}
 use Rattle.printer.specs.Outline.{outlineParts, outline}
-use Rattle.printer.specs.Printing.{takesTest, takesNumber, argument, link, head, restOf, rest}
+use Rattle.printer.specs.Printing.{takesTest, takesCap, takesNumber, argument, link, head, restOf, rest}
 
--- an argument, and whether a form that has it takes a test, and a number
-pub data Takes : Argument → Bool → Bool → Type 0 where
-  takes-none : Takes no-argument false false
-  takes-number : {n : ℕ} → Takes (number n) false true
-  takes-event : {s : ℕ} → Takes (event s) false true
-  takes-test : {c : Config} → Takes (configuration c) true false
+-- an argument, and whether a form that has it takes a test, a cap, and a number
+pub data Takes : Argument → Bool → Bool → Bool → Type 0 where
+  takes-none : Takes no-argument false false false
+  takes-number : {n : ℕ} → Takes (number n) false false true
+  takes-event : {s : ℕ} → Takes (event s) false false true
+  takes-test : {c : Config} → Takes (configuration c) true false false
+  takes-value : {v : ℕ} → Takes (value v) false false true
+  takes-cap : {v n : ℕ} → Takes (capped v n) false true true
 
 -- what stands behind the argument if parts follow
 abbrev linkAfter : Argument → List ℕ
@@ -28,6 +30,8 @@ linkAfter no-argument = []
 linkAfter (number n) = bytes ", "
 linkAfter (event s) = bytes ", "
 linkAfter (configuration c) = bytes ", "
+linkAfter (value v) = bytes ", "
+linkAfter (capped v n) = bytes ", "
 
 abbrev between : {p : Program} → Parts p → List ℕ
 between (no-part f) = []
@@ -36,42 +40,46 @@ between {p} (two-parts f q r) = linkAfter (own p)
 
 -- the codes of each form's kind tell these
 pub record CodesTell (p : Program) : Type 0 where
-  pub takes : Takes (own p) (takesTest (kind p)) (takesNumber (kind p))
+  pub takes : Takes (own p) (takesTest (kind p)) (takesCap (kind p)) (takesNumber (kind p))
   pub link-is : link (kind p) ≡ between (parts p)
 
 pub codes-tell : (p : Program) → CodesTell p
-unfolding kind takesTest takesNumber link
+unfolding kind takesTest takesCap takesNumber link
 codes-tell Nothing = record { takes = takes-none; link-is = refl }
 codes-tell Stop = record { takes = takes-none; link-is = refl }
 codes-tell (Atom a) = record { takes = takes-number; link-is = refl }
 codes-tell (Seq p q) = record { takes = takes-none; link-is = refl }
 codes-tell (Par p q) = record { takes = takes-none; link-is = refl }
 codes-tell (Loop p) = record { takes = takes-none; link-is = refl }
-codes-tell (Repeat n p) = record { takes = takes-number; link-is = refl }
+codes-tell (Repeat (exactly n) p) = record { takes = takes-number; link-is = refl }
+codes-tell (Repeat (asked v n) p) = record { takes = takes-cap; link-is = refl }
 codes-tell (Generate s) = record { takes = takes-event; link-is = refl }
 codes-tell (Await c) = record { takes = takes-test; link-is = refl }
 codes-tell (When c p q) = record { takes = takes-test; link-is = refl }
 codes-tell (Until c p q) = record { takes = takes-test; link-is = refl }
 codes-tell (Control s p) = record { takes = takes-event; link-is = refl }
 codes-tell (Local s p) = record { takes = takes-event; link-is = refl }
+codes-tell (If v p q) = record { takes = takes-value; link-is = refl }
 
 before-is : (a : Argument) (w : List ℕ) → before a w ≡ spellArgument a ++ (linkAfter a ++ w)
 before-is no-argument w = refl
 before-is (number n) w = refl
 before-is (event s) w = refl
 before-is (configuration c) w = refl
+before-is (value v) w = refl
+before-is (capped v n) w = simp append-assoc
 
 -- what is before the rest w, in one
 regroup : (o a l w : List ℕ) → o ++ (a ++ (l ++ w)) ≡ (o ++ (a ++ l)) ++ w
 regroup o a l w = simp append-assoc
 
 with-argument : (p : Program) (w : List ℕ)
-    → opening (kind p) ++ before (own p) w ≡ (opening (kind p) ++ (spellArgument (own p) ++ linkAfter (own p))) ++ w
+    → name p ++ before (own p) w ≡ (name p ++ (spellArgument (own p) ++ linkAfter (own p))) ++ w
 with-argument p w =
-    ap (λ (x : List ℕ). opening (kind p) ++ x) (before-is (own p) w) ∙ regroup (opening (kind p)) (spellArgument (own p)) (linkAfter (own p)) w
+    ap (λ (x : List ℕ). name p ++ x) (before-is (own p) w) ∙ regroup (name p) (spellArgument (own p)) (linkAfter (own p)) w
 
-by-parts : {p : Program} (v : Parts p) → spellParts v ≡ (opening (kind p) ++ (spellArgument (own p) ++ between v)) ++ restOf v
-by-parts {p} (no-part f) = regroup (opening (kind p)) (spellArgument (own p)) [] (bytes ")")
+by-parts : {p : Program} (v : Parts p) → spellParts v ≡ (name p ++ (spellArgument (own p) ++ between v)) ++ restOf v
+by-parts {p} (no-part f) = regroup (name p) (spellArgument (own p)) [] (bytes ")")
 by-parts {p} (one-part f q) = with-argument p (restOf (one-part f q))
 by-parts {p} (two-parts f q r) = with-argument p (restOf (two-parts f q r))
 
@@ -102,8 +110,8 @@ unfoldable pub closing : Program → List ℕ
 closing p = closingOf (parts p)
 
 short-by-parts : {p : Program} (v : Parts p)
-    → outlineParts v ≡ (opening (kind p) ++ (spellArgument (own p) ++ between v)) ++ closingOf v
-short-by-parts {p} (no-part f) = regroup (opening (kind p)) (spellArgument (own p)) [] (bytes ")")
+    → outlineParts v ≡ (name p ++ (spellArgument (own p) ++ between v)) ++ closingOf v
+short-by-parts {p} (no-part f) = regroup (name p) (spellArgument (own p)) [] (bytes ")")
 short-by-parts {p} (one-part f q) = with-argument p (bytes "..)")
 short-by-parts {p} (two-parts f q r) = with-argument p (bytes "..)")
 

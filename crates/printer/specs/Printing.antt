@@ -5,12 +5,13 @@ use mathlib.Core.List.{List, [], _++_}
 use lib.ListN.{length}
 use lib.Dec.{eqb, leb}
 use Rattle.letters.specs.Rooms.{Puts}
+use Rattle.letters.specs.Decimal.{decimal}
 use Rattle.letters.specs.Text.{bytes}
 use Rattle.junior.specs.Configuration.{Config}
 use Rattle.junior.specs.Program.{Program, argument as own, kind, Parts, no-part, one-part, two-parts, parts}
-use Rattle.table.specs.Spells.{Spells, Configured, weight}
+use Rattle.table.specs.Spells.{Spells, Configured, weight, valueIn, capIn}
 use Rattle.table.specs.Inside.{Placed}
-use Rattle.form.specs.Names.{opening}
+use Rattle.form.specs.Names.{formOfKind, opening}
 use Rattle.form.specs.Spelling.{spellTest, spellArgument, spellParts}
 use Rattle.form.specs.Inside.Rows.{inside}
 
@@ -19,8 +20,8 @@ pub record Fits (at : ℕ) (w : List ℕ) : Type 0 where
   pub below : at + length w < 18446744073709551616
 
 -- A program's spelling in two, what its own record tells and the rest; the law `spelled-by` says that these are all. The record tells the
--- name of its kind with the bracket, its argument, and the comma behind the argument if parts follow. The first code in the brackets of a kind
--- tells whether its argument is a configuration, or is written as it is.
+-- name of its form with the bracket, its argument, and the comma behind the argument if parts follow. The codes in the brackets of a kind
+-- tell whether its argument is a configuration, a value's number with a cap, or is written as it is.
 unfoldable pub takesTest : ℕ → Bool
 unfolding inside
 takesTest k = eqb (inside k 0) 134
@@ -28,6 +29,14 @@ takesTest k = eqb (inside k 0) 134
 unfoldable pub takesNumber : ℕ → Bool
 unfolding inside
 takesNumber k = leb 138 (inside k 0)
+
+unfoldable pub takesCap : ℕ → Bool
+unfolding inside
+takesCap k = eqb (inside k 3) 141
+
+-- a RepeatExt's argument
+abbrev pub cappedText : ℕ → List ℕ
+cappedText a = decimal (valueIn a) ++ (bytes ", " ++ decimal (capIn a))
 
 unfoldable pub argument : Program → List ℕ
 argument p = spellArgument (own p)
@@ -41,7 +50,7 @@ unfolding inside linked
 link k = linked (inside k 0) (inside k 1)
 
 abbrev pub head : Program → List ℕ
-head p = opening (kind p) ++ (argument p ++ link (kind p))
+head p = opening (formOfKind (kind p)) ++ (argument p ++ link (kind p))
 
 abbrev pub restOf : {p : Program} → Parts p → List ℕ
 restOf (no-part f) = bytes ")"

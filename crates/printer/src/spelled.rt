@@ -4,18 +4,20 @@ ghost use Prim.Native.Nat.{_<_};
 ghost use Rattle.table.specs.Records.{kindAt};
 ghost use Rattle.form.specs.Names.{opening};
 ghost use Rattle.form.specs.Spelling.{spell};
-ghost use Rattle.form.specs.Inside.Rows.{TheNames, kinds, formRow, nameEnd, inside};
+ghost use Rattle.form.specs.Inside.Rows.{TheNames, formCount, formRow, nameEnd, inside};
 ghost use Rattle.letters.specs.Rooms.{Puts};
 ghost use Rattle.printer.specs.Outline.{outline};
-ghost use Rattle.printer.specs.Printing.{Fits, argument, linked, head, joint, Printable, Shows, Testable, ShowsTest};
+ghost use Rattle.printer.specs.Printing.{Fits, argument, cappedText, linked, head, joint, Printable, Shows, Testable, ShowsTest};
 use crate::room::put;
 use crate::room::put_name;
 use crate::room::put_number;
+use form::names::CAP;
 use form::names::EVENT;
 use form::names::FIRST_FORM;
 use form::names::LONG;
 use form::names::ROW;
 use form::names::TEST;
+use form::names::form_of_kind;
 use form::names::name_end;
 use form::names::table_of_names;
 use table::nodes::children_of;
@@ -75,17 +77,17 @@ fn put_head(names: &[u8; LONG], table: &[u8], i: usize, room: &mut [u8], at: usi
     requires { ⌜ Printable head (now table) i at ⌝ }
     ensures { λ r. ⌜ Shows head (now (table .entry)) i (now (room .entry)) (now (room .exit)) at r ⌝ }
 {
-    let k = kind_at(table, i);
-    let inside = name_end(names, FIRST_FORM + k);
-    let named = put_opening(names, k, inside, room, at);
-    let argued = put_argument(table, i, names[inside], room, named);
+    let form = form_of_kind(kind_at(table, i));
+    let inside = name_end(names, FIRST_FORM + form);
+    let named = put_opening(names, form, inside, room, at);
+    let argued = put_argument(table, i, names[inside], names[inside + 3], room, named);
     put_link(room, argued, names[inside], names[inside + 1])
 }
 
-// The name of kind k with its bracket, which ends at a place of the table of names.
+// The name of form k with its bracket, which ends at a place of the table of names.
 fn put_opening(names: &[u8; LONG], k: usize, end: usize, room: &mut [u8], at: usize) -> usize
     requires { ⌜ TheNames (now names) ⌝ }
-    requires { ⌜ k < kinds ⌝ }
+    requires { ⌜ k < formCount ⌝ }
     requires { ⌜ end ≡ nameEnd (formRow k) ⌝ }
     requires { ⌜ Fits at (opening k) ⌝ }
     ensures { λ r. ⌜ Puts (now (room .entry)) (now (room .exit)) at (opening k) r ⌝ }
@@ -94,9 +96,11 @@ fn put_opening(names: &[u8; LONG], k: usize, end: usize, room: &mut [u8], at: us
     put_name(names, ROW * (FIRST_FORM + k), end, room, begun)
 }
 
-// The argument of node i: a test, a number, or none, as the first code in its form's brackets tells.
-fn put_argument(table: &[u8], i: usize, code: u8, room: &mut [u8], at: usize) -> usize
+// The argument of node i: a test, a value's number and a cap, another number, or none, as the first code in its form's brackets tells and
+// the one behind a number and a comma.
+fn put_argument(table: &[u8], i: usize, code: u8, behind: u8, room: &mut [u8], at: usize) -> usize
     requires { ⌜ code ≡ inside (kindAt (now table) i) 0 ⌝ }
+    requires { ⌜ behind ≡ inside (kindAt (now table) i) 3 ⌝ }
     requires { ⌜ Printable argument (now table) i at ⌝ }
     ensures { λ r. ⌜ Shows argument (now (table .entry)) i (now (room .entry)) (now (room .exit)) at r ⌝ }
 {
@@ -104,10 +108,23 @@ fn put_argument(table: &[u8], i: usize, code: u8, room: &mut [u8], at: usize) ->
         let n = word_at(table, table.len() - 10);
         return put_test(table, 6 * n + 4 * argument_at(table, i), room, at);
     }
+    if behind == CAP {
+        return put_capped(room, at, argument_at(table, i));
+    }
     if EVENT <= code {
         return put_number(room, at, argument_at(table, i));
     }
     at
+}
+
+// The argument of a RepeatExt: the value's number first, the cap next.
+fn put_capped(room: &mut [u8], at: usize, argument: usize) -> usize
+    requires { ⌜ Fits at (cappedText argument) ⌝ }
+    ensures { λ r. ⌜ Puts (now (room .entry)) (now (room .exit)) at (cappedText argument) r ⌝ }
+{
+    let first = put_number(room, at, argument % 16);
+    let between = put(room, first, b", ");
+    put_number(room, between, argument / 16)
 }
 
 // What stands between the argument and the first part, where a form has both, as the first two codes in its brackets tell.

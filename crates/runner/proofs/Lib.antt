@@ -9,9 +9,11 @@ pub mod Repeat
 pub mod Local
 pub mod When
 pub mod Until
+pub mod If
 pub mod GoesOn
 pub mod WhenRuns
 pub mod UntilRuns
+pub mod IfRuns
 pub mod ParRuns
 pub mod HalfRuns
 pub mod SeqRuns

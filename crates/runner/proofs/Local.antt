@@ -26,7 +26,7 @@ use Rattle.state.specs.StateBytes.{in-phase}
 use Rattle.state.proofs.Shape.{Shape, is-done, is-local, shape-by}
 use Rattle.state.proofs.Frames.{local-body}
 use Rattle.state.proofs.Parts.{own-phase}
-use Rattle.steps.specs.Running.{Ready, SameLengths, Ran, Live, Runs, Any, Kind, envOf, signAfter}
+use Rattle.steps.specs.Running.{Ready, SameLengths, Ran, Live, Runs, Any, Kind, valuesIn, envOf, signAfter}
 use Rattle.steps.proofs.LoadedNode.{local-placed}
 use Rattle.steps.proofs.Children.{at-node, falling, only-cut, first-at, phase-is}
 use Rattle.steps.proofs.Done.{own-left, ran-long, back-in, ran-phase}
@@ -59,8 +59,8 @@ sign-left b TERM present k = refl
 scoped : {P : Place} {b : Bool} {e : ℕ} {x y : Term} {l : List Act} {α : Flag} (words words₁ tally words₂ words₃ tally′ : List ℕ)
     → marks words₁ ≡ put e b (marks words)
     → marks words₃ ≡ put e (marks words e) (marks words₂)
-    → Rewrites left-first (inside e P) x (envOf words₁ tally) (answers α y (envOf words₂ tally′) l)
-    → Rewrites left-first P (local b e x) (envOf words tally)
+    → Rewrites (left-first (valuesIn tally)) (inside e P) x (envOf words₁ tally) (answers α y (envOf words₂ tally′) l)
+    → Rewrites (left-first (valuesIn tally)) P (local b e x) (envOf words tally)
     (answers α (leave α (local (sign b α (marks words₂ e)) e y)) (envOf words₃ tally′)
     (l ++ (scope-answered (P .node) α (marks words₂ e) ∷ [])))
 scoped words words₁ tally words₂ words₃ tally′ p q d = rw q (r35-39 (rw p at d))
@@ -127,7 +127,7 @@ module _ {table : List ℕ} {i : ℕ} {state words row tally : List ℕ} {a : �
           let on : b ≡ true → marks words₂ e ≡ true = λ z. grows (g .rewrites) e (ap (λ X. X e) p ∙ (put-at e b (marks words) ∙ z)) in
           let ph = after ∙ ap (signAfter α) (found ∙ ap (marks words₂) same) in
           let long : SameLengths words tally words₃ tally′ =
-          record { of-words = m₃ .long ∙ (g .lengths .of-words ∙ m .long); of-tally = g .lengths .of-tally } in
+          record { of-words = m₃ .long ∙ (g .lengths .of-words ∙ m .long); of-tally = g .lengths .of-tally; of-values = g .lengths .of-values } in
           ran-phase o h (only-cut h o) g long (omega arith) refl (local-body (sign b α (marks words₂ e)) e)
           (sign-left b α (marks words₂ e) on ∙ ap in-phase (sym ph))
           (scoped words words₁ tally words₂ words₃ tally′ p q (g .rewrites))

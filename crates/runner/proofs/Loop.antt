@@ -28,7 +28,7 @@ use Rattle.state.proofs.Frames.{loop-body}
 use Rattle.steps.specs.Running.{Ready, Ran, Live, Runs, Any, Kind}
 use Rattle.steps.specs.Kinds.{Beginning}
 use Rattle.steps.proofs.Children.{at-node, falling, only-cut, first-at, phase-is}
-use Rattle.steps.proofs.Done.{same-lengths, ready-as, room-after, few, ran-flag, ran-zeros, ran-long, ran-then}
+use Rattle.steps.proofs.Done.{later, same-lengths, ready-as, room-after, few, ran-flag, ran-zeros, ran-long, ran-then}
 use Rattle.steps.proofs.Done.{back-kept, back-long, back-in, own-stays, ran-kept, ran-phase}
 use Rattle.runner.proofs.Only.{only-asks, only-ran}
 
@@ -151,4 +151,4 @@ module _ {table : List ℕ} {i : ℕ} {state words row tally : List ℕ} where
     loop-again (loops x) h z then P at =
         let g = ran-flag z (rest-ran x h P at) in
         let k = then (loop0 (prog x)) (refl, refl) (anew x h z) P at in
-        ran-then h g k (r4-loop (g .rewrites) (k .rewrites))
+        ran-then h g k (r4-loop (g .rewrites) (later (g .lengths) (k .rewrites)))

@@ -27,11 +27,11 @@ use Rattle.state.specs.Kinds.{par-kind}
 use Rattle.state.specs.StateBytes.{code, head, below, stateBytes}
 use Rattle.state.proofs.Parts.{first-of, with-first, rest-of, with-rest, len-bytes, own-flags}
 use Rattle.state.proofs.Shape.{Shape, is-done, is-par, shape-by}
-use Rattle.steps.specs.Running.{envOf, Ready, Wrote, SameLengths, Ran, Live, Runs, Any, Kind, LeftSuspended}
+use Rattle.steps.specs.Running.{valuesIn, envOf, Ready, Wrote, SameLengths, Ran, Live, Runs, Any, Kind, LeftSuspended}
 use Rattle.steps.specs.Running.{RightSuspended, parEnd, atoms-done}
 use Rattle.steps.proofs.FlagTables.{code-same, code-below}
 use Rattle.steps.proofs.Children.{asks-for, at-node, falling, first-at, second-at, byte-is}
-use Rattle.steps.proofs.Done.{same-lengths, lengths-then, few, ran-flag, ran-long, room-after, wrote-as, wrote-then}
+use Rattle.steps.proofs.Done.{later, same-lengths, lengths-then, few, ran-flag, ran-long, room-after, wrote-as, wrote-then}
 use Rattle.runner.proofs.Joined.{Two, flags-at, second-at as two-at, stood-ended, first-part, put-first, ends, second-part, put-second}
 use Rattle.runner.proofs.Joined.{end-asks}
 use Rattle.runner.proofs.Joined.{Branch, branch-stood, branch-ran, par-ended}
@@ -156,7 +156,7 @@ module _ {table : List ℕ} {i : ℕ} {state words row tally : List ℕ} where
 
 -- a Par whose branches have answered α and β, when par_end has joined them
 par-ran : {P : Place} {t : Term} {words row tally words′ row′ tally′ : List ℕ} {l : List Act} (α β : Flag) (t′ u′ : Term)
-    → Rewrites left-first P t (envOf words tally) (joined α β t′ u′ (envOf words′ tally′) l)
+    → Rewrites (left-first (valuesIn tally)) P t (envOf words tally) (joined α β t′ u′ (envOf words′ tally′) l)
     → Wrote (atoms l) row (atoms-done tally) row′ (atoms-done tally′)
     → SameLengths words tally words′ tally′
     → {state : List ℕ} {flags n : ℕ} {a b : List ℕ}
@@ -330,7 +330,7 @@ module _ {table : List ℕ} {i : ℕ} {state words row tally : List ℕ} {n : �
           let e = then-ran h P at in
           let v = wrote-then (d .wrote) (omega (arith, h .room)) (e .wrote) in
           let w = wrote-as (collect-++ atom-of (d .acts) (e .acts)) v in
-          par-ran α β (d .to) (e .to) (r8 (d .rewrites) (e .rewrites)) w
+          par-ran α β (d .to) (e .to) (r8 (d .rewrites) (later (d .lengths) (e .rewrites))) w
           (lengths-then (d .lengths) (e .lengths)) (both-back h) (branch-ran d (h .going .1))
           (branch-ran e (both-second h .going)) q
 

@@ -1,7 +1,7 @@
--- A Repeat, rules 14 and 15 when it begins, 4 and 5 in the rest of a run of its body, k runs being still to begin.
-use Prim.Native.Nat.{ℕ, zero, suc, _+_, _-_, _/_, _%_, _≤_, _<_}
-use mathlib.Core.Path.{_≡_, refl, ap, sym, subst, _∙_}
-use mathlib.Core.Logic.{_≢_}
+-- A Repeat or a RepeatExt, rules 14 and 15 when it begins, 4 and 5 in the rest of a run of its body, k runs being still to begin.
+use Prim.Native.Nat.{ℕ, zero, suc, _+_, _-_, _/_, _%_, _≤_, _<_, min}
+use mathlib.Core.Path.{_≡_, refl, ap, ap₂, sym, subst, _∙_}
+use mathlib.Core.Logic.{_≢_, inl, inr}
 use mathlib.Core.List.{List, [], _++_, append-nil}
 use native.Mathlib.Omega.{arith}
 use native.Mathlib.Nat.{div-add-mod'}
@@ -9,6 +9,7 @@ use lib.ListN.{length, getD, drop, set}
 use borrow.Rule.Slice.PartMut.{midOf, putMid}
 use Rattle.junior.specs.declared.Flag.{Flag}
 use Rattle.junior.specs.declared.Flag.the-variants.{TERM}
+use Rattle.junior.specs.Values.{Values, Times as Number, exactly, asked, runs-of, most}
 use Rattle.junior.specs.Program.{Program, Repeat, size, kind}
 use Rattle.junior.specs.Term.{Term, repeat0, repeat1, prog, fresh}
 use Rattle.junior.specs.Trace.{Place, first, collect}
@@ -16,115 +17,152 @@ use Rattle.junior.specs.Rules.{again, r1-on, r14, r15, r4-repeat, r5-repeat}
 use Rattle.junior.specs.Figures.{LoopsStop, figure, per}
 use Rattle.junior.specs.AtRest.{AtRest}
 use Rattle.junior.specs.Inside.{Going, pot}
+use Rattle.junior.proofs.Times.{below-most}
 use Rattle.junior.proofs.Kept.{prog-fresh}
 use Rattle.junior.proofs.Held.{ends-unheld}
 use Rattle.junior.proofs.Going.{rest-going, fresh-at-rest}
 use Rattle.junior.proofs.Figures.{pot-at-rest, pot-again}
 use Rattle.table.specs.Records.{word, argumentAt}
-use Rattle.table.specs.Spells.{Spells}
-use Rattle.state.specs.Kinds.{repeat-kind}
+use Rattle.table.specs.Spells.{valueIn, capIn, Spells}
+use Rattle.state.specs.Kinds.{repeat-kind, repeat-ext-kind}
 use Rattle.state.specs.StateBytes.{head, below, zeros}
 use Rattle.state.proofs.Parts.{fresh-zeros, blank-below, own-of, own-phase, own-flags}
-use Rattle.state.proofs.Shape.{Shape, is-done, is-repeat0, is-repeat1, shape-by}
+use Rattle.state.proofs.Shape.{Shape, is-done, is-repeat0, is-repeat1, is-ext0, is-ext1, shape-by}
 use Rattle.state.proofs.Frames.{repeat-body}
-use Rattle.steps.specs.Running.{Ready, Ran, Live, Runs, Any, Kind, Times}
+use Rattle.steps.specs.Running.{Ready, Ran, Live, Runs, Any, Kind, Repeating, Times, valuesIn}
 use Rattle.steps.proofs.LoadedNode.{repeat-below}
 use Rattle.steps.proofs.Children.{at-node, falling, byte-is, only-cut, put-back, first-at, phase-is, unseen}
-use Rattle.steps.proofs.Done.{same-lengths, ready-as, room-after, few, ran-flag, ran-zeros, ran-long, ran-alone}
+use Rattle.steps.proofs.Done.{later, same-lengths, ready-as, room-after, few, ran-flag, ran-zeros, ran-long, ran-alone}
 use Rattle.steps.proofs.Done.{ran-by}
 use Rattle.steps.proofs.Done.{ran-then, ran-around}
 use Rattle.steps.proofs.Done.{back-long, back-in, own-stays}
 use Rattle.runner.proofs.Only.{only-asks, only-ran}
 
--- one not begun
-pub data Unbegun : Term → Type 0 where
-  unbegun : (n : ℕ) (p : Program) → Unbegun (repeat0 n p)
+-- one not begun, which runs a times by the values
+pub data Unbegun (value : Values) (a : ℕ) : Term → Type 0 where
+  unbegun : (n : Number) (p : Program) → runs-of value n ≡ a → Unbegun value a (repeat0 n p)
 
-unbegun-of : {t : Term} → Shape t repeat-kind 0 → Unbegun t
-unbegun-of (is-repeat0 n p) = unbegun n p
+-- its kind
+repeating : (n : Number) (p : Program) → Repeating (kind (Repeat n p))
+unfolding kind
+repeating (exactly n) p = inl refl
+repeating (asked v m) p = inr refl
+
+-- the run that begins
+begun-times : (a : ℕ) (n : Number) (p : Program) → Times (a - 1) (repeat1 n (a - 1) (fresh p))
+unfolding prog
+begun-times a n p = (repeating n (prog (fresh p)), refl, refl)
+
+begun-below : (value : Values) (a : ℕ) (n : Number) → runs-of value n ≡ a → a ≢ 0 → a - 1 < most n
+begun-below value a n e z = let one-more : a ≡ suc (a - 1) = omega arith in below-most value n (e ∙ one-more)
 
 -- once begun it can run no more than before
-pot-begun : (n : ℕ) (p : Program) → pot (per 2) (repeat1 (suc n) n (fresh p)) ≤ pot (per 2) (repeat0 (suc n) p)
+pot-begun : (n : Number) (k : ℕ) (p : Program) → k < most n → pot (per 2) (repeat1 n k (fresh p)) ≤ pot (per 2) (repeat0 n p)
 unfolding pot figure prog AtRest
-pot-begun n p =
-    let t = repeat1 (suc n) n (fresh p) in
-    let l = pot-at-rest (per 2) t (omega arith, fresh-at-rest p) in
-    subst (λ (q : Program). pot (per 2) t ≤ figure (per 2) (Repeat (suc n) q)) (prog-fresh p) l
+pot-begun n k p h =
+    let t = repeat1 n k (fresh p) in
+    let l = pot-at-rest (per 2) t (h, fresh-at-rest p) in
+    subst (λ (q : Program). pot (per 2) t ≤ figure (per 2) (Repeat n q)) (prog-fresh p) l
 
 module _ {table : List ℕ} {i : ℕ} {state words row tally : List ℕ} where
-  pub unbegun-by : {t : Term} → Kind repeat-kind t → Ready 0 table i state words row tally t → own-phase state ≡ 0 → Unbegun t
-  unbegun-by {t} w h z = unbegun-of (shape-by t (w .0) (sym (phase-is h) ∙ z))
+  repeat-of : {t : Term} → Shape t repeat-kind 0 → Ready 0 table i state words row tally t → Unbegun (valuesIn tally) (argumentAt table i) t
+  unfolding prog Spells
+  repeat-of (is-repeat0 n p) h = unbegun (exactly n) p (sym (h .placed .spelled .1))
+
+  ext-of : {t : Term} → Shape t repeat-ext-kind 0 → Ready 0 table i state words row tally t
+      → Unbegun (valuesIn tally) (min (capIn (argumentAt table i)) (valuesIn tally (valueIn (argumentAt table i)))) t
+  unfolding prog Spells
+  ext-of (is-ext0 v m p) h =
+      let (v-is, m-is) = h .placed .spelled .1 in
+      unbegun (asked v m) p (ap₂ (λ m v. min m (valuesIn tally v)) (sym m-is) (sym v-is))
+
+  pub repeat-begins : {t : Term} → Kind repeat-kind t → Ready 0 table i state words row tally t → own-phase state ≡ 0
+      → Unbegun (valuesIn tally) (argumentAt table i) t
+  repeat-begins {t} w h z = repeat-of (shape-by t (w .0) (sym (phase-is h) ∙ z)) h
+
+  pub ext-begins : {t : Term} → Kind repeat-ext-kind t → Ready 0 table i state words row tally t → own-phase state ≡ 0
+      → Unbegun (valuesIn tally) (min (capIn (argumentAt table i)) (valuesIn tally (valueIn (argumentAt table i)))) t
+  ext-begins {t} w h z = ext-of (shape-by t (w .0) (sym (phase-is h) ∙ z)) h
 
   -- the first of its runs: the same bytes but for the node's own
-  first-run : (n : ℕ) (p : Program) → Ready 0 table i state words row tally (repeat0 (suc n) p)
-      → Ready 4 table i state words row tally (repeat1 (suc n) n (fresh p))
+  first-run : (n : Number) (k : ℕ) (p : Program) → k < most n → Ready 0 table i state words row tally (repeat0 n p)
+      → Ready 4 table i state words row tally (repeat1 n k (fresh p))
   unfolding prog below Going
-  first-run n p h =
-      ready-as h (ap (Repeat (suc n)) (prog-fresh p)) refl (same-lengths words tally) (ap (drop 4) (h .bytes) ∙ sym (fresh-zeros p))
-      (omega arith, rest-going _ (fresh p) (fresh-at-rest p))
-      (omega (arith, h .room, pot-begun n p))
+  first-run n k p l h =
+      ready-as h (ap (Repeat n) (prog-fresh p)) refl (same-lengths words tally) (ap (drop 4) (h .bytes) ∙ sym (fresh-zeros p))
+      (l, rest-going _ (fresh p) (fresh-at-rest p))
+      (omega (arith, h .room, pot-begun n k p l))
 
-  module _ {a : ℕ} (names : a ≡ argumentAt table i) where
-    pub repeat-ends : {t : Term} → Unbegun t → Ready 0 table i state words row tally t → a ≡ 0 → (P : Place)
+  module _ {a : ℕ} where
+    pub repeat-ends : {t : Term} → Unbegun (valuesIn tally) a t → Ready 0 table i state words row tally t → a ≡ 0 → (P : Place)
         → Ran P t words row tally state words row tally TERM
-    unfolding prog size Spells below collect
-    repeat-ends (unbegun zero p) h z P = ran-alone r14 refl (h .bytes ∙ blank-below (size p))
-    repeat-ends (unbegun (suc n) p) h z P = absurd (omega (arith, h .placed .spelled .1))
+    unfolding prog size below collect
+    repeat-ends (unbegun n p e) h z P = ran-alone (r14 (e ∙ z)) refl (h .bytes ∙ blank-below (size p))
 
-    -- what run_times asks, one run less being then to begin, and that it is the Repeat's own run
-    pub repeat-asks : {t : Term} → Unbegun t → Ready 0 table i state words row tally t → a ≢ 0
+    -- what run_times asks, one run less being then to begin, and that it is the repetition's own run
+    pub repeat-asks : {t : Term} → Unbegun (valuesIn tally) a t → Ready 0 table i state words row tally t → a ≢ 0
         → {k : ℕ} → falling table i 2 ≡ k
         → (falling table i 0 < k) × ((Live 4 (Times (a - 1)) table i state words row tally) × (own-flags state ≡ 0))
-    unfolding prog kind Spells
-    repeat-asks (unbegun zero p) h n falls = absurd (n (names ∙ h .placed .spelled .1))
-    repeat-asks (unbegun (suc n) p) h _ falls =
-        (omega arith, ((repeat1 (suc n) n (fresh p), (refl, refl, omega (arith, h .placed .spelled .1)), first-run n p h), byte-is h 1 (omega arith)))
+    repeat-asks (unbegun n p e) h z falls =
+        (omega arith, ((repeat1 n (a - 1) (fresh p), begun-times a n p, first-run n (a - 1) p (begun-below _ a n e z) h), byte-is h 1 (omega arith)))
 
-    pub repeat-ran : {t : Term} → Unbegun t → Ready 0 table i state words row tally t → a ≢ 0
+    pub repeat-ran : {t : Term} → Unbegun (valuesIn tally) a t → Ready 0 table i state words row tally t → a ≢ 0
         → {state′ words′ row′ tally′ : List ℕ} {α : Flag}
         → Runs 4 (Times (a - 1)) table i state words row tally state′ words′ row′ tally′ α
         → (P : Place)
         → P .node ≡ i
         → Ran P t words row tally state′ words′ row′ tally′ α
-    unfolding prog kind Spells
-    repeat-ran (unbegun zero p) h n run P at = absurd (n (names ∙ h .placed .spelled .1))
-    repeat-ran (unbegun (suc n) p) h _ run P at =
-        let k = run (repeat1 (suc n) n (fresh p)) (refl, refl, omega (arith, h .placed .spelled .1)) (first-run n p h) P at in
-        ran-by k (r15 (k .rewrites)) refl
+    repeat-ran (unbegun n p e) h z run P at =
+        let k = run (repeat1 n (a - 1) (fresh p)) (begun-times a n p) (first-run n (a - 1) p (begun-below _ a n e z) h) P at in
+        let one-more : a ≡ suc (a - 1) = omega arith in
+        ran-by k (r15 (e ∙ one-more) (k .rewrites)) refl
 
 -- one in a run of its body, k runs being still to begin
 pub data InRun : ℕ → Term → Type 0 where
-  in-run : (n k : ℕ) (x : Term) → InRun k (repeat1 n k x)
+  in-run : (n : Number) (k : ℕ) (x : Term) → InRun k (repeat1 n k x)
 
 in-run-of : {t : Term} {k : ℕ} → Shape t repeat-kind 1 → head t .count ≡ k → InRun k t
-in-run-of (is-repeat1 n j x) e = subst (λ (k : ℕ). InRun k (repeat1 n j x)) e (in-run n j x)
+in-run-of (is-repeat1 n j x) e = subst (λ (k : ℕ). InRun k (repeat1 (exactly n) j x)) e (in-run (exactly n) j x)
+
+ext-run-of : {t : Term} {k : ℕ} → Shape t repeat-ext-kind 1 → head t .count ≡ k → InRun k t
+ext-run-of (is-ext1 v m j x) e = subst (λ (k : ℕ). InRun k (repeat1 (asked v m) j x)) e (in-run (asked v m) j x)
 
 pub in-run-by : (t : Term) {k : ℕ} → Times k t → InRun k t
-in-run-by t w = in-run-of (shape-by t (w .0) (w .1)) (w .2)
+in-run-by t (inl e, ph, c) = in-run-of (shape-by t e ph) c
+in-run-by t (inr e, ph, c) = ext-run-of (shape-by t e ph) c
 
 in-phase-1 : {t : Term} {ph : ℕ} → Shape t repeat-kind ph → ph ≢ 3 → ph ≢ 0 → ph ≡ 1
 in-phase-1 (is-repeat1 n j x) a b = refl
 in-phase-1 (is-repeat0 n p) a b = absurd (b refl)
 in-phase-1 (is-done p e) a b = absurd (a refl)
 
+ext-phase-1 : {t : Term} {ph : ℕ} → Shape t repeat-ext-kind ph → ph ≢ 3 → ph ≢ 0 → ph ≡ 1
+ext-phase-1 (is-ext1 v m j x) a b = refl
+ext-phase-1 (is-ext0 v m p) a b = absurd (b refl)
+ext-phase-1 (is-done p e) a b = absurd (a refl)
+
+begun-phase : (t : Term) → Repeating (kind (prog t)) → head t .phase ≢ 3 → head t .phase ≢ 0 → head t .phase ≡ 1
+begun-phase t (inl e) a b = in-phase-1 (shape-by t e refl) a b
+begun-phase t (inr e) a b = ext-phase-1 (shape-by t e refl) a b
+
 no-flags : {t : Term} {k : ℕ} → InRun k t → head t .flags ≡ 0
 no-flags (in-run n k x) = refl
 
 module _ {table : List ℕ} {i : ℕ} {state words row tally : List ℕ} where
   -- the rest of a run, and then what is still due
-  run-then : {n k : ℕ} {x : Term} {P : Place} → Ready 4 table i state words row tally (repeat1 n k x)
+  run-then : {n : Number} {k : ℕ} {x : Term} {P : Place} → Ready 4 table i state words row tally (repeat1 n k x)
       → {s words′ row′ tally′ : List ℕ} → Ran (first P) x words row tally s words′ row′ tally′ TERM
       → {state″ words″ row″ tally″ : List ℕ} {α : Flag} → Ran P (again n k (prog x)) words′ row′ tally′ state″ words″ row″ tally″ α
       → Ran P (repeat1 n k x) words row tally state″ words″ row″ tally″ α
-  run-then h g r = ran-then h g r (r4-repeat (g .rewrites) (r .rewrites))
+  run-then h g r = ran-then h g r (r4-repeat (g .rewrites) (later (g .lengths) (r .rewrites)))
 
-  module _ {t : Term} (w : Kind repeat-kind t) (h : Ready 0 table i state words row tally t) (begun : own-phase state ≢ 0) {k : ℕ}
+  module _ {t : Term} (w : Repeating (kind (prog t)) × (head t .phase ≢ 3)) (h : Ready 0 table i state words row tally t) (begun : own-phase state ≢ 0) {k : ℕ}
       (is : k ≡ word state 2) where
     -- the count is what the bytes say
     pub counts : Times k t
     counts = (
       w .0,
-      in-phase-1 (shape-by t (w .0) refl) (w .1) (λ e. begun (phase-is h ∙ e)),
+      begun-phase t (w .0) (w .1) (λ e. begun (phase-is h ∙ e)),
       sym (is ∙ rw (byte-is h 2 (omega arith), byte-is h 3 (omega arith)) (div-add-mod' (head t .count) 256)),
     )
 
@@ -139,11 +177,11 @@ module _ {table : List ℕ} {i : ℕ} {state words row tally : List ℕ} where
 
   pub times-below : {t : Term} {k : ℕ} → InRun k t → Ready 4 table i state words row tally t → k < 65536
   unfolding Going prog
-  times-below (in-run n k x) h = omega (arith, h .going .0, repeat-below (h .placed))
+  times-below (in-run n k x) h = omega (arith, h .going .0, repeat-below n (h .placed))
 
   module _ {s words′ row′ tally′ : List ℕ} {α : Flag}
       (run : Runs 0 Any table (i + 1) (midOf 4 (length state - 4) state) words row tally s words′ row′ tally′ α) where
-    rest-ran : (n k : ℕ) (x : Term) → Ready 4 table i state words row tally (repeat1 n k x) → (P : Place) → P .node ≡ i
+    rest-ran : (n : Number) (k : ℕ) (x : Term) → Ready 4 table i state words row tally (repeat1 n k x) → (P : Place) → P .node ≡ i
         → Ran (first P) x words row tally s words′ row′ tally′ α
     unfolding Going
     rest-ran n k x h P at = only-ran (repeat-body n k) h (omega arith) (h .wide) (h .going .1) run (first P) (first-at at)
@@ -154,7 +192,7 @@ module _ {table : List ℕ} {i : ℕ} {state words row tally : List ℕ} where
         let o = repeat-body n k in
         back-in o h (only-cut h o) s (omega arith) (ran-long (rest-ran n k x h (at-node i) refl)) 3 (omega arith)
 
-    back : (n k : ℕ) (x : Term) → Ready 4 table i state words row tally (repeat1 n k x)
+    back : (n : Number) (k : ℕ) (x : Term) → Ready 4 table i state words row tally (repeat1 n k x)
         → putMid 4 (length state - 4) state s ≡ own-of state (s ++ [])
     back n k x h = put-back (repeat-body n k) h (only-cut h (repeat-body n k)) (omega arith) s
 
@@ -183,7 +221,7 @@ module _ {table : List ℕ} {i : ℕ} {state words row tally : List ℕ} where
     times-ends (in-run n (suc k) x) h z a l e P at = absurd (omega arith)
 
     -- it has ended, and the next begins
-    next : (n k : ℕ) (x : Term) → Ready 4 table i state words row tally (repeat1 n (suc k) x) → α ≡ TERM
+    next : (n : Number) (k : ℕ) (x : Term) → Ready 4 table i state words row tally (repeat1 n (suc k) x) → α ≡ TERM
         → Ready 4 table i (putMid 4 (length state - 4) state s) words′ row′ tally′ (repeat1 n k (fresh (prog x)))
     unfolding Going prog below pot LoopsStop
     next n k x h z =
@@ -198,9 +236,10 @@ module _ {table : List ℕ} {i : ℕ} {state words row tally : List ℕ} where
 
     pub next-live : {t : Term} {k : ℕ} → InRun k t → Ready 4 table i state words row tally t → α ≡ TERM → k ≢ 0
         → Live 4 (Times (k - 1)) table i (putMid 4 (length state - 4) state s) words′ row′ tally′
-    unfolding prog kind
+    unfolding prog
     next-live (in-run n zero x) h a l = absurd (l refl)
-    next-live (in-run n (suc k) x) h a l = (repeat1 n k (fresh (prog x)), (refl, refl, omega arith), next n k x h a)
+    next-live (in-run n (suc k) x) h a l =
+        (repeat1 n k (fresh (prog x)), (repeating n (prog (fresh (prog x))), refl, omega arith), next n k x h a)
 
     pub next-flags : {t : Term} {k : ℕ} → InRun k t → Ready 4 table i state words row tally t → own-flags state ≡ 0
         → getD (putMid 4 (length state - 4) state s) 1 0 ≡ 0
@@ -212,13 +251,13 @@ module _ {table : List ℕ} {i : ℕ} {state words row tally : List ℕ} where
         → (P : Place)
         → P .node ≡ i
         → Ran P t words row tally state″ words″ row″ tally″ β
-    unfolding prog kind
+    unfolding prog
     times-again (in-run n zero x) h a l then P at = absurd (l refl)
     times-again (in-run n (suc k) x) h a l then P at =
         let g = ran-flag a (rest-ran n (suc k) x h P at) in
-        run-then h g (then (repeat1 n k (fresh (prog x))) (refl, refl, omega arith) (next n k x h a) P at)
+        run-then h g (then (repeat1 n k (fresh (prog x))) (repeating n (prog (fresh (prog x))), refl, omega arith) (next n k x h a) P at)
 
--- before a turn of the loop: the Repeat with `left` runs still to begin can be run, and what that does now is what it does from the entry on
+-- before a turn of the loop: the repetition with `left` runs still to begin can be run, and what that does now is what it does from the entry on
 pub record Turn (table : List ℕ) (i : ℕ) (state₀ words₀ row₀ tally₀ : List ℕ) (k : ℕ) (state words row tally : List ℕ) (left : ℕ) : Type 0 where
   pub live : Live 4 (Times left) table i state words row tally
   pub no-flags-yet : own-flags state ≡ 0

@@ -1,23 +1,26 @@
--- A Repeat, rules 14 and 15 when it begins, 4 and 5 in the rest of a run of its body, over all that is lent.
-use Prim.Native.Nat.{ℕ, zero, suc, _+_, _-_, _*_, _/_, _%_, _≤_, _<_}
+-- A Repeat or a RepeatExt, rules 14 and 15 when it begins, 4 and 5 in the rest of a run of its body, over all that is lent.
+use Prim.Native.Nat.{ℕ, zero, suc, _+_, _-_, _*_, _/_, _%_, _≤_, _<_, min}
 use mathlib.Core.Bool.{cond}
-use mathlib.Core.Path.{_≡_, refl, sym, _∙_}
-use mathlib.Core.Logic.{_≢_}
+use mathlib.Core.Path.{_≡_, refl, ap, sym, subst, _∙_}
+use mathlib.Core.Logic.{_≢_, inl, inr}
 use mathlib.Core.List.{List, _++_}
 use native.Mathlib.Omega.{arith}
 use lib.Dec.{lit<, eqb}
 use lib.ListN.{length, getD, take, drop, set, length-set}
 use borrow.Author.Tests.{eq-eqb, ne-eqb}
 use borrow.Rule.Slice.PartMut.{midOf, putMid}
-use Rattle.junior.specs.Term.{Term}
+use Rattle.junior.specs.Program.{kind}
+use Rattle.junior.specs.Term.{Term, prog}
 use Rattle.table.specs.Records.{word, argumentAt, sizeAt}
-use Rattle.state.specs.Kinds.{repeat-kind}
+use Rattle.table.specs.Spells.{valueIn, capIn}
+use Rattle.state.specs.Kinds.{repeat-kind, repeat-ext-kind}
+use Rattle.state.specs.StateBytes.{head}
 use Rattle.state.proofs.Parts.{own-phase, own-flags}
-use Rattle.steps.specs.Running.{Ready, Live, Any, Kind, Times}
+use Rattle.steps.specs.Running.{Ready, Live, Any, Kind, Repeating, Times, valuesIn}
 use Rattle.steps.proofs.Children.{falling, own-in, unseen}
 use Rattle.runner.proofs.Repeat.{InRun, in-run-by, times-asks, times-below, times-writes, times-waits, times-ends, next-live, next-flags, times-again}
-use Rattle.runner.proofs.Repeat.{unbegun-by, repeat-ends, repeat-asks, repeat-ran, counts, counts-asks}
-use Rattle.steps.specs.Numbers.{wordsOf, tallyOf}
+use Rattle.runner.proofs.Repeat.{Unbegun, repeat-begins, ext-begins, repeat-ends, repeat-asks, repeat-ran, counts, counts-asks}
+use Rattle.steps.specs.Numbers.{wordsOf, tallyOf, places-of-row}
 use Rattle.steps.specs.Kinds.{OfKind}
 use Rattle.steps.specs.Lent.{Lent, lent, Around, Stands, Went, CanRun, HasRun}
 use Rattle.steps.proofs.Context.{byte-at, byte-in, phase-at, put-byte, put-phase, outer}
@@ -147,7 +150,7 @@ module _ {k : ℕ} {table : List ℕ} {i : ℕ} {state m row : List ℕ} where
           → HasRun 4 (Times k) (lent table state m row) i L′ r
       times-then then before part behind o = next-went o run e l then
 
--- before a turn of the loop: the Repeat with `left` runs still to begin can be run, and what that does now is what it does from the entry on
+-- before a turn of the loop: the repetition with `left` runs still to begin can be run, and what that does now is what it does from the entry on
 pub record Turn (L₀ : Lent) (i k : ℕ) (L : Lent) (left : ℕ) : Type 0 where
   pub can : CanRun 4 (Times left) L i
   pub no-flags-yet : getD (L .state) (4 * i + 1) 0 ≡ 0
@@ -163,15 +166,21 @@ next-turn u run e l =
     let (o, z) = times-next run e l (u .can) (u .no-flags-yet) in
     record { can = o; no-flags-yet = z; goes-on = λ then. u .goes-on (times-then run e l then) }
 
--- a Repeat with so many turns to go, the one that is being run counted
+-- a repetition with so many turns to go, the one that is being run counted, a being how often it runs once it begins
+abbrev pub turnsBy : ℕ → ℕ → List ℕ → ℕ
+turnsBy a i state = cond (eqb (getD state (4 * i) 0) 0) a (getD state (4 * i + 2) 0 * 256 + getD state (4 * i + 3) 0 + 1)
+
 abbrev pub turnsAt : List ℕ → ℕ → List ℕ → ℕ
-turnsAt table i state =
-    cond (eqb (getD state (4 * i) 0) 0) (argumentAt table i) (getD state (4 * i + 2) 0 * 256 + getD state (4 * i + 3) 0 + 1)
+turnsAt table i state = turnsBy (argumentAt table i) i state
+
+-- how often a RepeatExt runs once it begins
+abbrev pub timesAsked : List ℕ → ℕ → List ℕ → ℕ
+timesAsked table i tally = min (capIn (argumentAt table i)) (valuesIn tally (valueIn (argumentAt table i)))
 
 module _ {table : List ℕ} {i : ℕ} {state : List ℕ} (on : getD state (4 * i) 0 ≢ 3) {before part behind : List ℕ} (a : Around state i before part behind)
-    {words row tally : List ℕ} {t : Term} (w : OfKind repeat-kind t) (h : Ready 0 table i part words row tally t) where
-  as-repeat : Kind repeat-kind t
-  as-repeat = (w, λ e. on (phase-is a h ∙ e))
+    {words row tally : List ℕ} {t : Term} (h : Ready 0 table i part words row tally t) where
+  no-3 : head t .phase ≢ 3
+  no-3 e = on (phase-is a h ∙ e)
 
   phase-there : getD state (4 * i) 0 ≡ own-phase part
   phase-there = phase-at a (own-in h 0 (lit< tt))
@@ -179,11 +188,11 @@ module _ {table : List ℕ} {i : ℕ} {state : List ℕ} (on : getD state (4 * i
   byte-there : (k : ℕ) → k < 4 → getD state (4 * i + k) 0 ≡ getD part k 0
   byte-there k l = byte-at a k (own-in h k l)
 
-  fresh-turns : getD state (4 * i) 0 ≡ 0 → turnsAt table i state ≡ argumentAt table i
-  fresh-turns z = rw (eq-eqb (getD state (4 * i) 0) 0 z)
+  fresh-turns : (n : ℕ) → getD state (4 * i) 0 ≡ 0 → turnsBy n i state ≡ n
+  fresh-turns n z = rw (eq-eqb (getD state (4 * i) 0) 0 z)
 
-  begun-turns : getD state (4 * i) 0 ≢ 0 → turnsAt table i state ≡ word part 2 + 1
-  begun-turns n = rw (ne-eqb (getD state (4 * i) 0) 0 n, byte-there 2 (lit< tt), byte-there 3 (lit< tt))
+  begun-turns : (n : ℕ) → getD state (4 * i) 0 ≢ 0 → turnsBy n i state ≡ word part 2 + 1
+  begun-turns n z = rw (ne-eqb (getD state (4 * i) 0) 0 z, byte-there 2 (lit< tt), byte-there 3 (lit< tt))
 
 by-zero : {A : Type 0} (n : ℕ) → (n ≡ 0 → A) → (n ≢ 0 → A) → A
 by-zero zero f g = f refl
@@ -195,78 +204,118 @@ less-one e = omega arith
 some-turns : {n : ℕ} (k : ℕ) → n ≡ k + 1 → n ≢ 0
 some-turns k e z = omega arith
 
--- the Repeat that the code finds, by its phase: not begun, or begun
-module _ {table : List ℕ} {i : ℕ} {state : List ℕ} (on : getD state (4 * i) 0 ≢ 3) {m row before part behind : List ℕ}
-    (o : Stands 0 (OfKind repeat-kind) (lent table state m row) i before part behind) {turns : ℕ} (is : turns ≡ turnsAt table i state) where
-  pub none-went : turns ≡ 0 → Went 0 (OfKind repeat-kind) (lent table state m row) i before part behind (lent table state m row) 2
-  none-went z =
-      record {
-        part′ = part;
-        around = o .around;
-        kept = kept-same m;
-        below = lit< tt;
-        runs = λ t w h P at.
-            by-zero (getD state (4 * i) 0)
-            (λ ph.
-            repeat-ends (is ∙ fresh-turns on (o .around) w h ph)
-            (unbegun-by (as-repeat on (o .around) w h) h (sym (phase-there on (o .around) w h) ∙ ph)) h z P)
-            (λ ph. absurd (some-turns _ (is ∙ begun-turns on (o .around) w h ph) z));
-      }
+of-one : {r : ℕ} → Repeating r → (t : Term) → OfKind r t → Repeating (kind (prog t))
+of-one is-one t w = subst Repeating (sym w) is-one
 
-  module _ (some : turns ≢ 0) where
-    in-turn : Live 4 (Times (turns - 1)) table i part (wordsOf m) row (tallyOf m) × (own-flags part ≡ 0)
-    in-turn =
-        let (t, w, h) = o .live in
-        by-zero (getD state (4 * i) 0)
-        (λ ph.
-        repeat-asks (is ∙ fresh-turns on (o .around) w h ph)
-        (unbegun-by (as-repeat on (o .around) w h) h (sym (phase-there on (o .around) w h) ∙ ph)) h some refl .1)
-        (λ ph.
-        counts-asks (as-repeat on (o .around) w h) h (λ e. ph (phase-there on (o .around) w h ∙ e))
-        (less-one (is ∙ begun-turns on (o .around) w h ph)) refl .1)
+-- the repetition, of kind r, that the code finds, by its phase: not begun, when it runs `times` times, or begun
+module _ {r : ℕ} (is-one : Repeating r) {table : List ℕ} {i : ℕ} {state : List ℕ} (on : getD state (4 * i) 0 ≢ 3) {m row : List ℕ} {times : ℕ}
+    (begins : (part : List ℕ) (t : Term) → Kind r t → Ready 0 table i part (wordsOf m) row (tallyOf m) t → own-phase part ≡ 0
+    → Unbegun (valuesIn (tallyOf m)) times t) where
+  module _ {before part behind : List ℕ} (o : Stands 0 (OfKind r) (lent table state m row) i before part behind) {turns : ℕ}
+      (is : turns ≡ turnsBy times i state) where
+    unbegun-here : {t : Term} → OfKind r t → Ready 0 table i part (wordsOf m) row (tallyOf m) t → getD state (4 * i) 0 ≡ 0
+        → Unbegun (valuesIn (tallyOf m)) turns t
+    unbegun-here {t} w h ph =
+        subst (λ n. Unbegun (valuesIn (tallyOf m)) n t) (sym (is ∙ fresh-turns on (o .around) h times ph))
+        (begins part t (w, no-3 on (o .around) h) h (sym (phase-there on (o .around) h) ∙ ph))
 
-    pub turn-stands : Stands 4 (Times (turns - 1)) (lent table state m row) i before part behind
-    turn-stands = record { around = o .around; numbers = o .numbers; live = in-turn .0 }
-
-    pub turn-no-flags : getD state (4 * i + 1) 0 ≡ 0
-    turn-no-flags = let (t, w, h) = o .live in byte-there on (o .around) w h 1 (lit< tt) ∙ in-turn .1
-
-    pub turn-went : {L′ : Lent} {r : ℕ} → HasRun 4 (Times (turns - 1)) (lent table state m row) i L′ r
-        → Went 0 (OfKind repeat-kind) (lent table state m row) i before part behind L′ r
-    turn-went run =
-        let g = run before part behind turn-stands in
+    none-went : turns ≡ 0 → Went 0 (OfKind r) (lent table state m row) i before part behind (lent table state m row) 2
+    none-went z =
         record {
-          part′ = g .part′;
-          around = g .around;
-          kept = g .kept;
-          below = g .below;
+          part′ = part;
+          around = o .around;
+          kept = kept-same m;
+          below = lit< tt;
           runs = λ t w h P at.
               by-zero (getD state (4 * i) 0)
-              (λ ph.
-              repeat-ran (is ∙ fresh-turns on (o .around) w h ph)
-              (unbegun-by (as-repeat on (o .around) w h) h (sym (phase-there on (o .around) w h) ∙ ph)) h some (g .runs) P at)
-              (λ ph.
-              g .runs t
-              (counts (as-repeat on (o .around) w h) h (λ e. ph (phase-there on (o .around) w h ∙ e))
-              (less-one (is ∙ begun-turns on (o .around) w h ph)))
-              (unseen h 4) P at);
+              (λ ph. repeat-ends (unbegun-here w h ph) h z P)
+              (λ ph. absurd (some-turns _ (is ∙ begun-turns on (o .around) h times ph) z));
         }
 
+    module _ (some : turns ≢ 0) where
+      in-turn : Live 4 (Times (turns - 1)) table i part (wordsOf m) row (tallyOf m) × (own-flags part ≡ 0)
+      in-turn =
+          let (t, w, h) = o .live in
+          by-zero (getD state (4 * i) 0)
+          (λ ph. repeat-asks (unbegun-here w h ph) h some refl .1)
+          (λ ph.
+          counts-asks (of-one is-one t w, no-3 on (o .around) h) h (λ e. ph (phase-there on (o .around) h ∙ e))
+          (less-one (is ∙ begun-turns on (o .around) h times ph)) refl .1)
+
+      turn-stands : Stands 4 (Times (turns - 1)) (lent table state m row) i before part behind
+      turn-stands = record { around = o .around; numbers = o .numbers; live = in-turn .0 }
+
+      turn-no-flags : getD state (4 * i + 1) 0 ≡ 0
+      turn-no-flags = let (t, w, h) = o .live in byte-there on (o .around) h 1 (lit< tt) ∙ in-turn .1
+
+      turn-went : {L′ : Lent} {f : ℕ} → HasRun 4 (Times (turns - 1)) (lent table state m row) i L′ f
+          → Went 0 (OfKind r) (lent table state m row) i before part behind L′ f
+      turn-went run =
+          let g = run before part behind turn-stands in
+          record {
+            part′ = g .part′;
+            around = g .around;
+            kept = g .kept;
+            below = g .below;
+            runs = λ t w h P at.
+                by-zero (getD state (4 * i) 0)
+                (λ ph. repeat-ran (unbegun-here w h ph) h some (g .runs) P at)
+                (λ ph.
+                g .runs t
+                (counts (of-one is-one t w, no-3 on (o .around) h) h (λ e. ph (phase-there on (o .around) h ∙ e))
+                (less-one (is ∙ begun-turns on (o .around) h times ph)))
+                (unseen h 4) P at);
+          }
+
 -- the turns that the code reads
+pub turns-by : (i : ℕ) (state : List ℕ) {a b r : ℕ} → a ≡ b
+    → r ≡ cond (eqb (getD state (4 * i) 0) 0) a (getD state (4 * i + 2) 0 * 256 + getD state (4 * i + 2 + 1) 0 + 1)
+    → r ≡ turnsBy b i state
+turns-by i state names e = let n : 4 * i + 2 + 1 ≡ 4 * i + 3 = omega arith in e ∙ rw (names, n)
+
 pub turns-are : (table : List ℕ) (i : ℕ) (state : List ℕ) (a : ℕ) {r : ℕ} → a ≡ argumentAt table i
     → r ≡ cond (eqb (getD state (4 * i) 0) 0) a (getD state (4 * i + 2) 0 * 256 + getD state (4 * i + 2 + 1) 0 + 1)
     → r ≡ turnsAt table i state
-turns-are table i state a names e = let n : 4 * i + 2 + 1 ≡ 4 * i + 3 = omega arith in e ∙ rw (names, n)
+turns-are table i state a names e = turns-by i state names e
 
-module _ {table : List ℕ} {i : ℕ} {state m row : List ℕ} (on : getD state (4 * i) 0 ≢ 3) {turns : ℕ} (is : turns ≡ turnsAt table i state) where
-  pub repeat-none : turns ≡ 0 → HasRun 0 (OfKind repeat-kind) (lent table state m row) i (lent table state m row) 2
-  repeat-none z before part behind o = none-went on o is z
+pub turns-asked : (table : List ℕ) (i : ℕ) (state m : List ℕ) {a b r : ℕ} → a ≡ argumentAt table i
+    → b ≡ min (capIn a) (valuesIn (tallyOf m) (valueIn a))
+    → r ≡ cond (eqb (getD state (4 * i) 0) 0) b (getD state (4 * i + 2) 0 * 256 + getD state (4 * i + 2 + 1) 0 + 1)
+    → r ≡ turnsBy (timesAsked table i (tallyOf m)) i state
+turns-asked table i state m argument times e =
+    turns-by i state (times ∙ ap (λ a. min (capIn a) (valuesIn (tallyOf m) (valueIn a))) argument) e
 
-  module _ (some : turns ≢ 0) where
-    pub repeat-turn : CanRun 0 (OfKind repeat-kind) (lent table state m row) i
-        → CanRun 4 (Times (turns - 1)) (lent table state m row) i × (getD state (4 * i + 1) 0 ≡ 0)
-    repeat-turn (before, part, behind, o) = ((before, part, behind, turn-stands on o is some), turn-no-flags on o is some)
+-- in the words of the needs: a Repeat, a RepeatExt
+module _ {table : List ℕ} {i : ℕ} {state m row : List ℕ} (on : getD state (4 * i) 0 ≢ 3) {turns : ℕ} where
+  module _ (is : turns ≡ turnsAt table i state) where
+    pub repeat-none : turns ≡ 0 → HasRun 0 (OfKind repeat-kind) (lent table state m row) i (lent table state m row) 2
+    repeat-none z before part behind o = none-went (inl refl) on (λ p t w h z. repeat-begins w h z) o is z
 
-    pub repeat-by : {L′ : Lent} {r : ℕ} → HasRun 4 (Times (turns - 1)) (lent table state m row) i L′ r
-        → HasRun 0 (OfKind repeat-kind) (lent table state m row) i L′ r
-    repeat-by run before part behind o = turn-went on o is some run
+    module _ (some : turns ≢ 0) where
+      pub repeat-turn : CanRun 0 (OfKind repeat-kind) (lent table state m row) i
+          → CanRun 4 (Times (turns - 1)) (lent table state m row) i × (getD state (4 * i + 1) 0 ≡ 0)
+      repeat-turn (before, part, behind, o) =
+          ((before, part, behind, turn-stands (inl refl) on (λ p t w h z. repeat-begins w h z) o is some), turn-no-flags (inl refl) on (λ p t w h z. repeat-begins w h z) o is some)
+
+      pub repeat-by : {L′ : Lent} {r : ℕ} → HasRun 4 (Times (turns - 1)) (lent table state m row) i L′ r
+          → HasRun 0 (OfKind repeat-kind) (lent table state m row) i L′ r
+      repeat-by run before part behind o = turn-went (inl refl) on (λ p t w h z. repeat-begins w h z) o is some run
+
+  module _ (is : turns ≡ turnsBy (timesAsked table i (tallyOf m)) i state) where
+    pub ext-none : turns ≡ 0 → HasRun 0 (OfKind repeat-ext-kind) (lent table state m row) i (lent table state m row) 2
+    ext-none z before part behind o = none-went (inr refl) on (λ p t w h z. ext-begins w h z) o is z
+
+    module _ (some : turns ≢ 0) where
+      pub ext-turn : CanRun 0 (OfKind repeat-ext-kind) (lent table state m row) i
+          → CanRun 4 (Times (turns - 1)) (lent table state m row) i × (getD state (4 * i + 1) 0 ≡ 0)
+      ext-turn (before, part, behind, o) =
+          ((before, part, behind, turn-stands (inr refl) on (λ p t w h z. ext-begins w h z) o is some), turn-no-flags (inr refl) on (λ p t w h z. ext-begins w h z) o is some)
+
+      pub ext-by : {L′ : Lent} {r : ℕ} → HasRun 4 (Times (turns - 1)) (lent table state m row) i L′ r
+          → HasRun 0 (OfKind repeat-ext-kind) (lent table state m row) i L′ r
+      ext-by run before part behind o = turn-went (inr refl) on (λ p t w h z. ext-begins w h z) o is some run
+
+-- the row of numbers of what can run
+pub numbers-long : {W : Term → Type 0} {table : List ℕ} {i : ℕ} {state m row : List ℕ} → CanRun 0 W (lent table state m row) i
+    → length m ≡ places-of-row
+numbers-long (before, part, behind, o) = o .numbers .long

@@ -10,10 +10,11 @@ use Rattle.events.specs.Events.{Events}
 use Rattle.junior.specs.declared.Flag.{Flag}
 use Rattle.junior.specs.declared.Flag.the-variants.{TERM}
 use Rattle.junior.specs.Configuration.{Env}
+use Rattle.junior.specs.Values.{Values}
 use Rattle.junior.specs.Program.{Program, Seq, size, kind}
 use Rattle.junior.specs.Term.{Term, seq0, seq2, prog, fresh}
 use Rattle.junior.specs.Trace.{Place, Act, first, second}
-use Rattle.junior.specs.Rules.{left-first, Result, answers, under, after, Rewrites, r4, r4-on, r5, r19-on, r31-on}
+use Rattle.junior.specs.Rules.{left-first, Result, answers, under, after, Rewrites, r4, r4-on, r5, r19-on, r31-on, if-false-on}
 use Rattle.junior.specs.Figures.{LoopsStop, per}
 use Rattle.junior.specs.Inside.{Going, pot}
 use Rattle.junior.proofs.Kept.{prog-fresh}
@@ -26,13 +27,13 @@ use Rattle.table.proofs.Tree.{written}
 use Rattle.state.specs.Kinds.{seq-kind}
 use Rattle.state.specs.StateBytes.{in-phase, zeros, below}
 use Rattle.state.proofs.Parts.{first-of, with-first, rest-of, with-rest, fresh-zeros, own-phase}
-use Rattle.state.proofs.Shape.{Shape, is-done, is-seq0, is-seq2, is-when2, is-until2, is-local, shape-by}
-use Rattle.state.proofs.Frames.{Frame, size-in, seq-first, seq-second, when-second, until-second}
+use Rattle.state.proofs.Shape.{Shape, is-done, is-seq0, is-seq2, is-when2, is-until2, is-if2, is-local, shape-by}
+use Rattle.state.proofs.Frames.{Frame, size-in, seq-first, seq-second, when-second, until-second, if-second}
 use Rattle.steps.specs.Running.{Ready, Ran, Live, Runs, Any, Kind, phaseAfter}
 use Rattle.steps.specs.Kinds.{InSecond}
 use Rattle.steps.proofs.Children.{at-node, falling, first-cut, second-cut, asks, child-ran, next-index}
 use Rattle.steps.proofs.Children.{first-at, second-at, phase-is, next-in-table, till-in}
-use Rattle.steps.proofs.Done.{ready-as, room-after, few, ran-flag, ran-zeros, ran-long, ran-then}
+use Rattle.steps.proofs.Done.{later, ready-as, room-after, few, ran-flag, ran-zeros, ran-long, ran-then}
 use Rattle.steps.proofs.Done.{back-kept, back-long, back-in, own-stays, phase-left, ran-kept, ran-phase}
 
 -- a node x in its second child: its rule there is the child's
@@ -40,17 +41,20 @@ pub data Second : Term → Type 0 where
   in-second : {f : Term → Term} (p : Program) (o : Frame (in-phase 2) (size p) 0 f) (x : Term)
       → ((table : List ℕ) (i : ℕ) → Placed table i (prog (f x)) → sizeAt table (i + 1) ≡ size p)
       → ((X : Events) → Going X (f x) → Going X x)
-      → ((P : Place) (E : Env) (r : Result) → Rewrites left-first (second P p) x E r → Rewrites left-first P (f x) E (under f r))
+      → ((value : Values) (P : Place) (E : Env) (r : Result) → Rewrites (left-first value) (second P p) x E r
+      → Rewrites (left-first value) P (f x) E (under f r))
       → Second (f x)
 
 second-of : {t : Term} {k : ℕ} → Shape t k 2 → Second t
 unfolding Going prog Spells
 second-of (is-seq2 p x) =
-    in-second p (seq-second p) x (λ table i h. written table (i + 1) p (h .spelled .2)) (λ X g. g) (λ P E r d. r4-on d)
+    in-second p (seq-second p) x (λ table i h. written table (i + 1) p (h .spelled .2)) (λ X g. g) (λ value P E r d. r4-on d)
 second-of (is-when2 c p x) =
-    in-second p (when-second c p) x (λ table i h. written table (i + 1) p (h .spelled .2)) (λ X g. g) (λ P E r d. r19-on d)
+    in-second p (when-second c p) x (λ table i h. written table (i + 1) p (h .spelled .2)) (λ X g. g) (λ value P E r d. r19-on d)
 second-of (is-until2 c p x) =
-    in-second p (until-second c p) x (λ table i h. written table (i + 1) p (h .spelled .2)) (λ X g. g) (λ P E r d. r31-on d)
+    in-second p (until-second c p) x (λ table i h. written table (i + 1) p (h .spelled .2)) (λ X g. g) (λ value P E r d. r31-on d)
+second-of (is-if2 v p x) =
+    in-second p (if-second v p) x (λ table i h. written table (i + 1) p (h .spelled .2)) (λ X g. g) (λ value P E r d. if-false-on d)
 second-of (is-local true s x e) = absurd (omega arith)
 second-of (is-local false s x e) = absurd (omega arith)
 
@@ -98,7 +102,7 @@ module _ {table : List ℕ} {i : ℕ} {state words row tally : List ℕ} {n : �
         let r =
         child-ran o h u (omega arith) (ap (λ k. i + 1 + k) e) (h .wide) (g _ (h .going)) run (second P p) (second-at at p e)
         in
-        ran-phase o h u r (r .lengths) (omega arith) refl o (phase-left α 2 ∙ ap in-phase (sym after)) (d _ _ _ (r .rewrites)) refl
+        ran-phase o h u r (r .lengths) (omega arith) refl o (phase-left α 2 ∙ ap in-phase (sym after)) (d _ _ _ _ (r .rewrites)) refl
 
 -- a Seq in its first child
 pub data Seq0 : Term → Type 0 where
@@ -121,10 +125,10 @@ pub first-reads : {table : List ℕ} {i : ℕ} {state words row tally : List ℕ
 first-reads (in-first x q) h = next-in-table (seq-first q) h
 
 -- rule 4, by the rule of the node that has gone over
-seq-over : {P : Place} {x x′ : Term} {q : Program} {E E′ : Env} {l : List Act} {r : Result}
-    → Rewrites left-first (first P) x E (answers TERM x′ E′ l)
-    → Rewrites left-first P (seq2 (prog x) (fresh q)) E′ r
-    → Rewrites left-first P (seq0 x q) E (after l r)
+seq-over : {value : Values} {P : Place} {x x′ : Term} {q : Program} {E E′ : Env} {l : List Act} {r : Result}
+    → Rewrites (left-first value) (first P) x E (answers TERM x′ E′ l)
+    → Rewrites (left-first value) P (seq2 (prog x) (fresh q)) E′ r
+    → Rewrites (left-first value) P (seq0 x q) E (after l r)
 seq-over d (r4-on e) = r4 d e
 
 module _ {table : List ℕ} {i : ℕ} {state words row tally : List ℕ} {n : ℕ} (m : n ≡ sizeAt table (i + 1)) where
@@ -185,4 +189,4 @@ module _ {table : List ℕ} {i : ℕ} {state words row tally : List ℕ} {n : �
     seq-goes-over (in-first x q) h z then P at =
         let g = ran-flag z (first-ran x q h P at) in
         let k = then (seq2 (prog x) (fresh q)) refl (over x q h z) P at in
-        ran-then h g k (seq-over (g .rewrites) (k .rewrites))
+        ran-then h g k (seq-over (g .rewrites) (later (g .lengths) (k .rewrites)))

@@ -13,6 +13,7 @@ use Rattle.junior.specs.declared.Flag.the-variants.{SUSP, STOP}
 use Rattle.junior.specs.declared.Verdict.{Verdict}
 use Rattle.junior.specs.declared.Verdict.the-variants.{Sat, Unsat, Unknown}
 use Rattle.junior.specs.Configuration.{Config, Env, sat, test}
+use Rattle.junior.specs.Values.{Values}
 use Rattle.junior.specs.Program.{Program, Until, size, kind}
 use Rattle.junior.specs.Term.{Term, until0, until*, until2, prog, fresh}
 use Rattle.junior.specs.Trace.{Place, decided, first, collect}
@@ -37,7 +38,7 @@ use Rattle.steps.specs.Running.{HasTest, TestRead}
 use Rattle.steps.proofs.Children.{at-node, falling, first-cut, asks, child-ran, next-index, first-at}
 use Rattle.steps.proofs.Children.{phase-is}
 use Rattle.steps.proofs.Children.{byte-is, own-and-below}
-use Rattle.steps.proofs.Done.{same-lengths, ready-as, room-after, few, ran-flag, ran-alone, ran-by, ran-then}
+use Rattle.steps.proofs.Done.{later, same-lengths, ready-as, room-after, few, ran-flag, ran-alone, ran-by, ran-then}
 use Rattle.steps.proofs.Done.{ran-long}
 use Rattle.steps.proofs.Done.{back-long}
 use Rattle.steps.proofs.Done.{phase-0-left, back-kept, ran-kept}
@@ -115,7 +116,7 @@ module _ {table : List ℕ} {i : ℕ} {state words row tally : List ℕ} {n : �
     until-stops (in-body c x q) h z then P at =
         let g = ran-flag z (body-ran c x q h P at) in
         let k = then (until* c (g .to) q) (refl, refl) (star c x q h z g) P at in
-        ran-then h g k (r30 (g .rewrites) (k .rewrites))
+        ran-then h g k (r30 (g .rewrites) (later (g .lengths) (k .rewrites)))
 
 -- Until*
 pub data Star : Term → Type 0 where
@@ -128,11 +129,11 @@ pub star-by : (t : Term) → Starred t → Star t
 star-by t w = star-of (shape-by t (w .0) (w .1))
 
 -- the handler begins: the test is in front of what it does
-handler-begins : {P : Place} {c : Config} {x : Term} {q : Program} {E : Env} {r : Result}
+handler-begins : {value : Values} {P : Place} {c : Config} {x : Term} {q : Program} {E : Env} {r : Result}
     → sat c E
     → E .eoi ≡ false
-    → Rewrites left-first P (until2 c (prog x) (fresh q)) E r
-    → Rewrites left-first P (until* c x q) E (after (decided P c true E ∷ []) r)
+    → Rewrites (left-first value) P (until2 c (prog x) (fresh q)) E r
+    → Rewrites (left-first value) P (until* c x q) E (after (decided P c true E ∷ []) r)
 handler-begins s e (r31-on d) = r31 s e d
 
 module _ {table : List ℕ} {i : ℕ} {state words row tally : List ℕ} where

@@ -1,22 +1,24 @@
--- A When: testing, rules 17 to 21, and in its then branch.
+-- A When: testing, rules 17 to 21; and a When or an If in its first branch.
 use Prim.Native.Nat.{ℕ, _+_, _-_, _*_, _<_}
 use mathlib.Core.Bool.{true, false}
 use mathlib.Core.Path.{_≡_, refl, ap, sym, _∙_}
-use mathlib.Core.Logic.{_≢_}
+use mathlib.Core.Logic.{_≢_, inl, inr}
 use mathlib.Core.List.{List, [], _∷_, _++_}
 use native.Mathlib.Omega.{arith}
 use lib.Dec.{ltb}
 use lib.ListN.{length, drop, set}
 use borrow.Rule.Slice.PartMut.{midOf, putMid}
+use Rattle.events.specs.Events.{Events}
 use Rattle.junior.specs.declared.Flag.{Flag}
 use Rattle.junior.specs.declared.Flag.the-variants.{SUSP, STOP}
 use Rattle.junior.specs.declared.Verdict.{Verdict}
 use Rattle.junior.specs.declared.Verdict.the-variants.{Sat, Unsat, Unknown}
 use Rattle.junior.specs.Configuration.{Config, Env, sat, unsat, test}
-use Rattle.junior.specs.Program.{Program, When, kind}
+use Rattle.junior.specs.Values.{Values}
+use Rattle.junior.specs.Program.{Program, When, size, kind}
 use Rattle.junior.specs.Term.{Term, when0, when1, when2, prog, fresh}
 use Rattle.junior.specs.Trace.{Place, decided, first, collect}
-use Rattle.junior.specs.Rules.{left-first, Result, after, Rewrites, r17, r17-on, r18, r19, r19-on, r20, r21}
+use Rattle.junior.specs.Rules.{left-first, Result, under, after, Rewrites, r17, r17-on, r18, r19, r19-on, r20, r21, if-true-on}
 use Rattle.junior.specs.Figures.{per}
 use Rattle.junior.specs.Inside.{Going, pot}
 use Rattle.junior.proofs.Kept.{prog-fresh}
@@ -24,11 +26,11 @@ use Rattle.junior.proofs.Going.{rest-going, fresh-at-rest}
 use Rattle.junior.proofs.Figures.{pot-fresh}
 use Rattle.table.specs.Records.{sizeAt}
 use Rattle.table.specs.Spells.{Spells}
-use Rattle.state.specs.Kinds.{when-kind}
+use Rattle.state.specs.Kinds.{when-kind, if-kind}
 use Rattle.state.specs.StateBytes.{in-phase, zeros, below, stateBytes}
 use Rattle.state.proofs.Parts.{fresh-zeros, own-phase}
-use Rattle.state.proofs.Shape.{Shape, is-done, is-when0, is-when1, is-when2, shape-by}
-use Rattle.state.proofs.Frames.{when-first}
+use Rattle.state.proofs.Shape.{Shape, is-done, is-when0, is-when1, is-when2, is-if1, shape-by}
+use Rattle.state.proofs.Frames.{Frame, when-first, if-first}
 use Rattle.steps.specs.Running.{Ready, Ran, Live, Runs, Any, Kind, phaseAfter, envOf, end-declared}
 use Rattle.steps.specs.Kinds.{InSecond, InThen}
 use Rattle.steps.specs.Running.{HasTest, TestRead}
@@ -37,36 +39,47 @@ use Rattle.steps.proofs.Children.{phase-is}
 use Rattle.steps.proofs.Done.{same-lengths, ready-as, ran-alone, ran-by, ran-long, back-in, phase-left, ran-phase}
 use Rattle.steps.proofs.LoadedNode.{when-test}
 
--- a node in its then branch
+-- a node x in its first branch: its rule there is the branch's
 pub data Then : Term → Type 0 where
-  in-then : (c : Config) (x : Term) (q : Program) → Then (when1 c x q)
+  in-then : {f : Term → Term} (q : Program) (o : Frame (in-phase 1) 0 (size q) f) (x : Term)
+      → ((X : Events) → Going X (f x) → Going X x)
+      → ((value : Values) (P : Place) (E : Env) (r : Result) → Rewrites (left-first value) (first P) x E r
+      → Rewrites (left-first value) P (f x) E (under f r))
+      → Then (f x)
 
-then-of : {t : Term} → Shape t when-kind 1 → Then t
-then-of (is-when1 c x q) = in-then c x q
+then-when : {t : Term} → Shape t when-kind 1 → Then t
+unfolding Going
+then-when (is-when1 c x q) = in-then q (when-first c q) x (λ X g. g) (λ value P E r d. r17-on d)
+
+then-if : {t : Term} → Shape t if-kind 1 → Then t
+unfolding Going
+then-if (is-if1 v x q) = in-then q (if-first v q) x (λ X g. g) (λ value P E r d. if-true-on d)
 
 pub then-by : (t : Term) → InThen t → Then t
-then-by t w = then-of (shape-by t (w .0) (w .1))
+then-by t (inl e, p) = then-when (shape-by t e p)
+then-by t (inr e, p) = then-if (shape-by t e p)
 
 module _ {table : List ℕ} {i : ℕ} {state words row tally : List ℕ} {n : ℕ} (m : n ≡ sizeAt table (i + 1)) where
   pub then-asks : {t : Term} → Then t → Ready 1 table i state words row tally t
       → {k : ℕ} (rank : ℕ) → falling table i rank ≡ k
       → (falling table (i + 1) 3 < k) × Live 0 Any table (i + 1) (midOf 4 (4 + 4 * n - 4) state) words row tally
-  unfolding Going
-  then-asks (in-then c x q) h rank falls =
-      asks (when-first c q) h (first-cut h (when-first c q) m) (omega arith) rank falls (next-index i) (h .wide) (h .going)
+  then-asks (in-then q o x g d) h rank falls =
+      asks o h (first-cut h o m) (omega arith) rank falls (next-index i) (h .wide) (g _ (h .going))
 
   module _ {s words′ row′ tally′ : List ℕ} {α : Flag}
       (run : Runs 0 Any table (i + 1) (midOf 4 (4 + 4 * n - 4) state) words row tally s words′ row′ tally′ α) where
-    branch-ran : (c : Config) (x : Term) (q : Program) → Ready 1 table i state words row tally (when1 c x q) → (P : Place) → P .node ≡ i
+    branch-ran : {f : Term → Term} (q : Program) (o : Frame (in-phase 1) 0 (size q) f) (x : Term)
+        → ((X : Events) → Going X (f x) → Going X x)
+        → Ready 1 table i state words row tally (f x)
+        → (P : Place)
+        → P .node ≡ i
         → Ran (first P) x words row tally s words′ row′ tally′ α
-    unfolding Going
-    branch-ran c x q h P at =
-        child-ran (when-first c q) h (first-cut h (when-first c q) m) (omega arith) (next-index i) (h .wide) (h .going) run (first P) (first-at at)
+    branch-ran q o x g h P at =
+        child-ran o h (first-cut h o m) (omega arith) (next-index i) (h .wide) (g _ (h .going)) run (first P) (first-at at)
 
     pub then-writes : {t : Term} → Then t → Ready 1 table i state words row tally t → 0 < length (putMid 4 (4 + 4 * n - 4) state s)
-    then-writes (in-then c x q) h =
-        let g = branch-ran c x q h (at-node i) refl in
-        back-in (when-first c q) h (first-cut h (when-first c q) m) s (omega arith) (ran-long g) 0 (omega arith)
+    then-writes (in-then q o x g d) h =
+        back-in o h (first-cut h o m) s (omega arith) (ran-long (branch-ran q o x g h (at-node i) refl)) 0 (omega arith)
 
     pub then-ran : {t : Term} → Then t → Ready 1 table i state words row tally t
         → {ph : ℕ}
@@ -74,11 +87,10 @@ module _ {table : List ℕ} {i : ℕ} {state words row tally : List ℕ} {n : �
         → (P : Place)
         → P .node ≡ i
         → Ran P t words row tally (set (putMid 4 (4 + 4 * n - 4) state s) 0 ph) words′ row′ tally′ α
-    then-ran (in-then c x q) h after P at =
-        let o = when-first c q in
+    then-ran (in-then q o x g d) h after P at =
         let u = first-cut h o m in
-        let g = branch-ran c x q h P at in
-        ran-phase o h u g (g .lengths) (omega arith) refl o (phase-left α 1 ∙ ap in-phase (sym after)) (r17-on (g .rewrites)) refl
+        let r = branch-ran q o x g h P at in
+        ran-phase o h u r (r .lengths) (omega arith) refl o (phase-left α 1 ∙ ap in-phase (sym after)) (d _ _ _ _ (r .rewrites)) refl
 
 -- a When that tests
 pub data When0 : Term → Type 0 where
@@ -98,18 +110,18 @@ pub when0-by : {table : List ℕ} {i : ℕ} {state words row tally : List ℕ} {
 when0-by {t = t} w h a b = when0-of (shape-by t (w .0) refl) (w .1) (λ e. a (phase-is h ∙ e)) (λ e. b (phase-is h ∙ e))
 
 -- a branch begins: the test is in front of what the branch does
-then-begins : {P : Place} {c : Config} {p q : Program} {E : Env} {r : Result}
+then-begins : {value : Values} {P : Place} {c : Config} {p q : Program} {E : Env} {r : Result}
     → sat c E
     → E .eoi ≡ false
-    → Rewrites left-first P (when1 c (fresh p) q) E r
-    → Rewrites left-first P (when0 c p q) E (after (decided P c true E ∷ []) r)
+    → Rewrites (left-first value) P (when1 c (fresh p) q) E r
+    → Rewrites (left-first value) P (when0 c p q) E (after (decided P c true E ∷ []) r)
 then-begins s e (r17-on d) = r17 s e d
 
-else-begins : {P : Place} {c : Config} {p q : Program} {E : Env} {r : Result}
+else-begins : {value : Values} {P : Place} {c : Config} {p q : Program} {E : Env} {r : Result}
     → unsat c E
     → E .eoi ≡ false
-    → Rewrites left-first P (when2 c p (fresh q)) E r
-    → Rewrites left-first P (when0 c p q) E (after (decided P c false E ∷ []) r)
+    → Rewrites (left-first value) P (when2 c p (fresh q)) E r
+    → Rewrites (left-first value) P (when0 c p q) E (after (decided P c false E ∷ []) r)
 else-begins s e (r19-on d) = r19 s e d
 
 module _ {table : List ℕ} {i : ℕ} {state words row tally : List ℕ} where
@@ -150,7 +162,7 @@ module _ {table : List ℕ} {i : ℕ} {state words row tally : List ℕ} where
 
   pub then-live : {t : Term} → When0 t → Ready 0 table i state words row tally t → Live 1 InThen table i state words row tally
   unfolding kind prog
-  then-live (testing c p q) h = (when1 c (fresh p) q, (refl, refl), then-ready c p q h)
+  then-live (testing c p q) h = (when1 c (fresh p) q, (inl refl, refl), then-ready c p q h)
 
   pub else-live : {t : Term} → When0 t → Ready 0 table i state words row tally t → Live 1 InSecond table i state words row tally
   else-live (testing c p q) h = (when2 c p (fresh q), refl, else-ready c p q h)
@@ -175,7 +187,7 @@ module _ {table : List ℕ} {i : ℕ} {state words row tally : List ℕ} where
         → Ran P t words row tally state′ words′ row′ tally′ α
     unfolding kind prog collect
     then-goes (testing c p q) h e f run P at =
-        let k = run (when1 c (fresh p) q) (refl, refl) (then-ready c p q h) P at in
+        let k = run (when1 c (fresh p) q) (inl refl, refl) (then-ready c p q h) P at in
         ran-by k (then-begins (own-test c p q h e) f (k .rewrites)) refl
 
     pub then-later : {t : Term} → When0 t → Ready 0 table i state words row tally t → v ≡ Sat → ltb 0 (end-declared tally) ≡ true

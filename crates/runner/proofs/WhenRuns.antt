@@ -1,7 +1,7 @@
 -- A When that tests, rules 17 to 21, and one that has gone over into its then branch, over all that is lent.
 use Prim.Native.Nat.{ℕ, _+_, _-_, _*_, _<_}
 use mathlib.Core.Path.{_≡_, refl, _∙_}
-use mathlib.Core.Logic.{_≢_}
+use mathlib.Core.Logic.{_≢_, inl}
 use mathlib.Core.List.{List, _++_}
 use native.Mathlib.Omega.{arith}
 use lib.Dec.{lit<}
@@ -29,7 +29,7 @@ use Rattle.runner.proofs.When.{When0, when0-by, when-has, when-waits, t
 use Rattle.runner.proofs.Falling.{smaller-by}
 use Rattle.runner.proofs.GoesOn.{stands-as, went-as, to-phase, by-phase}
 
--- in its then branch: that runs
+-- in its first branch: that runs
 module _ {table : List ℕ} {i : ℕ} {state m row before part behind : List ℕ}
     (o : Stands 1 InThen (lent table state m row) i before part behind) where
   abbrev n : ℕ
@@ -92,11 +92,11 @@ module _ {table : List ℕ} {i : ℕ} {state m row : List ℕ} where
 -- a When that has gone over into it
 module _ {table : List ℕ} {i : ℕ} {state m row : List ℕ} (gone-over : getD state (4 * i) 0 ≡ 1) where
   pub to-then : CanRun 0 (OfKind when-kind) (lent table state m row) i → CanRun 1 InThen (lent table state m row) i
-  to-then o = to-phase (λ t k p. (k, p)) gone-over o
+  to-then o = to-phase (λ t k p. (inl k, p)) gone-over o
 
   pub by-then : {L′ : Lent} {r : ℕ} → HasRun 1 InThen (lent table state m row) i L′ r
       → HasRun 0 (OfKind when-kind) (lent table state m row) i L′ r
-  by-then run = by-phase (λ t k p. (k, p)) gone-over run
+  by-then run = by-phase (λ t k p. (inl k, p)) gone-over run
 
 -- one that tests
 module _ {table : List ℕ} {i : ℕ} {state : List ℕ} (on : getD state (4 * i) 0 ≢ 3) (no-then : getD state (4 * i) 0 ≢ 1)

@@ -5,7 +5,7 @@ ghost use mathlib.Core.Path.{_≡_};
 ghost use Prim.Native.Nat.{_+_, _*_};
 ghost use lib.ListN.{getD};
 ghost use Rattle.table.specs.Records.{kindAt};
-ghost use Rattle.state.specs.Kinds.{seq-kind, loop-kind, repeat-kind, when-kind, until-kind, control-kind, local-kind};
+ghost use Rattle.state.specs.Kinds.{seq-kind, loop-kind, repeat-kind, when-kind, until-kind, control-kind, local-kind, if-kind, repeat-ext-kind};
 ghost use Rattle.steps.specs.Running.{Any, Times};
 ghost use Rattle.steps.specs.Kinds.{all-seen, phase-unseen, own-unseen, OfKind, BothSuspended, NotBoth};
 ghost use Rattle.steps.specs.Kinds.{Others, InSecond, InThen, Beginning, Starred};
@@ -33,6 +33,8 @@ use steps::leaves::test_rank;
 use steps::numbers::ENDED;
 use steps::numbers::NUMBERS;
 use steps::numbers::exchange_event;
+use steps::numbers::times_asked;
+use steps::numbers::value_of;
 use steps::phases::BEGUN;
 use steps::phases::COUNT;
 use steps::phases::FLAGS;
@@ -110,6 +112,8 @@ fn run_other(
         kinds::WHEN => run_when(table, i, state, numbers, atoms),
         kinds::UNTIL => run_until(table, i, state, numbers, atoms),
         kinds::CONTROL => run_control(table, i, state, numbers, atoms),
+        kinds::IF => run_if(table, i, state, numbers, atoms),
+        kinds::REPEAT_EXT => run_repeat_ext(table, i, state, numbers, atoms),
         _ => run_local(table, i, state, numbers, atoms),
     }
 }
@@ -217,7 +221,7 @@ fn run_seq(
     g
 }
 
-// A Seq, When or Until that has gone over, or now goes over, into its second child: phase 2 until that ends.
+// A Seq, When, Until or If that has gone over, or now goes over, into its second child: phase 2 until that ends.
 fn run_second(
     table: &&[u8],
     i: usize,
@@ -341,7 +345,51 @@ fn run_repeat(
     run_times(table, i, state, numbers, atoms, left)
 }
 
-// The rest of the body of a Repeat by rules 4 and 5, k runs being still to begin.
+// A RepeatExt: how often it runs is asked of the box when it begins (001, "Extended Repeat"); from then on it is a Repeat.
+fn run_repeat_ext(
+    table: &&[u8],
+    i: usize,
+    state: &mut &mut [u8],
+    numbers: &mut [u64; NUMBERS],
+    atoms: &mut &mut [u16],
+) -> u8
+    requires { ⌜ CanRun all-seen (OfKind repeat-ext-kind) (held table state numbers atoms) i ⌝ }
+    ensures { λ r.
+        ⌜ HasRun all-seen (OfKind repeat-ext-kind) (held (table .entry) (state .entry) (numbers .entry) (atoms .entry)) i
+        (held (table .exit) (state .exit) (numbers .exit) (atoms .exit)) r ⌝ }
+    ensures { λ r. ⌜ Named (now (state .entry)) (now (state .exit)) (now (atoms .entry)) (now (atoms .exit)) ⌝ }
+{
+    let phase = state[4 * i];
+    if phase == GONE {
+        state[4 * i] = 0;
+        return TERM;
+    }
+    let turns = turns_of(
+        phase,
+        times_asked(numbers, argument_at(*table, i)),
+        state[4 * i + COUNT],
+        state[4 * i + COUNT + 1],
+    );
+    if turns == 0 {
+        return TERM;
+    }
+    let left = turns - 1;
+    if kind_at(*table, i + 1) == kinds::REPEAT_EXT {
+        let f = run_repeat_ext(table, i + 1, state, numbers, atoms);
+        if f != TERM {
+            begin_turn(*state, 4 * i, left);
+            return f;
+        }
+        if left == 0 {
+            end_turns(*state, 4 * i);
+            return TERM;
+        }
+        return run_times(table, i, state, numbers, atoms, left - 1);
+    }
+    run_times(table, i, state, numbers, atoms, left)
+}
+
+// The rest of the body of a Repeat or a RepeatExt by rules 4 and 5, k runs being still to begin.
 fn run_times(
     table: &&[u8],
     i: usize,
@@ -373,7 +421,7 @@ fn run_times(
     }
 }
 
-// Runs node i, the body of a Repeat, once. Its kind is read once for all turns, and a Nothing costs no call.
+// Runs node i, the body of a Repeat or a RepeatExt, once. Its kind is read once for all turns, and a Nothing costs no call.
 fn run_turn(
     table: &&[u8],
     i: usize,
@@ -452,7 +500,43 @@ fn run_when(
     STOP
 }
 
-// A When that has gone over, or now goes over, into its then branch.
+// 001, "Boolean Test": the branch is chosen when the If is reached, and runs at once.
+fn run_if(
+    table: &&[u8],
+    i: usize,
+    state: &mut &mut [u8],
+    numbers: &mut [u64; NUMBERS],
+    atoms: &mut &mut [u16],
+) -> u8
+    requires { ⌜ CanRun all-seen (OfKind if-kind) (held table state numbers atoms) i ⌝ }
+    ensures { λ r.
+        ⌜ HasRun all-seen (OfKind if-kind) (held (table .entry) (state .entry) (numbers .entry) (atoms .entry)) i
+        (held (table .exit) (state .exit) (numbers .exit) (atoms .exit)) r ⌝ }
+    ensures { λ r. ⌜ Named (now (state .entry)) (now (state .exit)) (now (atoms .entry)) (now (atoms .exit)) ⌝ }
+{
+    let phase = state[4 * i];
+    if phase == GONE {
+        state[4 * i] = 0;
+        return TERM;
+    }
+    if phase == THEN {
+        if kind_at(*table, i + 1) == kinds::IF {
+            let f = run_if(table, i + 1, state, numbers, atoms);
+            state[4 * i] = phase_after(f, THEN);
+            return f;
+        }
+        return run_then(table, i, state, numbers, atoms);
+    }
+    if phase == SECOND {
+        return run_second(table, i, state, numbers, atoms);
+    }
+    if value_of(numbers, argument_at(*table, i)) == 0 {
+        return run_second(table, i, state, numbers, atoms);
+    }
+    run_then(table, i, state, numbers, atoms)
+}
+
+// A When or an If that has gone over, or now goes over, into its first branch.
 fn run_then(
     table: &&[u8],
     i: usize,

@@ -8,7 +8,7 @@ use lib.Dec.{eqb, ltb, leb}
 use borrow.Author.Tests.{eqb-true, eqb-false, ne-eqb, ltb-true, ltb-false, leb-true, leb-false}
 use Rattle.scanner.specs.declared.scan.Tally.{Tally}
 use Rattle.form.specs.Made.{larger}
-use Rattle.form.specs.Inside.Machine.{endByte, event, plain, Stack, name}
+use Rattle.form.specs.Inside.Machine.{End, endByte, event, plain, value, cap, Stack, name}
 use Rattle.form.specs.Inside.Machine.{joint, tail}
 use Rattle.form.specs.Inside.Counted.{Counts, counts, a-node, a-test, counted}
 use Rattle.form.specs.Inside.Rows.{codeAt, codes, inName, firstName}
@@ -46,10 +46,17 @@ event-to n k = rw (larger-by (k .events) n) (go (ltb (k .events) n))
     go true = refl
     go false = refl
 
+-- a number that is no event's counts nothing
+no-event : (s t : Bool) (v b : ℕ) (e : End) (σ : Stack) (k : Counts) → counted (tail (cond s plain (cond t value cap)) v e ∷ σ) b k ≡ k
+unfolding counted
+no-event true t v b e σ k = refl
+no-event false true v b e σ k = refl
+no-event false false v b e σ k = refl
+
 counts-number : (p v b : ℕ) (σ : Stack) (k : Tally) → isEnd (codeAt p) ≡ true
     → counted (held p (suc v) ++ σ) b (countsOf k) ≡ countsOf (tallyNumber p (suc v) b k)
 unfolding held counted tallyNumber
-counts-number p v b σ k e = go (eqb (codeAt (p - 1)) 139) (eqb b (codeAt p)) refl
+counts-number p v b σ k e = go (ltb (codeAt (p - 1)) 139) (eqb b (codeAt p)) refl
   where
     z : endByte (ending (codeAt p)) ≡ codeAt p
     z = end-known (codeAt p) e .0
@@ -58,12 +65,13 @@ counts-number p v b σ k e = go (eqb (codeAt (p - 1)) 139) (eqb b (codeAt p)) re
     τ = syms true (codes p) ++ σ
 
     go : (s t : Bool) → eqb b (codeAt p) ≡ t
-        → counted (tail (cond s plain event) v (ending (codeAt p)) ∷ τ) b (countsOf k)
-        ≡ countsOf (cond t (cond s k (eventTo (suc v) k)) k)
-    go true true f = refl
-    go true false f = refl
-    go false true f = rw (z, f) (sym (event-to (suc v) k))
-    go false false f = rw (z, f) refl
+        → counted (tail (cond s event (cond (eqb (codeAt (p - 1)) 139) plain (cond (eqb (codeAt (p - 1)) 140) value cap))) v (ending (codeAt p)) ∷ τ) b
+        (countsOf k)
+        ≡ countsOf (cond t (cond s (eventTo (suc v) k) k) k)
+    go true true f = rw (z, f) (sym (event-to (suc v) k))
+    go true false f = rw (z, f) refl
+    go false true f = no-event (eqb (codeAt (p - 1)) 139) (eqb (codeAt (p - 1)) 140) v b (ending (codeAt p)) τ (countsOf k)
+    go false false f = no-event (eqb (codeAt (p - 1)) 139) (eqb (codeAt (p - 1)) 140) v b (ending (codeAt p)) τ (countsOf k)
 
 -- a code that counts nothing
 none-counted : (x b : ℕ) (k : Tally) → (x ≡ 128 → ⊥) → (x ≡ 133 → ⊥) → (x ≡ 134 → ⊥) → (x ≡ 136 → ⊥) → tallyCode x b k ≡ k

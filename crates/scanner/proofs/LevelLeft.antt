@@ -11,7 +11,7 @@ use Rattle.scanner.specs.declared.levels.Level.{Level}
 use Rattle.scanner.specs.declared.levels.Level.the-variants.{Top, Several, Branches, Test, One}
 use Rattle.scanner.specs.declared.scan.Place.{Place}
 use Rattle.form.specs.Inside.Machine.{Stack}
-use Rattle.form.specs.Inside.Rows.{formRow, kinds, codeAt, nameEnd, codes}
+use Rattle.form.specs.Inside.Rows.{formRow, formCount, codeAt, nameEnd, codes}
 use Rattle.scanner.specs.Rules.{held}
 use Rattle.scanner.specs.Levels.{found, around, levelIn, levelFrom, levelOf, levelAt, restOf, outerAt, restAt, Under, top}
 use Rattle.scanner.specs.Levels.{level}
@@ -158,7 +158,7 @@ from-not-top (suc n) k a b =
 
 not-top : (a b : ℕ) → isTop (levelOf a b) ≡ false
 unfolding levelOf
-not-top a b = either-not-top (ltb b 97) Test (levelFrom kinds 0 a b) refl (from-not-top kinds 0 a b)
+not-top a b = either-not-top (ltb b 97) Test (levelFrom formCount 0 a b) refl (from-not-top formCount 0 a b)
 
 top-is : (t : List ℕ) (o : ℕ) → isTop (levelAt t o) ≡ true → o ≡ 0
 unfolding levelAt

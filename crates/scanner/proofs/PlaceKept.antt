@@ -8,7 +8,7 @@ use native.Mathlib.Omega.{arith}
 use lib.Dec.{eqb, ltb, leb}
 use lib.ListN.{getD}
 use borrow.Author.Tests.{eqb-true, eqb-false, eq-eqb, ne-eqb, lt-ltb, le-ltb, lt-leb, leb-false}
-use Rattle.form.specs.Inside.Rows.{codeAt, rowAt, formRow, kinds, codes, same, inName, firstName, placeFrom}
+use Rattle.form.specs.Inside.Rows.{codeAt, rowAt, formRow, formCount, codes, same, inName, firstName, placeFrom}
 use Rattle.form.proofs.ComputedTests.{both}
 use Rattle.form.proofs.NamesRead.{codes-more, name-code, name-letter, name-from, edge, agree-at, Found, found, read-other}
 use Rattle.scanner.specs.declared.rules.Turn.{Turn}
@@ -193,7 +193,7 @@ sits-as {p} {h} {b} a (sits-test e u) = absurd (u .no-head (a .heads-there))
 sits-as {p} {h} {b} a (sits-out e u) = absurd (u .no-head (a .heads-there))
 
 -- the same letters before two places
-module _ (p b q : ℕ) (l : firstName ≤ p) (o : Found (formRow 0) kinds p b q) where
+module _ (p b q : ℕ) (l : firstName ≤ p) (o : Found (formRow 0) formCount p b q) where
   abbrev k : ℕ
   k = p % 20
 
@@ -255,12 +255,12 @@ sits-other p b h n = rw (le-ltb p firstName l) (go (eqb q 0) refl)
     l = name-from p h
 
     q : ℕ
-    q = placeFrom kinds (formRow 0) p b
+    q = placeFrom formCount (formRow 0) p b
 
     go : (s : Bool) → eqb q 0 ≡ s → Sits p b (cond s Dead (cond (eqb b 40) (Opens (suc q)) (On (suc q) 0)))
     go true e = sits-dead
     go false e =
-        let o = found kinds (formRow 0) p b (eqb-false q 0 e) in
+        let o = found formCount (formRow 0) p b (eqb-false q 0 e) in
         let r = read-other p b q h o in
         let c = r .code-is in
         let m = name-letter q (r .in-name) in

@@ -6,7 +6,7 @@ use native.Mathlib.Omega.{arith}
 use lib.Dec.{eqb, ltb, leb}
 use borrow.Author.Tests.{eqb-true, eqb-false, ne-eqb, eq-eqb, le-ltb, lt-ltb, le-leb, leb-true, ltb-true, ltb-false}
 use Rattle.form.specs.Inside.Rows.{codeAt, codes, inName, firstName}
-use Rattle.form.specs.Inside.Machine.{Number, event, plain, isDigit, grown, limit, sortOf}
+use Rattle.form.specs.Inside.Machine.{Number, event, plain, value, cap, isDigit, grown, limit, sortOf}
 use Rattle.form.proofs.ComputedTests.{both}
 use Rattle.form.proofs.Digits.{digit-is}
 use Rattle.form.proofs.NamesRead.{codes-more}
@@ -174,6 +174,8 @@ goes-on p v b (e, s, m) d h =
 limit-low : (n : Number) (x : ℕ) → x ≤ limit n → x ≤ 65535
 limit-low event x h = omega arith
 limit-low plain x h = h
+limit-low value x h = omega arith
+limit-low cap x h = omega arith
 
 sits-number : (p v b : ℕ) → Numbered p (suc v) → Sits p b (numberTurn p v b)
 unfolding numberTurn

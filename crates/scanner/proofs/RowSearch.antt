@@ -6,7 +6,7 @@ use mathlib.Core.Path.{_≡_, refl}
 use native.Mathlib.Omega.{arith}
 use lib.Dec.{eqb, ltb}
 use borrow.Author.Tests.{eq-eqb, ne-eqb}
-use Rattle.form.specs.Inside.Rows.{rowAt, formRow, kinds, codeAt, nameEnd, agree, placeFrom}
+use Rattle.form.specs.Inside.Rows.{rowAt, formRow, formCount, codeAt, nameEnd, agree, placeFrom}
 use Rattle.scanner.specs.declared.levels.Level.the-variants.{One}
 use Rattle.scanner.specs.Levels.{levelIn, levelFrom}
 use Rattle.scanner.specs.Turns.{literalTurn, symbolTurn, numberTurn, turnOf}
@@ -39,34 +39,34 @@ module _ (p b r : ℕ) where
   abbrev on-here : Bool
   on-here = eqb b (codeAt (rowAt r + p % 20)) && agree (p % 20) (p - p % 20) (rowAt r)
 
-  pub place-here : r < formRow kinds → on-here ≡ true → placeFrom (formRow kinds - r) r p b ≡ rowAt r + p % 20
+  pub place-here : r < formRow formCount → on-here ≡ true → placeFrom (formRow formCount - r) r p b ≡ rowAt r + p % 20
   unfolding placeFrom
-  place-here h e = rw (one-fewer (formRow kinds) r h, e)
+  place-here h e = rw (one-fewer (formRow formCount) r h, e)
 
-  pub place-next : r < formRow kinds → on-here ≡ false → placeFrom (formRow kinds - r) r p b ≡ placeFrom (formRow kinds - suc r) (suc r) p b
+  pub place-next : r < formRow formCount → on-here ≡ false → placeFrom (formRow formCount - r) r p b ≡ placeFrom (formRow formCount - suc r) (suc r) p b
   unfolding placeFrom
-  place-next h e = rw (one-fewer (formRow kinds) r h, e)
+  place-next h e = rw (one-fewer (formRow formCount) r h, e)
 
-  pub place-none : formRow kinds ≤ r → placeFrom (formRow kinds - r) r p b ≡ 0
+  pub place-none : formRow formCount ≤ r → placeFrom (formRow formCount - r) r p b ≡ 0
   unfolding placeFrom
-  place-none h = rw (none-left (formRow kinds) r h)
+  place-none h = rw (none-left (formRow formCount) r h)
 
 -- form by form
 module _ (a b k : ℕ) where
   abbrev told-here : Bool
   told-here = eqb b (codeAt (nameEnd (formRow k) - 2)) && eqb a (codeAt (nameEnd (formRow k) - 3))
 
-  pub level-here : k < kinds → told-here ≡ true → levelFrom (kinds - k) k a b ≡ levelIn (nameEnd (formRow k))
+  pub level-here : k < formCount → told-here ≡ true → levelFrom (formCount - k) k a b ≡ levelIn (nameEnd (formRow k))
   unfolding levelFrom
-  level-here h e = rw (one-fewer kinds k h, e)
+  level-here h e = rw (one-fewer formCount k h, e)
 
-  pub level-next : k < kinds → told-here ≡ false → levelFrom (kinds - k) k a b ≡ levelFrom (kinds - suc k) (suc k) a b
+  pub level-next : k < formCount → told-here ≡ false → levelFrom (formCount - k) k a b ≡ levelFrom (formCount - suc k) (suc k) a b
   unfolding levelFrom
-  level-next h e = rw (one-fewer kinds k h, e)
+  level-next h e = rw (one-fewer formCount k h, e)
 
-  pub level-none : kinds ≤ k → levelFrom (kinds - k) k a b ≡ One
+  pub level-none : formCount ≤ k → levelFrom (formCount - k) k a b ≡ One
   unfolding levelFrom
-  level-none h = rw (none-left kinds k h)
+  level-none h = rw (none-left formCount k h)
 
 pub turn-number : (p v b : ℕ) → 0 < v → turnOf p v b ≡ numberTurn p (v - 1) b
 unfolding turnOf

@@ -7,7 +7,7 @@ use native.Mathlib.Omega.{arith}
 use lib.Dec.{eqb, ltb}
 use lib.ListN.{getD}
 use borrow.Author.Tests.{eqb-true, eqb-false, ne-eqb, lt-ltb, le-ltb, le-leb, ltb-false}
-use Rattle.form.specs.Inside.Rows.{codeAt, formRow, kinds, codes, inName, firstName, placeFrom}
+use Rattle.form.specs.Inside.Rows.{codeAt, formRow, formCount, codes, inName, firstName, placeFrom}
 use Rattle.form.specs.Inside.Machine.{close, endByte, Number, event, byte, prog, name, parts, conf, inner, space, joint}
 use Rattle.form.specs.Inside.Machine.{num, tail, isDigit, ending, sortOf, syms, Stack, choose, step}
 use Rattle.form.proofs.ComputedTests.{same-list}
@@ -33,8 +33,8 @@ unfolding otherTurn
 other-dead p b o z n = go (ltb p firstName) refl
   where
     go : (s : Bool) → ltb p firstName ≡ s
-        → cond s Dead (cond (eqb (placeFrom kinds (formRow 0) p b) 0) Dead
-        (cond (eqb b 40) (Opens (suc (placeFrom kinds (formRow 0) p b))) (On (suc (placeFrom kinds (formRow 0) p b)) 0)))
+        → cond s Dead (cond (eqb (placeFrom formCount (formRow 0) p b) 0) Dead
+        (cond (eqb b 40) (Opens (suc (placeFrom formCount (formRow 0) p b))) (On (suc (placeFrom formCount (formRow 0) p b)) 0)))
         ≡ Dead
     go true e = refl
     go false e = rw (sole p b o (ltb-false p firstName e) z n)

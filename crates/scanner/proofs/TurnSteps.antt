@@ -6,7 +6,7 @@ use mathlib.Core.List.{[], _∷_, _++_}
 use native.Mathlib.Omega.{arith}
 use lib.Dec.{eqb, ltb, leb}
 use borrow.Author.Tests.{eqb-true, eqb-false, eq-eqb, ne-eqb, le-ltb, lt-leb, ltb-true, ltb-false}
-use Rattle.form.specs.Inside.Rows.{codeAt, formRow, kinds, codes, inName, firstName, placeFrom, placeOf}
+use Rattle.form.specs.Inside.Rows.{codeAt, formRow, formCount, codes, inName, firstName, placeFrom, placeOf}
 use Rattle.form.specs.Inside.Machine.{prog, name, parts, joint, tail, conf, close, byte}
 use Rattle.form.specs.Inside.Machine.{End, comma, space, endByte, Number, isDigit, grown, limit, ending, sortOf, last, syms, Stack}
 use Rattle.form.specs.Inside.Machine.{choose, step}
@@ -46,7 +46,7 @@ literal-name p b h l =
     rw (ne-eqb (codeAt p) 0 (name-code p h), le-ltb p firstName l) (go (eqb b (codeAt p)) refl (eqb b 41) refl)
   where
     r : ℕ
-    r = placeFrom kinds (formRow 0) p b
+    r = placeFrom formCount (formRow 0) p b
 
     go : (s : Bool) → eqb b (codeAt p) ≡ s → (t : Bool) → eqb b 41 ≡ t
         → cond s (cond (eqb b 40) (Opens (suc p)) (cond t Out (On (suc p) 0)))

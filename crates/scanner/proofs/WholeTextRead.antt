@@ -107,7 +107,7 @@ few-code x b k =
 few-number : (p n b : ℕ) (k : Tally) → Few k (tallyNumber p n b k)
 unfolding tallyNumber
 few-number p n b k =
-    few-cond k (eqb b (codeAt p)) _ _ (few-cond k (eqb (codeAt (p - 1)) 139) _ _ (few-same k) (few-event k n)) (few-same k)
+    few-cond k (eqb b (codeAt p)) _ _ (few-cond k (ltb (codeAt (p - 1)) 139) _ _ (few-event k n) (few-same k)) (few-same k)
 
 few-more : (p n b : ℕ) (k : Tally) → Few k (tallyAt p n b k)
 unfolding tallyAt

@@ -7,7 +7,7 @@ use lib.ListN.{getD}
 use Rattle.scanner.specs.declared.levels.Bracket.{Bracket}
 use Rattle.scanner.specs.declared.levels.Level.{Level}
 use Rattle.scanner.specs.declared.levels.Level.the-variants.{Top, Several, Branches, Test, One}
-use Rattle.form.specs.Inside.Rows.{codeAt, rowAt, wordRow, formRow, kinds, nameEnd}
+use Rattle.form.specs.Inside.Rows.{codeAt, rowAt, wordRow, formRow, formCount, nameEnd}
 use Rattle.form.specs.Inside.Machine.{Stack}
 use Rattle.scanner.specs.Rules.{held}
 
@@ -51,7 +51,7 @@ levelFrom (suc n) k before last =
 -- the level of a bracket behind these two bytes: a form's name ends with a small letter
 unfoldable pub levelOf : ℕ → ℕ → Level
 unfolding levelFrom
-levelOf before last = cond (ltb last 97) Test (levelFrom kinds 0 before last)
+levelOf before last = cond (ltb last 97) Test (levelFrom formCount 0 before last)
 
 unfoldable pub levelAt : List ℕ → ℕ → Level
 unfolding levelOf

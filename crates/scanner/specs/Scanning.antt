@@ -60,7 +60,7 @@ tallyCode x b k =
 -- what it adds within a number that is n - 1 so far
 unfoldable pub tallyNumber : ℕ → ℕ → ℕ → Tally → Tally
 unfolding codeAt
-tallyNumber p n b k = cond (eqb b (codeAt p)) (cond (eqb (codeAt (p - 1)) 139) k (eventTo n k)) k
+tallyNumber p n b k = cond (eqb b (codeAt p)) (cond (ltb (codeAt (p - 1)) 139) (eventTo n k) k) k
 
 unfoldable pub tallyAt : ℕ → ℕ → ℕ → Tally → Tally
 unfolding codeAt tallyCode tallyNumber

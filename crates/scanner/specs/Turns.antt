@@ -5,7 +5,7 @@ use mathlib.Core.List.{_++_}
 use lib.Dec.{eqb, ltb, leb}
 use Rattle.scanner.specs.declared.rules.Turn.{Turn}
 use Rattle.scanner.specs.declared.rules.Turn.the-variants.{Dead, On, Opens, Into, Out}
-use Rattle.form.specs.Inside.Rows.{codeAt, rowAt, wordRow, formRow, kinds, firstName, placeFrom}
+use Rattle.form.specs.Inside.Rows.{codeAt, rowAt, wordRow, formRow, formCount, firstName, placeFrom}
 use Rattle.form.specs.Inside.Machine.{isDigit, grown, limit, sortOf, Stack, Next, dead, on}
 use Rattle.scanner.specs.Rules.{behind-j, behind-bracket, behind-n, behind-a, behind-o, behind-comma, held}
 
@@ -13,7 +13,7 @@ use Rattle.scanner.specs.Rules.{behind-j, behind-bracket, behind-n, behi
 unfoldable pub otherTurn : ℕ → ℕ → Turn
 unfolding placeFrom
 otherTurn p b =
-    let q = placeFrom kinds (formRow 0) p b in
+    let q = placeFrom formCount (formRow 0) p b in
     cond (ltb p firstName) Dead (cond (eqb q 0) Dead (cond (eqb b 40) (Opens (suc q)) (On (suc q) 0)))
 
 unfoldable pub literalTurn : ℕ → ℕ → Turn

@@ -9,7 +9,7 @@ ghost use Rattle.scanner.specs.Levels.{isOpen, nested, spaced, around, l
 ghost use Rattle.scanner.specs.Levels.{outerAt, restAt};
 use form::names::FIRST_FORM;
 use form::names::FIRST_WORD;
-use form::names::KINDS;
+use form::names::FORMS;
 use form::names::LONG;
 use form::names::PARTS;
 use form::names::PROGRAM;
@@ -145,7 +145,7 @@ fn level_behind(names: &[u8; LONG], before: u8, last: u8) -> Level
         return Level::Test;
     }
     let mut k = 0;
-    while k < KINDS {
+    while k < FORMS {
         let end = name_end(names, FIRST_FORM + k);
         if ends_so(names, end, before, last) {
             return level_in(names, end);

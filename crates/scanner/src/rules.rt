@@ -3,7 +3,7 @@ ghost use Prim.Native.Nat.{_+_, _-_, _%_, _<_, _≤_};
 ghost use mathlib.Core.Bool.{_&&_};
 ghost use mathlib.Core.Path.{_≡_};
 ghost use lib.Dec.{eqb};
-ghost use Rattle.form.specs.Inside.Rows.{TheNames, rowAt, formRow, kinds, long, codeAt, agree, placeFrom};
+ghost use Rattle.form.specs.Inside.Rows.{TheNames, rowAt, formRow, formCount, long, codeAt, agree, placeFrom};
 ghost use Rattle.form.specs.Inside.Machine.{limit, sortOf};
 ghost use Rattle.scanner.specs.Turns.{otherTurn, literalTurn, digitTurn, testTurn, innerTurn, partsTurn, jointTurn};
 ghost use Rattle.scanner.specs.Turns.{symbolTurn, numberTurn, turnOf};
@@ -13,8 +13,8 @@ use form::is_digit;
 use form::names::EVENT;
 use form::names::FIRST_FORM;
 use form::names::FIRST_WORD;
+use form::names::FORMS;
 use form::names::INNER;
-use form::names::KINDS;
 use form::names::LONG;
 use form::names::NAME;
 use form::names::NUMBER;
@@ -22,6 +22,7 @@ use form::names::PARTS;
 use form::names::PROGRAM;
 use form::names::ROW;
 use form::names::TEST;
+use form::names::VALUE;
 use form::names::code;
 
 // Where the first form's name begins; and where the table goes on behind the J of a program, the bracket of a configuration, the n of a
@@ -40,8 +41,12 @@ const BEHIND_O: usize = ROW * (FIRST_WORD + 3) + 1;
 
 const BEHIND_COMMA: usize = ROW * (FIRST_FORM + 3) + 6;
 
-// The largest number of an event, and of anything else.
+// The largest number of an event, of a value, of a cap, and of anything else.
 const LARGEST_EVENT: usize = EventSet::PLACES - 1;
+
+const LARGEST_VALUE: usize = 15;
+
+const LARGEST_CAP: usize = 255;
 
 const LARGEST: usize = 65535;
 
@@ -85,7 +90,7 @@ fn same_codes(names: &[u8; LONG], a: usize, c: usize, n: usize) -> bool
 // Whether a row begins with the letters before a place, and has b behind them.
 fn goes_on(names: &[u8; LONG], row: usize, pc: usize, b: u8) -> bool
     requires { ⌜ TheNames (now names) ⌝ }
-    requires { ⌜ (row < formRow kinds) × (pc < long) ⌝ }
+    requires { ⌜ (row < formRow formCount) × (pc < long) ⌝ }
     ensures { λ r. ⌜ r ≡ (eqb b (codeAt (rowAt row + pc % 20)) && agree (pc % 20) (pc - pc % 20) (rowAt row)) ⌝ }
 {
     let column = pc % ROW;
@@ -99,10 +104,10 @@ fn goes_on(names: &[u8; LONG], row: usize, pc: usize, b: u8) -> bool
 fn other_place(names: &[u8; LONG], pc: usize, b: u8) -> usize
     requires { ⌜ TheNames (now names) ⌝ }
     requires { ⌜ pc < long ⌝ }
-    ensures { λ r. ⌜ (r ≡ placeFrom kinds (formRow 0) pc b) × (r < long) ⌝ }
+    ensures { λ r. ⌜ (r ≡ placeFrom formCount (formRow 0) pc b) × (r < long) ⌝ }
 {
     let mut row = FIRST_FORM;
-    while row < FIRST_FORM + KINDS {
+    while row < FIRST_FORM + FORMS {
         if goes_on(names, row, pc, b) {
             return ROW * row + pc % ROW;
         }
@@ -241,10 +246,17 @@ fn limit_at(names: &[u8; LONG], pc: usize) -> usize
     requires { ⌜ TheNames (now names) ⌝ }
     ensures { λ r. ⌜ r ≡ limit (sortOf (codeAt (pc - 1))) ⌝ }
 {
-    if code_before(names, pc) == NUMBER {
+    let x = code_before(names, pc);
+    if x < NUMBER {
+        return LARGEST_EVENT;
+    }
+    if x == NUMBER {
         return LARGEST;
     }
-    LARGEST_EVENT
+    if x == VALUE {
+        return LARGEST_VALUE;
+    }
+    LARGEST_CAP
 }
 
 // Within a number whose end byte is at this place.

@@ -166,7 +166,7 @@ fn named(names: &[u8; LONG], k: Tally, pc: usize, number: usize, b: u8) -> Tally
     ensures { λ r. ⌜ r ≡ tallyNumber pc number b k ⌝ }
 {
     if b == code(names, pc) {
-        if code_before(names, pc) == NUMBER {
+        if NUMBER <= code_before(names, pc) {
             return k;
         }
         if k.events < number {

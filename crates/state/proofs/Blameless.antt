@@ -10,9 +10,10 @@ use lib.Dec.{eqb}
 use borrow.Author.Tests.{lt-ltb}
 use Rattle.junior.specs.declared.Flag.{Flag}
 use Rattle.junior.specs.declared.Flag.the-variants.{SUSP, STOP, TERM}
-use Rattle.junior.specs.Program.{Program, Nothing, Stop, Atom, Loop, Repeat, Generate, Await, When, size, kind}
+use Rattle.junior.specs.Program.{Program, Nothing, Stop, Atom, Loop, Repeat, Generate, Await, When, If, size, kind}
 use Rattle.junior.specs.Term.{Term, done, nothing, stop, atom, generate, await, seq0, seq2, par, loop0, loop1}
-use Rattle.junior.specs.Term.{repeat0, repeat1, when0, when1, when2, until0, until*, until2, control, local, prog, fresh}
+use Rattle.junior.specs.Term.{repeat0, repeat1, when0, when1, when2, until0, until*, until2, control, local, if0, if1, if2, prog, fresh}
+use Rattle.junior.specs.Values.{exactly, asked}
 use Rattle.junior.specs.AtRest.{AtRest, Waiting, Over}
 use Rattle.table.specs.Records.{nodes, sizeAt, secondAt}
 use Rattle.table.specs.Spells.{Spells, treeOf}
@@ -23,7 +24,7 @@ use Rattle.state.specs.StateBytes.{Own, head, code, before, in-phase, ze
 use Rattle.state.specs.Resting.{phaseAt, firstZero, secondZero, belowZero, phaseRests, flagsRest, countRests, rests, blamed}
 use Rattle.state.proofs.Parts.{blank, len-bytes, fresh-zeros, own-phase}
 use Rattle.state.proofs.Frames.{Side, only-part, first-part, second-part, Frame, size-in, spells-in, seq-first, seq-second, loop-body}
-use Rattle.state.proofs.Frames.{repeat-body, when-first, when-second, until-first, until-second, control-body, local-body}
+use Rattle.state.proofs.Frames.{repeat-body, when-first, when-second, until-first, until-second, if-first, if-second, control-body, local-body}
 use Rattle.state.proofs.Zeros.{Owns, zero-each}
 use Rattle.state.proofs.Firsts.{Hold, hold-more, hold-join, first-at, first-lowest}
 use Rattle.state.proofs.Fresh.{zero-rests}
@@ -149,19 +150,27 @@ module _ (t s : List ℕ) (l : Loaded t) (long : 4 * nodes t ≤ length s) where
   calm (loop0 p) i sp h b a = unbegun (Loop p) i sp h b
   calm (repeat0 n p) i sp h b a = unbegun (Repeat n p) i sp h b
   calm (when0 c p q) i sp h b a = unbegun (When c p q) i sp h b
+  calm (if0 v p q) i sp h b a = unbegun (If v p q) i sp h b
   calm (seq0 u q) i sp h b a =
       within (seq-first q) u i sp h b (λ j k m c. calm u j k m c a) (λ o z₁ z₂. simp (sp .0 .0, o .0, o .1, o .2, z₂ (size-pos q)))
   calm (seq2 p u) i sp h b a =
       within (seq-second p) u i sp h b (λ j k m c. calm u j k m c a) (λ o z₁ z₂. simp (sp .0 .0, o .0, o .1, o .2, z₁ (size-pos p)))
   calm (loop1 u) i sp h b a =
       within loop-body u i sp h b (λ j k m c. calm u j k m c a) (λ o z₁ z₂. simp (sp .0 .0, o .0, o .1, o .2))
-  calm (repeat1 n k u) i sp h b a =
+  calm (repeat1 (exactly n) k u) i sp h b a =
       let l = lt-ltb k n (a .0) in
-      within (repeat-body n k) u i sp h b (λ j k m c. calm u j k m c (a .1)) (λ o z₁ z₂. simp (sp .0 .0, o .0, o .1, o .2, sp .1, l))
+      within (repeat-body (exactly n) k) u i sp h b (λ j k m c. calm u j k m c (a .1)) (λ o z₁ z₂. simp (sp .0 .0, o .0, o .1, o .2, sp .1, l))
+  calm (repeat1 (asked v n) k u) i sp h b a =
+      let l = lt-ltb k n (a .0) in
+      within (repeat-body (asked v n) k) u i sp h b (λ j k m c. calm u j k m c (a .1)) (λ o z₁ z₂. simp (sp .0 .0, o .0, o .1, o .2, sp .1 .1, l))
   calm (when1 c u q) i sp h b a =
       within (when-first c q) u i sp h b (λ j k m c. calm u j k m c a) (λ o z₁ z₂. simp (sp .0 .0, o .0, o .1, o .2, z₂ (size-pos q)))
   calm (when2 c p u) i sp h b a =
       within (when-second c p) u i sp h b (λ j k m c. calm u j k m c a) (λ o z₁ z₂. simp (sp .0 .0, o .0, o .1, o .2, z₁ (size-pos p)))
+  calm (if1 v u q) i sp h b a =
+      within (if-first v q) u i sp h b (λ j k m c. calm u j k m c a) (λ o z₁ z₂. simp (sp .0 .0, o .0, o .1, o .2, z₂ (size-pos q)))
+  calm (if2 v p u) i sp h b a =
+      within (if-second v p) u i sp h b (λ j k m c. calm u j k m c a) (λ o z₁ z₂. simp (sp .0 .0, o .0, o .1, o .2, z₁ (size-pos p)))
   calm (until0 c u q) i sp h b a =
       within (until-first c q) u i sp h b (λ j k m c. calm u j k m c a) (λ o z₁ z₂. simp (sp .0 .0, o .0, o .1, o .2, z₂ (size-pos q)))
   calm (until* c u q) i sp h b a = absurd a

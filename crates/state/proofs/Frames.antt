@@ -6,8 +6,9 @@ use mathlib.Core.List.{List, _++_, append-nil}
 use native.Mathlib.Omega.{arith}
 use native.Mathlib.Nat.{add-zero}
 use Rattle.junior.specs.Configuration.{Config}
-use Rattle.junior.specs.Program.{Program, One, loop, repeat, control, local, Two, seq, when, until, size}
-use Rattle.junior.specs.Term.{Term, seq0, seq2, loop1, repeat1, when1, when2, until0, until2, prog}
+use Rattle.junior.specs.Program.{Program, One, loop, repeat, control, local, Two, seq, when, until, if, size}
+use Rattle.junior.specs.Values.{Times}
+use Rattle.junior.specs.Term.{Term, seq0, seq2, loop1, repeat1, when1, when2, until0, until2, if1, if2, prog}
 use Rattle.junior.specs.Term
 use Rattle.junior.specs.Figures.{LoopsStop, per}
 use Rattle.junior.specs.Inside.{pot}
@@ -69,7 +70,7 @@ pub loop-body : Frame (in-phase 1) 0 0 (λ x. loop1 x)
 unfolding below prog LoopsStop pot
 loop-body = frame (λ x. refl) (λ x. simp append-nil) (λ x. only-part (loop (prog x))) (λ x h. h .1) (λ x. omega arith)
 
-pub repeat-body : (n k : ℕ) → Frame (record { phase = 1; flags = 0; count = k }) 0 0 (λ x. repeat1 n k x)
+pub repeat-body : (n : Times) (k : ℕ) → Frame (record { phase = 1; flags = 0; count = k }) 0 0 (λ x. repeat1 n k x)
 unfolding below prog LoopsStop pot
 repeat-body n k = frame (λ x. refl) (λ x. simp append-nil) (λ x. only-part (repeat n (prog x))) (λ x h. h) (λ x. omega arith)
 
@@ -88,6 +89,14 @@ until-first c q = frame (λ x. refl) (λ x. refl) (λ x. first-part (until c (pr
 pub until-second : (c : Config) (p : Program) → Frame (in-phase 2) (size p) 0 (λ x. until2 c p x)
 unfolding below prog LoopsStop pot
 until-second c p = frame (λ x. refl) (λ x. simp append-nil) (λ x. second-part (until c p (prog x))) (λ x h. h .1) (λ x. omega arith)
+
+pub if-first : (v : ℕ) (q : Program) → Frame (in-phase 1) 0 (size q) (λ x. if1 v x q)
+unfolding below prog LoopsStop pot
+if-first v q = frame (λ x. refl) (λ x. refl) (λ x. first-part (if v (prog x) q)) (λ x h. h .0) (λ x. omega arith)
+
+pub if-second : (v : ℕ) (p : Program) → Frame (in-phase 2) (size p) 0 (λ x. if2 v p x)
+unfolding below prog LoopsStop pot
+if-second v p = frame (λ x. refl) (λ x. simp append-nil) (λ x. second-part (if v p (prog x))) (λ x h. h .1) (λ x. omega arith)
 
 pub control-body : (s : ℕ) → Frame (in-phase 0) 0 0 (λ x. Term.control s x)
 unfolding below prog LoopsStop pot

@@ -11,9 +11,9 @@ use Rattle.table.specs.Good.{children}
 use Rattle.table.specs.Inside.{Loaded}
 use Rattle.table.proofs.Laid.{both}
 use Rattle.table.proofs.Subtrees.{body, pair, nested, ends}
-use Rattle.state.specs.Resting.{zeroNode, firstZero, secondZero, belowZero, phaseRests, flagsRest, countRests, rests}
+use Rattle.state.specs.Resting.{zeroNode, firstZero, secondZero, belowZero, repeats, phaseRests, flagsRest, countRests, rests}
 use Rattle.state.specs.Inside.{Judged}
-use Rattle.state.proofs.Little.{cond-same}
+use Rattle.state.proofs.Little.{either-true, cond-same}
 use Rattle.state.proofs.Zeros.{zero-owns, zero-all}
 use Rattle.state.proofs.Near.{body-below, pair-below}
 use Rattle.state.proofs.Firsts.{Hold, hold-join}
@@ -31,19 +31,21 @@ module _ {t : List ℕ} (s : List ℕ) (l : Loaded t) (i : ℕ) (h : i < nodes t
   parts-wanted : children (kindAt t i) ≡ 2 → (firstZero t s i ≡ true) × (secondZero t s i ≡ true)
   parts-wanted e = both (sym (pair-below s (pair l i h e)) ∙ z)
 
-  -- a kind that has as many children as one of two kinds
-  of-kind : (k : ℕ) {c : ℕ} → children k ≡ c → kindAt t i ≡ k → children (kindAt t i) ≡ c
-  of-kind k e f = ap children f ∙ e
+  -- of a kind with one child, with two
+  of-one : (k : ℕ) → children k ≡ 1 → eqb (kindAt t i) k ≡ true → firstZero t s i ≡ true
+  of-one k e f = first-wanted (ap children (eqb-true _ _ f) ∙ e)
+
+  of-two : (k : ℕ) → children k ≡ 2 → eqb (kindAt t i) k ≡ true → (firstZero t s i ≡ true) × (secondZero t s i ≡ true)
+  of-two k e f = parts-wanted (ap children (eqb-true _ _ f) ∙ e)
 
   idle-phase : phaseRests t s i (kindAt t i) 0 ≡ true
   unfolding phaseRests children
   idle-phase =
-      go (eqb k 3) (eqb k 5) (eqb k 6) (eqb k 9) (eqb k 10)
-      (λ e. parts-wanted (of-kind 3 refl (eqb-true _ _ e)) .1)
-      (λ e. first-wanted (of-kind 5 refl (eqb-true _ _ e)))
-      (λ e. first-wanted (of-kind 6 refl (eqb-true _ _ e)))
-      (λ e. parts-wanted (of-kind 9 refl (eqb-true _ _ e)))
-      (λ e. parts-wanted (of-kind 10 refl (eqb-true _ _ e)) .1)
+      go (eqb k 3) (eqb k 5 || repeats k) (eqb k 9 || eqb k 14) (eqb k 10)
+      (λ e. of-two 3 refl e .1)
+      (λ e. either-true _ _ e (of-one 5 refl) (λ e. either-true _ _ e (of-one 6 refl) (of-one 15 refl)))
+      (λ e. either-true _ _ e (of-two 9 refl) (of-two 14 refl))
+      (λ e. of-two 10 refl e .1)
     where
       k : ℕ
       k = kindAt t i
@@ -54,15 +56,13 @@ module _ {t : List ℕ} (s : List ℕ) (l : Loaded t) (i : ℕ) (h : i < nodes t
       S : Bool
       S = secondZero t s i
 
-      go : (a b c d e : Bool) → (a ≡ true → S ≡ true) → (b ≡ true → F ≡ true) → (c ≡ true → F ≡ true)
-          → (d ≡ true → (F ≡ true) × (S ≡ true)) → (e ≡ true → S ≡ true)
-          → cond a (S || false) (cond (b || c) (F || false) (cond d ((F && S) || false) (cond e (S || false) true))) ≡ true
-      go true b c d e α β γ δ ε = rw (α refl)
-      go false true c d e α β γ δ ε = rw (β refl)
-      go false false true d e α β γ δ ε = rw (γ refl)
-      go false false false true e α β γ δ ε = rw (δ refl .0, δ refl .1)
-      go false false false false true α β γ δ ε = rw (ε refl)
-      go false false false false false α β γ δ ε = refl
+      go : (a b c d : Bool) → (a ≡ true → S ≡ true) → (b ≡ true → F ≡ true) → (c ≡ true → (F ≡ true) × (S ≡ true)) → (d ≡ true → S ≡ true)
+          → cond a (S || false) (cond b (F || false) (cond c ((F && S) || false) (cond d (S || false) true))) ≡ true
+      go true b c d α β γ δ = rw (α refl)
+      go false true c d α β γ δ = rw (β refl)
+      go false false true d α β γ δ = rw (γ refl .0, γ refl .1)
+      go false false false true α β γ δ = rw (δ refl)
+      go false false false false α β γ δ = refl
 
   pub idle-rests : zeroNode s i ≡ true → rests t s i ≡ true
   idle-rests e = fresh-rests t s i e ∙ idle-phase

@@ -9,9 +9,9 @@ use lib.Seq.{drop-at}
 use lib.Dec.{eqb}
 use Rattle.junior.specs.declared.Flag.{Flag}
 use Rattle.junior.specs.declared.Flag.the-variants.{SUSP, STOP, TERM}
-use Rattle.junior.specs.Program.{Program, One, loop, repeat, control, local, Two, seq, par, when, until}
+use Rattle.junior.specs.Program.{Program, One, loop, repeat, control, local, Two, seq, par, when, until, if}
 use Rattle.junior.specs.Program.{Parts, no-part, one-part, two-parts, parts, size}
-use Rattle.junior.specs.Term.{Term, done, seq0, seq2, loop0, loop1, repeat0, repeat1, when0, when1, when2, until0, until*, until2}
+use Rattle.junior.specs.Term.{Term, done, seq0, seq2, loop0, loop1, repeat0, repeat1, when0, when1, when2, until0, until*, until2, if0, if1, if2}
 use Rattle.junior.specs.Term.{prog, fresh}
 use Rattle.junior.specs.Term
 use Rattle.state.specs.StateBytes.{code, zeros, below, stateBytes}
@@ -51,6 +51,7 @@ of-two (seq p q) l x y = by-phase l (seq0 x q) (seq0 x q) (seq2 p y)
 of-two (par p q) l x y = let fl = own-flags l in Term.par (flag-of (fl % 4)) (flag-of (fl / 4)) x y
 of-two (when c p q) l x y = by-phase l (when0 c p q) (when1 c x q) (when2 c p y)
 of-two (until c p q) l x y = by-phase l (until0 c x q) (until* c x q) (until2 c p y)
+of-two (if v p q) l x y = by-phase l (if0 v p q) (if1 v x q) (if2 v p y)
 
 -- the term of a program that stands at the front of a list of bytes
 unfoldable by-parts : {p : Program} → Parts p → List ℕ → Term
@@ -103,6 +104,9 @@ reads (until2 c p t) r = ap (until2 c p) (behind-zeros p t (prog t) r (reads t))
 reads (Term.control s t) r = ap (Term.control s) (reads t r)
 reads (Term.local true s t) r = ap (Term.local true s) (reads t r)
 reads (Term.local false s t) r = ap (Term.local false s) (reads t r)
+reads (if0 v p q) r = refl
+reads (if1 v t q) r = ap (λ x. if1 v x q) (from-first (prog t) (stateBytes t) (zeros q) r (reads t))
+reads (if2 v p t) r = ap (if2 v p) (behind-zeros p t (prog t) r (reads t))
 
 pub one-term : (x y : Term) → prog x ≡ prog y → stateBytes x ≡ stateBytes y → x ≡ y
 one-term x y e b =

@@ -7,9 +7,9 @@ use lib.ListN.{length, getD, drop, replicate, length-append, length-replicate}
 use lib.ListN.{replicate-append-replicate}
 use lib.Seq.{take-at, drop-at}
 use borrow.Rule.Slice.PartMut.{midOf, putMid}
-use Rattle.junior.specs.Program.{Program, Nothing, Stop, Atom, Seq, Par, Loop, Repeat, Generate, Await, When, Until, Control, Local, size}
+use Rattle.junior.specs.Program.{Program, Nothing, Stop, Atom, Seq, Par, Loop, Repeat, Generate, Await, When, Until, Control, Local, If, size}
 use Rattle.junior.specs.Term.{Term, done, nothing, stop, atom, generate, await, seq0, seq2, par, loop0, loop1}
-use Rattle.junior.specs.Term.{repeat0, repeat1, when0, when1, when2, until0, until*, until2, control, local, prog, fresh}
+use Rattle.junior.specs.Term.{repeat0, repeat1, when0, when1, when2, until0, until*, until2, control, local, if0, if1, if2, prog, fresh}
 use Rattle.table.proofs.Tree.{size-pos}
 use Rattle.state.specs.StateBytes.{before, in-phase, zeros, below, stateBytes}
 
@@ -43,6 +43,9 @@ len-bytes (until* c t q) = simp (length-append, len-zeros) (omega (arith, len-by
 len-bytes (until2 c p t) = simp (length-append, len-zeros) (omega (arith, len-bytes t))
 len-bytes (control s t) = omega (arith, len-bytes t)
 len-bytes (local b s t) = omega (arith, len-bytes t)
+len-bytes (if0 v p q) = simp (length-append, len-zeros) (omega arith)
+len-bytes (if1 v t q) = simp (length-append, len-zeros) (omega (arith, len-bytes t))
+len-bytes (if2 v p t) = simp (length-append, len-zeros) (omega (arith, len-bytes t))
 
 -- all zero: a node and all below it
 pub blank-below : (n : ℕ) → before (in-phase 0) (blank n) ≡ blank (1 + n)
@@ -75,6 +78,7 @@ fresh-zeros (When c p q) = blank-two p q
 fresh-zeros (Until c p q) = ap (λ l. before (in-phase 0) (l ++ zeros q)) (fresh-zeros p) ∙ blank-two p q
 fresh-zeros (Control s p) = ap (λ l. before (in-phase 0) l) (fresh-zeros p) ∙ blank-below (size p)
 fresh-zeros (Local s p) = ap (λ l. before (in-phase 0) l) (fresh-zeros p) ∙ blank-below (size p)
+fresh-zeros (If v p q) = blank-two p q
 
 -- the phase and the flags of the node whose bytes a list begins with
 abbrev pub own-phase : List ℕ → ℕ

@@ -7,9 +7,11 @@ use Rattle.junior.specs.declared.Flag.{Flag}
 use Rattle.junior.specs.Configuration.{Config}
 use Rattle.junior.specs.Program.{Program, kind}
 use Rattle.junior.specs.Term.{Term, done, nothing, stop, atom, generate, await, seq0, seq2, par, loop0, loop1}
-use Rattle.junior.specs.Term.{repeat0, repeat1, when0, when1, when2, until0, until*, until2, control, local, prog}
+use Rattle.junior.specs.Term.{repeat0, repeat1, when0, when1, when2, until0, until*, until2, control, local, if0, if1, if2, prog}
+use Rattle.junior.specs.Values.{exactly, asked}
 use Rattle.state.specs.Kinds.{nothing-kind, stop-kind, atom-kind, seq-kind, par-kind, loop-kind}
-use Rattle.state.specs.Kinds.{repeat-kind, generate-kind, await-kind, when-kind, until-kind, control-kind, local-kind}
+use Rattle.state.specs.Kinds.{repeat-kind, generate-kind, await-kind, when-kind, until-kind, control-kind, local-kind, if-kind}
+use Rattle.state.specs.Kinds.{repeat-ext-kind}
 use Rattle.state.specs.StateBytes.{head}
 
 pub data Shape : Term → ℕ → ℕ → Type 0 where
@@ -22,8 +24,8 @@ pub data Shape : Term → ℕ → ℕ → Type 0 where
   is-par : (α β : Flag) (t u : Term) → Shape (par α β t u) par-kind 0
   is-loop0 : (p : Program) → Shape (loop0 p) loop-kind 0
   is-loop1 : (t : Term) → Shape (loop1 t) loop-kind 1
-  is-repeat0 : (n : ℕ) (p : Program) → Shape (repeat0 n p) repeat-kind 0
-  is-repeat1 : (n k : ℕ) (t : Term) → Shape (repeat1 n k t) repeat-kind 1
+  is-repeat0 : (n : ℕ) (p : Program) → Shape (repeat0 (exactly n) p) repeat-kind 0
+  is-repeat1 : (n k : ℕ) (t : Term) → Shape (repeat1 (exactly n) k t) repeat-kind 1
   is-generate : (s : ℕ) → Shape (generate s) generate-kind 0
   is-await : (c : Config) → Shape (await c) await-kind 0
   is-when0 : (c : Config) (p q : Program) → Shape (when0 c p q) when-kind 0
@@ -34,6 +36,11 @@ pub data Shape : Term → ℕ → ℕ → Type 0 where
   is-until2 : (c : Config) (p : Program) (t : Term) → Shape (until2 c p t) until-kind 2
   is-control : (s : ℕ) (t : Term) → Shape (control s t) control-kind 0
   is-local : (b : Bool) (s : ℕ) (t : Term) {ph : ℕ} → cond b 1 0 ≡ ph → Shape (local b s t) local-kind ph
+  is-if0 : (v : ℕ) (p q : Program) → Shape (if0 v p q) if-kind 0
+  is-if1 : (v : ℕ) (t : Term) (q : Program) → Shape (if1 v t q) if-kind 1
+  is-if2 : (v : ℕ) (p : Program) (t : Term) → Shape (if2 v p t) if-kind 2
+  is-ext0 : (v m : ℕ) (p : Program) → Shape (repeat0 (asked v m) p) repeat-ext-kind 0
+  is-ext1 : (v m k : ℕ) (t : Term) → Shape (repeat1 (asked v m) k t) repeat-ext-kind 1
 
 shape : (t : Term) → Shape t (kind (prog t)) (head t .phase)
 unfolding kind prog
@@ -46,8 +53,10 @@ shape (seq2 p t) = is-seq2 p t
 shape (par α β t u) = is-par α β t u
 shape (loop0 p) = is-loop0 p
 shape (loop1 t) = is-loop1 t
-shape (repeat0 n p) = is-repeat0 n p
-shape (repeat1 n k t) = is-repeat1 n k t
+shape (repeat0 (exactly n) p) = is-repeat0 n p
+shape (repeat0 (asked v m) p) = is-ext0 v m p
+shape (repeat1 (exactly n) k t) = is-repeat1 n k t
+shape (repeat1 (asked v m) k t) = is-ext1 v m k t
 shape (generate s) = is-generate s
 shape (await c) = is-await c
 shape (when0 c p q) = is-when0 c p q
@@ -58,6 +67,9 @@ shape (until* c t q) = is-until* c t q
 shape (until2 c p t) = is-until2 c p t
 shape (control s t) = is-control s t
 shape (local b s t) = is-local b s t refl
+shape (if0 v p q) = is-if0 v p q
+shape (if1 v t q) = is-if1 v t q
+shape (if2 v p t) = is-if2 v p t
 
 pub shape-by : (t : Term) {k ph : ℕ} → kind (prog t) ≡ k → head t .phase ≡ ph → Shape t k ph
 shape-by t {ph = ph} e f = subst (λ (n : ℕ). Shape t n ph) e (subst (λ (n : ℕ). Shape t (kind (prog t)) n) f (shape t))

@@ -1,7 +1,7 @@
 -- A term at rest stands in a state's bytes if no node is to blame.
 use Prim.Native.Nat.{ℕ, _+_, _-_, _*_, _≤_, _<_}
-use mathlib.Core.Bool.{Bool, true, false, cond, not, _&&_}
-use mathlib.Core.Path.{_≡_, refl, sym, ap, ap₂, _∙_}
+use mathlib.Core.Bool.{Bool, true, false, cond, not, _&&_, _||_}
+use mathlib.Core.Path.{_≡_, refl, sym, ap, ap₂, _∙_, subst}
 use mathlib.Core.List.{List, _++_}
 use native.Mathlib.Omega.{arith}
 use lib.ListN.{length, getD, take, replicate}
@@ -10,8 +10,9 @@ use borrow.Author.Tests.{eqb-true, ltb-true, not-false}
 use Rattle.events.proofs.Events.{before-lowest}
 use Rattle.junior.specs.declared.Flag.{Flag}
 use Rattle.junior.specs.declared.Flag.the-variants.{SUSP, TERM}
-use Rattle.junior.specs.Program.{Program, Par, Loop, Repeat, When, Leaf, nothing, stop, atom, generate, await, One, loop, repeat}
-use Rattle.junior.specs.Program.{control, local, Two, seq, par, when, until, Parts, no-part, one-part, two-parts, parts, size, kind}
+use Rattle.junior.specs.Values.{Times, exactly, asked, most}
+use Rattle.junior.specs.Program.{Program, Par, Loop, Repeat, When, If, Leaf, nothing, stop, atom, generate, await, One, loop, repeat}
+use Rattle.junior.specs.Program.{control, local, Two, seq, par, when, until, if, Parts, no-part, one-part, two-parts, parts, size, kind}
 use Rattle.junior.specs.Term.{Term, done, prog, fresh}
 use Rattle.junior.specs.Term
 use Rattle.junior.specs.AtRest.{AtRest, Over}
@@ -25,15 +26,15 @@ use Rattle.table.proofs.Parts.{of-none}
 use Rattle.table.proofs.Tree.{size-pos, kind-is, written, spells-one, spells-two, second-is, second}
 use Rattle.table.proofs.Laid.{both}
 use Rattle.table.proofs.Loaded.{all-nodes}
-use Rattle.state.specs.Kinds.{par-kind, repeat-kind}
+use Rattle.state.specs.Kinds.{par-kind, repeat-kind, repeat-ext-kind}
 use Rattle.state.specs.StateBytes.{Own, code, head, before, in-phase, below, stateBytes}
 use Rattle.state.specs.Resting.{phaseAt, flagsAt, countAt, zeroNodes, firstZero, secondZero, belowZero, phaseRests}
-use Rattle.state.specs.Resting.{flagsRest, countRests, rests, blamed}
+use Rattle.state.specs.Resting.{branchRests, repeats, mostRuns, flagsRest, countRests, rests, blamed}
 use Rattle.state.proofs.Little.{either-true}
 use Rattle.state.proofs.Parts.{blank, blank-below, blank-both, fresh-zeros, own-phase}
 use Rattle.state.proofs.Shape.{Shape, is-done, is-local, shape-by, no-sign}
 use Rattle.state.proofs.Frames.{Frame, size-in, seq-first, seq-second, loop-body, repeat-body, when-first, when-second}
-use Rattle.state.proofs.Frames.{until-first, until-second, control-body, local-body}
+use Rattle.state.proofs.Frames.{until-first, until-second, if-first, if-second, control-body, local-body}
 use Rattle.state.proofs.Zeros.{Owns}
 use Rattle.state.proofs.NodeBytes.{bytesAt, both-parts, node-bytes, zero-bytes, first-byte}
 
@@ -132,11 +133,12 @@ module _ (t s : List ℕ) (small : (i : ℕ) → byte s i < 256) (long : 4 * nod
   phase-3 {j} {u} x e =
       over u (sym (ap own-phase (x .bytes)) ∙ (first-byte s j (size (prog u)) (size-pos (prog u)) ∙ eqb-true _ 3 e))
 
-  -- a Repeat's count, by its phase
-  counted : (i ph n : ℕ) → argumentAt t i ≡ n → phaseAt s i ≡ ph → countRests t i repeat-kind (phaseAt s i) (countAt s i) ≡ true
+  -- the count of a Repeat or a RepeatExt, by its phase
+  counted : (i k ph n : ℕ) → repeats k ≡ true → mostRuns k (argumentAt t i) ≡ n → phaseAt s i ≡ ph
+      → countRests t i k (phaseAt s i) (countAt s i) ≡ true
       → cond (eqb ph 1) (ltb (countAt s i) n) (eqb (countAt s i) 0) ≡ true
   unfolding countRests
-  counted i ph n a e c = rw (a, e) at c
+  counted i k ph n r a e c = rw (r, a, e) at c
 
   -- a form without parts
   of-leaf : (i : ℕ) {p : Program} → Leaf p → Active t s i (kind p) → Owns s i (in-phase 0)
@@ -152,6 +154,20 @@ module _ (t s : List ℕ) (small : (i : ℕ) → byte s i < 256) (long : 4 * nod
     none₁ : i + 1 + size (prog u) ≤ nodes t → firstZero t s i ≡ true → bytesAt s (i + 1) (size (prog u)) ≡ blank (size (prog u))
     none₁ h e = none (i + 1) (size (prog u)) h (rw (written t (i + 1) (prog u) a) at e)
 
+    -- a Repeat or a RepeatExt
+    repeated : (n : Times) → i + (1 + size (prog u)) ≤ nodes t
+        → ((eqb (phaseAt s i) 0 && firstZero t s i) || eqb (phaseAt s i) 1) ≡ true
+        → eqb (flagsAt s i) 0 ≡ true
+        → ((ph : ℕ) → eqb (phaseAt s i) ph ≡ true → cond (eqb ph 1) (ltb (countAt s i) (most n)) (eqb (countAt s i) 0) ≡ true)
+        → TermAt s i (Repeat n (prog u))
+    unfolding size prog AtRest
+    repeated n h phases flags ct =
+        either-true _ _ phases
+        (λ e. let (ph, z) = both e in at-start (Repeat n (prog u)) i (size (prog u)) refl h (plain i flags (ct 0 ph) 0 ph) (none₁ (omega arith) z))
+        (λ ph.
+        around (repeat-body n (countAt s i)) i x (omega arith) (eqb-true _ 1 ph, eqb-true _ 0 flags, refl) refl refl h
+        (ltb-true _ (most n) (ct 1 ph), x .at-rest))
+
     of-one : {p : Program} → One p (prog u) → Spells t i p → i + size p ≤ nodes t → Active t s i (kind p) → TermAt s i p
     unfolding Spells size kind prog AtRest phaseRests countRests
     of-one (loop q) sp h c =
@@ -159,14 +175,10 @@ module _ (t s : List ℕ) (small : (i : ℕ) → byte s i < 256) (long : 4 * nod
         either-true _ _ (c .phases)
         (λ e. let (ph, z) = both e in at-start (Loop q) i (size q) refl h (own 0 ph) (none₁ (omega arith) z))
         (λ ph. around loop-body i x (omega arith) (own 1 ph) refl refl h (x .at-rest))
-    of-one (repeat n q) sp h c =
-        let ct : (ph : ℕ) → eqb (phaseAt s i) ph ≡ true → cond (eqb ph 1) (ltb (countAt s i) n) (eqb (countAt s i) 0) ≡ true =
-        λ ph e. counted i ph n (sp .1) (eqb-true _ ph e) (c .counts) in
-        either-true _ _ (c .phases)
-        (λ e. let (ph, z) = both e in at-start (Repeat n q) i (size q) refl h (plain i (c .flags) (ct 0 ph) 0 ph) (none₁ (omega arith) z))
-        (λ ph.
-        around (repeat-body n (countAt s i)) i x (omega arith) (eqb-true _ 1 ph, eqb-true _ 0 (c .flags), refl) refl refl h
-        (ltb-true _ n (ct 1 ph), x .at-rest))
+    of-one (repeat (exactly n) q) sp h c =
+        repeated (exactly n) h (c .phases) (c .flags) (λ ph e. counted i repeat-kind ph n refl (sp .1) (eqb-true _ ph e) (c .counts))
+    of-one (repeat (asked v m) q) sp h c =
+        repeated (asked v m) h (c .phases) (c .flags) (λ ph e. counted i repeat-ext-kind ph m refl (sp .1 .1) (eqb-true _ ph e) (c .counts))
     of-one (control e q) sp h c =
         around (control-body e) i x (omega arith) (plain i (c .flags) (c .counts) 0 (c .phases)) refl refl h (x .at-rest)
     of-one (local e q) sp h c =
@@ -188,6 +200,34 @@ module _ (t s : List ℕ) (small : (i : ℕ) → byte s i < 256) (long : 4 * nod
           let w = both-parts s (i + 1) (size (prog u)) (size (prog v)) ∙ ap₂ _++_ (x .bytes) (y .bytes) in
           stand (Term.par α β u v) (rw e (node i (size (prog u) + size (prog v)) (omega arith) (flagged (code α + 4 * code β)) o ∙ rw w)) r
 
+      -- a When or an If, f being its first branch and g its second
+      branched : {f g : Term → Term} (p : Program) → Frame (in-phase 1) 0 (size (prog v)) f → Frame (in-phase 2) (size (prog u)) 0 g
+          → prog (f u) ≡ p
+          → prog (g v) ≡ p
+          → size p ≡ 1 + size (prog u) + size (prog v)
+          → i + size p ≤ nodes t
+          → AtRest (f u)
+          → AtRest (g v)
+          → ((n : ℕ) → eqb (phaseAt s i) n ≡ true → Owns s i (in-phase n))
+          → branchRests t s i (phaseAt s i) ≡ true
+          → TermAt s i p
+      branched p f g f-is g-is n h f-rests g-rests own phases =
+          let m = size (prog u) in
+          let k = size (prog v) in
+          either-true _ _ phases
+          (λ e.
+          let (ph, zs) = both e in
+          let (z₁, z₂) = both zs in
+          let w = ap₂ _++_ (none₁ (omega arith) z₁) (none₂ (omega arith) z₂) ∙ blank-both m k in
+          at-start p i (m + k) (omega arith) h (own 0 ph) (both-parts s (i + 1) m k ∙ w))
+          (λ e′. either-true _ _ e′
+          (λ e.
+          let (ph, z) = both e in
+          subst (TermAt s i) f-is (around f i x (omega arith) (own 1 ph) refl (none₂ (omega arith) z) (rw f-is h) f-rests))
+          (λ e.
+          let (ph, z) = both e in
+          subst (TermAt s i) g-is (around g i y refl (own 2 ph) (none₁ (omega arith) z) refl (rw g-is h) g-rests)))
+
       of-two : {p : Program} → Two p (prog u) (prog v) → i + size p ≤ nodes t → Active t s i (kind p) → TermAt s i p
       unfolding size kind prog AtRest phaseRests countRests flagsRest
       of-two (seq q r) h c =
@@ -206,22 +246,14 @@ module _ (t s : List ℕ) (small : (i : ℕ) → byte s i < 256) (long : 4 * nod
           let (f, d) = both e in
           joined SUSP TERM (own 8 f) h (tt, tt, phase-3 y (rw (second-is t i q a) at d), x .at-rest, y .at-rest)))
       of-two (when k q r) h c =
-          let own = plain i (c .flags) (c .counts) in
-          let n : 1 + size q + size r ≡ 1 + (size q + size r) = omega arith in
-          either-true _ _ (c .phases)
-          (λ e.
-          let (ph, zs) = both e in
-          let (z₁, z₂) = both zs in
-          let w = ap₂ _++_ (none₁ (omega arith) z₁) (none₂ (omega arith) z₂) ∙ blank-both (size q) (size r) in
-          at-start (When k q r) i (size q + size r) n h (own 0 ph) (both-parts s (i + 1) (size q) (size r) ∙ w))
-          (λ e′. either-true _ _ e′
-          (λ e. let (ph, z) = both e in around (when-first k r) i x (omega arith) (own 1 ph) refl (none₂ (omega arith) z) h (x .at-rest))
-          (λ e. let (ph, z) = both e in around (when-second k q) i y refl (own 2 ph) (none₁ (omega arith) z) refl h (y .at-rest)))
+          branched (When k q r) (when-first k r) (when-second k q) refl refl refl h (x .at-rest) (y .at-rest) (plain i (c .flags) (c .counts)) (c .phases)
       of-two (until k q r) h c =
           let own = plain i (c .flags) (c .counts) in
           either-true _ _ (c .phases)
           (λ e. let (ph, z) = both e in around (until-first k r) i x (omega arith) (own 0 ph) refl (none₂ (omega arith) z) h (x .at-rest))
           (λ e. let (ph, z) = both e in around (until-second k q) i y refl (own 2 ph) (none₁ (omega arith) z) refl h (y .at-rest))
+      of-two (if k q r) h c =
+          branched (If k q r) (if-first k r) (if-second k q) refl refl refl h (x .at-rest) (y .at-rest) (plain i (c .flags) (c .counts)) (c .phases)
 
   find : {p : Program} → Parts p → (i : ℕ) → Spells t i p → i + size p ≤ nodes t → TermAt s i p
   find {p} (no-part f) i sp h = split p i sp h (λ c. at-start p i 0 (of-none f .size-is) h (of-leaf i f c) refl)

@@ -1,4 +1,4 @@
--- The kinds of nodes by name (01, "The table").
+-- The kinds of nodes by name (01, "The table"; L14).
 use Prim.Native.Nat.{ℕ}
 
 abbrev pub nothing-kind : ℕ
@@ -39,3 +39,9 @@ control-kind = 11
 
 abbrev pub local-kind : ℕ
 local-kind = 12
+
+abbrev pub if-kind : ℕ
+if-kind = 14
+
+abbrev pub repeat-ext-kind : ℕ
+repeat-ext-kind = 15

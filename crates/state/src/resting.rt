@@ -8,9 +8,8 @@ ghost use lib.ListN.{length};
 ghost use Rattle.table.specs.Records.{nodes, kindAt, secondAt};
 ghost use Rattle.table.specs.Good.{children};
 ghost use Rattle.table.specs.Inside.{Loaded};
-ghost use Rattle.state.specs.Kinds.{when-kind};
 ghost use Rattle.state.specs.Resting.{phaseAt, flagsAt, countAt, zeroNodes, firstZero, secondZero};
-ghost use Rattle.state.specs.Resting.{phaseRests, flagsRest, countRests, rests, blamed};
+ghost use Rattle.state.specs.Resting.{branchRests, phaseRests, flagsRest, countRests, rests, blamed};
 ghost use Rattle.state.specs.Inside.{ZeroFrom, Tells, Judged, Judging, Blamed};
 use table::records::argument_at;
 use table::records::kind_at;
@@ -86,11 +85,11 @@ fn part_rests(table: &[u8], state: &[u8], i: usize, near: usize, phase: usize) -
     }
 }
 
-// Whether a When rests, testing or in a branch.
+// Whether a When or an If rests, before it chose or in a branch.
 fn branch_rests(table: &[u8], state: &[u8], i: usize, near: usize, phase: usize) -> bool
     requires { ⌜ Judging (now table) (now state) i near ⌝ }
-    requires { ⌜ kindAt (now table) i ≡ when-kind ⌝ }
-    ensures { λ r. ⌜ r ≡ phaseRests (now (table .entry)) (now (state .entry)) i when-kind phase ⌝ }
+    requires { ⌜ children (kindAt (now table) i) ≡ 2 ⌝ }
+    ensures { λ r. ⌜ r ≡ branchRests (now (table .entry)) (now (state .entry)) i phase ⌝ }
 {
     match phase {
         0 => i + size_at(table, i) <= near,
@@ -100,7 +99,7 @@ fn branch_rests(table: &[u8], state: &[u8], i: usize, near: usize, phase: usize)
     }
 }
 
-// Whether a Loop or Repeat rests, not begun or begun.
+// Whether a Loop, Repeat or RepeatExt rests, not begun or begun.
 fn body_rests(table: &[u8], i: usize, near: usize, phase: usize) -> bool
     requires { ⌜ 6 * i + 11 < length (now table) ⌝ }
     ensures { λ r. ⌜ r ≡ ((eqb phase 0 && leb (secondAt (now (table .entry)) i) near) || eqb phase 1) ⌝ }
@@ -119,11 +118,10 @@ fn phase_rests(table: &[u8], state: &[u8], i: usize, near: usize, k: usize, phas
     ensures { λ r. ⌜ r ≡ phaseRests (now (table .entry)) (now (state .entry)) i k phase ⌝ }
 {
     match k {
-        3 => part_rests(table, state, i, near, phase),
+        3 | 10 => part_rests(table, state, i, near, phase),
         5 => body_rests(table, i, near, phase),
-        6 => body_rests(table, i, near, phase),
-        9 => branch_rests(table, state, i, near, phase),
-        10 => part_rests(table, state, i, near, phase),
+        6 | 15 => body_rests(table, i, near, phase),
+        9 | 14 => branch_rests(table, state, i, near, phase),
         _ => phase == 0,
     }
 }
@@ -153,13 +151,16 @@ fn count_rests(table: &[u8], i: usize, k: usize, phase: usize, count: usize) -> 
     requires { ⌜ 6 * i + 3 < length (now table) ⌝ }
     ensures { λ r. ⌜ r ≡ countRests (now (table .entry)) i k phase count ⌝ }
 {
-    if k != 6 {
-        return count == 0;
-    }
     if phase != 1 {
         return count == 0;
     }
-    count < argument_at(table, i)
+    if k == 6 {
+        return count < argument_at(table, i);
+    }
+    if k == 15 {
+        return count < argument_at(table, i) / 16;
+    }
+    count == 0
 }
 
 // Whether node i rests.

@@ -1,14 +1,18 @@
 -- What can be read of a node that is to run; and a function that runs only some terms runs all that stand there.
 use Prim.Native.Nat.{ℕ, suc, _+_, _*_, _≤_, _<_}
+use mathlib.Core.Bool.{true, not, false≢true}
 use mathlib.Core.Path.{_≡_, sym, subst, _∙_}
 use mathlib.Core.Logic.{_≢_}
 use mathlib.Core.List.{List, [], _∷_}
 use native.Mathlib.Omega.{arith}
+use lib.Dec.{eqb, leb}
 use lib.ListN.{length, getD}
+use borrow.Author.Tests.{leb-true, eq-eqb}
 use Rattle.junior.specs.Term.{Term, prog}
 use Rattle.junior.specs.Program.{kind}
 use Rattle.table.specs.Records.{kindAt}
-use Rattle.table.specs.Good.{last-kind}
+use Rattle.table.specs.Good.{known}
+use Rattle.table.proofs.Laid.{both as both-so}
 use Rattle.table.proofs.Parts.{by-kind as its-kind}
 use Rattle.table.proofs.Loaded.{kind-of, own-node}
 use Rattle.state.specs.Kinds.{seq-kind, par-kind, await-kind, local-kind}
@@ -130,8 +134,13 @@ module _ {U : Term → Type 0} {table : List ℕ} {i : ℕ} {state m row : List 
     pub by-others : {L′ : Lent} {r : ℕ} → HasRun 0 Others (lent table state m row) i L′ r → HasRun 0 U (lent table state m row) i L′ r
     by-others run = widen (λ b p q a t h. other a h read x y z) run
 
-between : {n k : ℕ} → last-kind ≤ n → k ≡ n → k ≤ last-kind → n ≡ last-kind
-between l e u = omega arith
+-- a kind that there is, from 12 on
+between : (k : ℕ) → 12 ≤ k → known k ≡ true → k ≢ 14 → k ≢ 15 → k ≡ 12
+between k l h a b =
+    let (most, other) = both-so {a = leb k 15} {b = not (eqb k 13)} h in
+    let not-13 : (k ≢ 13) = λ e. false≢true (rw (eq-eqb k 13 e) at other) in
+    let up : k ≤ 15 = leb-true k 15 most in
+    omega arith
 
 -- n is none of these numbers
 abbrev pub none-of : List ℕ → ℕ → Type 0
@@ -143,15 +152,15 @@ past l d = omega arith
 
 -- what no arm before the last takes, and is none of the kinds told apart first, is a Local
 pub the-last : {table : List ℕ} {i : ℕ} {state m row : List ℕ} → CanRun 0 Others (lent table state m row) i → {n : ℕ} → n ≡ kindAt table i
-    → none-of (11 ∷ 10 ∷ 9 ∷ 7 ∷ 6 ∷ 5 ∷ 2 ∷ 1 ∷ 0 ∷ []) n → n ≡ local-kind
-the-last (before, part, behind, o) {n} read (((((((((z, n0), n1), n2), n5), n6), n7), n9), n10), n11) =
+    → none-of (15 ∷ 14 ∷ 11 ∷ 10 ∷ 9 ∷ 7 ∷ 6 ∷ 5 ∷ 2 ∷ 1 ∷ 0 ∷ []) n → n ≡ local-kind
+the-last (before, part, behind, o) {n} read (((((((((((z, n0), n1), n2), n5), n6), n7), n9), n10), n11), n14), n15) =
     let (t, w, h) = o .live in
     let is = kind-is read h in
     let least : 0 ≤ n = omega arith in
     let beyond-2 = past (past (past least n0) n1) n2 in
     let beyond-7 = past (past (past (past (past beyond-2 (λ e. w .2 (is ∙ e))) (λ e. w .0 (is ∙ e))) n5) n6) n7 in
     let beyond-11 = past (past (past (past beyond-7 (λ e. w .1 (is ∙ e))) n9) n10) n11 in
-    between beyond-11 is (its-kind (prog t) .known)
+    between n beyond-11 (rw is at (its-kind (prog t) .known-kind)) n14 n15
 
 -- the node that the code has found is the one that the laws speak of
 pub run-at : {W : Term → Type 0} {L L′ : Lent} {r j k : ℕ} → j ≡ k → HasRun 0 W L j L′ r → HasRun 0 W L k L′ r

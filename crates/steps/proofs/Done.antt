@@ -1,11 +1,11 @@
 -- A child has run: the row of atoms, and what the node has done by it.
-use Prim.Native.Nat.{ℕ, _+_, _-_, _*_, _≤_, _<_}
-use mathlib.Core.Path.{_≡_, refl, ap, sym, subst, _∙_}
+use Prim.Native.Nat.{ℕ, _+_, _-_, _*_, _/_, _%_, _^_, _≤_, _<_}
+use mathlib.Core.Path.{_≡_, refl, ap, sym, subst, _∙_, fun-ext}
 use mathlib.Core.Logic.{_≢_}
 use mathlib.Core.List.{List, [], _++_, append-assoc}
 use native.Mathlib.Omega.{arith}
 use lib.ListN.{length, take, drop, set, length-append, length-drop, length-replicate, take-append-drop}
-use lib.Seq.{take-at, drop-append-add, drop-drop, length-take-le}
+use lib.Seq.{getD-set-other, take-at, drop-append-add, drop-drop, length-take-le}
 use borrow.Rule.Slice.PartMut.{putMid}
 use Rattle.events.specs.Members.{marks}
 use Rattle.junior.specs.declared.Flag.{Flag}
@@ -13,7 +13,8 @@ use Rattle.junior.specs.declared.Flag.the-variants.{SUSP, STOP, TERM}
 use Rattle.junior.specs.Program.{size}
 use Rattle.junior.specs.Term.{Term, prog, leave}
 use Rattle.junior.specs.Trace.{Place, Act, atom-of, atoms}
-use Rattle.junior.specs.Rules.{left-first, Rewrites, answers}
+use Rattle.junior.specs.Configuration.{Env}
+use Rattle.junior.specs.Rules.{left-first, Result, Rewrites, answers}
 use Rattle.junior.specs.Figures.{LoopsStop, per}
 use Rattle.junior.specs.Inside.{Going, pot, rest}
 use Rattle.junior.proofs.Little.{collect-++}
@@ -22,7 +23,7 @@ use Rattle.junior.proofs.Figures.{spends, cost-A}
 use Rattle.state.specs.StateBytes.{Own, before, in-phase, zeros}
 use Rattle.state.proofs.Parts.{blank, blank-below, blank-both, len-bytes}
 use Rattle.state.proofs.Frames.{Frame, size-in}
-use Rattle.steps.specs.Running.{Bytes, Ready, Wrote, SameLengths, Ran, left, envOf, atoms-done, phaseAfter}
+use Rattle.steps.specs.Running.{Bytes, Ready, Wrote, SameLengths, Ran, left, valuesIn, envOf, atoms-done, phaseAfter}
 use Rattle.steps.proofs.Children.{Cut, byte-is, own-in, put-back}
 
 -- no atom went into the row
@@ -84,13 +85,30 @@ room-after h g t′ e =
 
 -- lengths that stay
 pub same-lengths : (words tally : List ℕ) → SameLengths words tally words tally
-same-lengths words tally = record { of-words = refl; of-tally = refl }
+same-lengths words tally = record { of-words = refl; of-tally = refl; of-values = refl }
 
 pub lengths-then : {words tally words′ tally′ words″ tally″ : List ℕ}
     → SameLengths words tally words′ tally′
     → SameLengths words′ tally′ words″ tally″
     → SameLengths words tally words″ tally″
-lengths-then k l = record { of-words = l .of-words ∙ k .of-words; of-tally = l .of-tally ∙ k .of-tally }
+lengths-then k l =
+    record {
+      of-words = l .of-words ∙ k .of-words;
+      of-tally = l .of-tally ∙ k .of-tally;
+      of-values = l .of-values ∙ k .of-values;
+    }
+
+-- a number of the tally before the values is written anew
+pub values-apart : (tally : List ℕ) (k x : ℕ) → k < 3 → valuesIn (set tally k x) ≡ valuesIn tally
+values-apart tally k x l =
+    fun-ext (λ v. ap (λ n. n / 2 ^ (8 * (v % 8)) % 256) (getD-set-other tally k (3 + v / 8) x 0 (λ e. omega arith)))
+
+-- what runs later runs with the same values
+pub later : {words tally words₁ tally₁ : List ℕ} {P : Place} {t : Term} {E : Env} {r : Result}
+    → SameLengths words tally words₁ tally₁
+    → Rewrites (left-first (valuesIn tally₁)) P t E r
+    → Rewrites (left-first (valuesIn tally)) P t E r
+later {P = P} {t} {E} {r} k d = subst (λ value. Rewrites (left-first value) P t E r) (k .of-values) d
 
 -- the node, as t′ then
 pub ready-as : {skip skip′ : ℕ} {table : List ℕ} {i : ℕ} {state words row tally state′ words′ row′ tally′ : List ℕ}
@@ -139,7 +157,7 @@ left-around {ahead = ahead} {behind = behind} o TERM x =
 module _ {words row tally : List ℕ} {P : Place} {t : Term} where
   -- a node that runs no part
   pub ran-alone : {α : Flag} {to : Term} {l : List Act} {state′ : List ℕ}
-      → Rewrites left-first P t (envOf words tally) (answers α to (envOf words tally) l)
+      → Rewrites (left-first (valuesIn tally)) P t (envOf words tally) (answers α to (envOf words tally) l)
       → atoms l ≡ []
       → state′ ≡ left α to
       → Ran P t words row tally state′ words row tally α
@@ -156,7 +174,7 @@ module _ {words row tally : List ℕ} {P : Place} {t : Term} where
   -- a node that leaves what another left, and did the same atoms
   pub ran-by : {Q : Place} {u : Term} {state′ words′ row′ tally′ : List ℕ} {α : Flag} {l : List Act}
       → (k : Ran Q u words row tally state′ words′ row′ tally′ α)
-      → Rewrites left-first P t (envOf words tally) (answers α (k .to) (envOf words′ tally′) l)
+      → Rewrites (left-first (valuesIn tally)) P t (envOf words tally) (answers α (k .to) (envOf words′ tally′) l)
       → atoms l ≡ atoms (k .acts)
       → Ran P t words row tally state′ words′ row′ tally′ α
   ran-by {l = l} k d e =
@@ -174,7 +192,7 @@ module _ {words row tally : List ℕ} {P : Place} {t : Term} where
       → {Q R : Place} {x u : Term} {s words₁ row₁ tally₁ state′ words′ row′ tally′ : List ℕ} {β α : Flag}
       → (g : Ran Q x words row tally s words₁ row₁ tally₁ β)
       → (k : Ran R u words₁ row₁ tally₁ state′ words′ row′ tally′ α)
-      → Rewrites left-first P t (envOf words tally) (answers α (k .to) (envOf words′ tally′) (g .acts ++ k .acts))
+      → Rewrites (left-first (valuesIn tally)) P t (envOf words tally) (answers α (k .to) (envOf words′ tally′) (g .acts ++ k .acts))
       → Ran P t words row tally state′ words′ row′ tally′ α
   ran-then h g k d =
       record {
@@ -192,7 +210,7 @@ module _ {words row tally : List ℕ} {P : Place} {t : Term} where
       {Q : Place} {x : Term} {words₁ s words₂ words′ row′ tally′ : List ℕ} {α : Flag} {l : List Act} {state′ : List ℕ}
       → (g : Ran Q x words₁ row tally s words₂ row′ tally′ α)
       → SameLengths words tally words′ tally′
-      → Rewrites left-first P t (envOf words tally) (answers α (leave α (f (g .to))) (envOf words′ tally′) l)
+      → Rewrites (left-first (valuesIn tally)) P t (envOf words tally) (answers α (leave α (f (g .to))) (envOf words′ tally′) l)
       → atoms l ≡ atoms (g .acts)
       → state′ ≡ before (own-left α own) (blank ahead ++ (s ++ blank behind))
       → Ran P t words row tally state′ words′ row′ tally′ α
@@ -272,7 +290,7 @@ module _ {own : Own} {ahead behind : ℕ} {f : Term → Term} (o : Frame own ahe
     (g : Ran Q x words₁ row tally s words₂ row′ tally′ α) {P : Place} {t : Term} {words′ : List ℕ} {l : List Act}
     (k : SameLengths words tally words′ tally′) where
   pub ran-kept : skip ≡ 0 → own-left α own ≡ own
-      → Rewrites left-first P t (envOf words tally) (answers α (leave α (f (g .to))) (envOf words′ tally′) l)
+      → Rewrites (left-first (valuesIn tally)) P t (envOf words tally) (answers α (leave α (f (g .to))) (envOf words′ tally′) l)
       → atoms l ≡ atoms (g .acts)
       → Ran P t words row tally (putMid a (e - a) state s) words′ row′ tally′ α
   ran-kept z w d q =
@@ -280,7 +298,7 @@ module _ {own : Own} {ahead behind : ℕ} {f : Term → Term} (o : Frame own ahe
 
   pub ran-phase : skip ≤ 1 → {ph : ℕ} → own ≡ in-phase ph
       → {own′ : Own} {f′ : Term → Term} → Frame own′ ahead behind f′ → {ph′ : ℕ} → own-left α own′ ≡ in-phase ph′
-      → Rewrites left-first P t (envOf words tally) (answers α (leave α (f′ (g .to))) (envOf words′ tally′) l)
+      → Rewrites (left-first (valuesIn tally)) P t (envOf words tally) (answers α (leave α (f′ (g .to))) (envOf words′ tally′) l)
       → atoms l ≡ atoms (g .acts)
       → Ran P t words row tally (set (putMid a (e - a) state s) 0 ph′) words′ row′ tally′ α
   ran-phase z v o′ {ph′} w d q =

@@ -29,7 +29,7 @@ use Rattle.state.specs.StateBytes.{zeros, below, stateBytes}
 use Rattle.state.proofs.Shape.{Shape, is-done, is-stop, is-atom, is-generate, is-await, is-local, no-sign}
 use Rattle.steps.specs.Running.{Ready, Ran, HasTest, TestRead, envOf, atoms-done}
 use Rattle.steps.proofs.LoadedNode.{generate-placed, await-test}
-use Rattle.steps.proofs.Done.{ran-alone, wrote-none}
+use Rattle.steps.proofs.Done.{ran-alone, wrote-none, values-apart}
 
 -- all bytes of a node in phase 3 are zero but the phase
 done-zeros : (p : Program) → set (stateBytes (done p)) 0 0 ≡ zeros p
@@ -43,7 +43,7 @@ count-apart : (words tally : List ℕ) (n : ℕ) → envOf words (set tally 0 n)
 count-apart words [] n = refl
 count-apart words (a ∷ l) n = refl
 
-moved : (words words′ tally : List ℕ) (s : ℕ) → length tally ≡ 3 → marks words′ ≡ put s true (marks words)
+moved : (words words′ tally : List ℕ) (s : ℕ) → length tally ≡ 5 → marks words′ ≡ put s true (marks words)
     → envOf words′ (set tally 1 1) ≡ generated s (envOf words tally)
 moved words words′ [] s n e = absurd (omega arith)
 moved words words′ (a ∷ []) s n e = absurd (omega arith)
@@ -85,7 +85,7 @@ module _ {table : List ℕ} {i : ℕ} {state words row tally : List ℕ} where
           done-is = getD-set-same tally 0 (at + 1) 0 (omega (arith, h .tallied));
           row-is = rw (same, add-one) (set-split row at b (atom-room (is-atom b) n h));
         };
-        lengths = record { of-words = refl; of-tally = length-set tally 0 (at + 1) };
+        lengths = record { of-words = refl; of-tally = length-set tally 0 (at + 1); of-values = values-apart tally 0 (at + 1) (omega arith) };
       }
 
   pub generate-ran : {P : Place} {t : Term} {ph : ℕ} → Shape t generate-kind ph → ph ≢ 3 → Ready 0 table i state words row tally t
@@ -103,7 +103,7 @@ module _ {table : List ℕ} {i : ℕ} {state words row tally : List ℕ} where
         rewrites = rw (moved words words′ tally b (h .tallied) (rw (same, there) at m)) r16;
         bytes = h .bytes;
         wrote = rw (getD-set-other tally 1 0 1 0 (λ z. omega arith)) (wrote-none row (atoms-done tally));
-        lengths = record { of-words = l; of-tally = length-set tally 1 1 };
+        lengths = record { of-words = l; of-tally = length-set tally 1 1; of-values = values-apart tally 1 1 (omega arith) };
       }
 
   -- an Await's configuration can be read, and the Await goes by what it is read as

@@ -6,7 +6,8 @@ use native.Mathlib.Omega.{arith}
 use lib.ListN.{length}
 use Rattle.events.specs.Members.{places}
 use Rattle.junior.specs.Configuration.{Config}
-use Rattle.junior.specs.Program.{Program, Repeat, Generate, Await, When, Until, Control, Local, kind}
+use Rattle.junior.specs.Program.{Program, Repeat, Generate, Await, When, Until, Control, Local, If, kind}
+use Rattle.junior.specs.Values.{Times, exactly, asked, most}
 use Rattle.table.specs.Records.{configurations, events, argumentAt, sizeAt}
 use Rattle.table.specs.Good.{argumentLimit}
 use Rattle.table.specs.Spells.{Spells, Configured, tested}
@@ -22,7 +23,7 @@ module _ {table : List ℕ} {i : ℕ} {p : Program} (h : Placed table i p) where
   event-placed e = omega (arith, argument-below e, h .loaded .framed .v-most)
 
   has-test : argumentLimit table (kind p) ≡ configurations table → (c : Config) → Configured table (tested table i) c
-      → {tally : List ℕ} → length tally ≡ 3 → HasTest table i tally
+      → {tally : List ℕ} → length tally ≡ 5 → HasTest table i tally
   has-test e c s n =
       record { loaded = h .loaded; node = own-node h; tests = argument-below e; spelled = (c, s); tallied = n }
 
@@ -40,13 +41,24 @@ module _ {table : List ℕ} {i s : ℕ} where
   unfolding Spells kind argumentLimit
   local-placed h = omega (arith, event-placed h refl, h .spelled .1)
 
--- how often a Repeat runs its body is a number of 16 bits
-pub repeat-below : {table : List ℕ} {i n : ℕ} {p : Program} → Placed table i (Repeat n p) → n < 65536
+-- how often a Repeat or a RepeatExt runs its body at most is a number of 16 bits
+pub repeat-below : {table : List ℕ} {i : ℕ} (n : Times) {p : Program} → Placed table i (Repeat n p) → most n < 65536
 unfolding Spells kind argumentLimit
-repeat-below h = omega (arith, argument-below h refl, h .spelled .1)
+repeat-below (exactly n) h = omega (arith, argument-below h refl, h .spelled .1)
+repeat-below (asked v m) h = omega (arith, argument-below h refl, h .spelled .1 .1)
+
+-- the values that nodes name
+module _ {table : List ℕ} {i v : ℕ} where
+  pub if-placed : {p q : Program} → Placed table i (If v p q) → v < 16
+  unfolding Spells kind argumentLimit
+  if-placed h = omega (arith, argument-below h refl, h .spelled .1)
+
+  pub ext-placed : {m : ℕ} {p : Program} → Placed table i (Repeat (asked v m) p) → v < 16
+  unfolding Spells
+  ext-placed h = omega (arith, h .spelled .1 .0)
 
 -- the configurations that nodes test
-module _ {table : List ℕ} {i : ℕ} {c : Config} {tally : List ℕ} (n : length tally ≡ 3) where
+module _ {table : List ℕ} {i : ℕ} {c : Config} {tally : List ℕ} (n : length tally ≡ 5) where
   pub await-test : Placed table i (Await c) → HasTest table i tally
   unfolding Spells kind argumentLimit
   await-test h = has-test h refl c (h .spelled .1) n

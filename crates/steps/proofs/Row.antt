@@ -15,7 +15,8 @@ use Rattle.events.proofs.Bits.{digits}
 use Rattle.events.proofs.Words.{marks-put}
 use Rattle.table.specs.Records.{nodes}
 use Rattle.table.specs.Reading.{event-words}
-use Rattle.steps.specs.Numbers.{atoms-at, moved-at, ended-at, base-at, places-of-row}
+use Rattle.steps.specs.Running.{valuesIn}
+use Rattle.steps.specs.Numbers.{atoms-at, moved-at, ended-at, base-at, values-at, places-of-row}
 use Rattle.steps.specs.Numbers.{wordsOf, tallyOf, withWords, firstNumbers, nextNumbers, Numbers, Kept, Put}
 
 pub kept-same : (numbers : List ℕ) → Kept numbers numbers
@@ -66,56 +67,94 @@ module _ (m words : List ℕ) (l : length words ≡ event-words) where
       }
 
   pub words-tally : tallyOf (withWords words m) ≡ tallyOf m
-  words-tally = rw (behind 0, behind 1, behind 2)
+  words-tally = rw (behind 0, behind 1, behind 2, behind 4, behind 5)
 
 -- one number of the tally written anew
-pub tally-0 : (m : List ℕ) (v : ℕ) → length m ≡ places-of-row → tallyOf (set m atoms-at v) ≡ set (tallyOf m) 0 v
-tally-0 m v l =
-    let moved = getD-set-other m atoms-at moved-at v 0 (λ e. omega arith) in
-    let ended = getD-set-other m atoms-at ended-at v 0 (λ e. omega arith) in
-    rw (getD-set-same m atoms-at v 0 (omega arith), moved, ended)
+others : (m : List ℕ) (k v : ℕ) (j : ℕ) → k ≢ event-words + j → getD (set m k v) (event-words + j) 0 ≡ getD m (event-words + j) 0
+others m k v j n = getD-set-other m k (event-words + j) v 0 (λ e. n (sym e))
 
-pub tally-1 : (m : List ℕ) (v : ℕ) → length m ≡ places-of-row → tallyOf (set m moved-at v) ≡ set (tallyOf m) 1 v
-tally-1 m v l =
-    let atoms = getD-set-other m moved-at atoms-at v 0 (λ e. omega arith) in
-    let ended = getD-set-other m moved-at ended-at v 0 (λ e. omega arith) in
-    rw (atoms, getD-set-same m moved-at v 0 (omega arith), ended)
+module _ (m : List ℕ) (v : ℕ) (l : length m ≡ places-of-row) where
+  pub tally-0 : tallyOf (set m atoms-at v) ≡ set (tallyOf m) 0 v
+  tally-0 =
+      rw (
+        getD-set-same m atoms-at v 0 (omega arith),
+        others m atoms-at v 1 (λ e. omega arith),
+        others m atoms-at v 2 (λ e. omega arith),
+        others m atoms-at v 4 (λ e. omega arith),
+        others m atoms-at v 5 (λ e. omega arith),
+      )
 
-pub tally-2 : (m : List ℕ) (v : ℕ) → length m ≡ places-of-row → tallyOf (set m ended-at v) ≡ set (tallyOf m) 2 v
-tally-2 m v l =
-    let atoms = getD-set-other m ended-at atoms-at v 0 (λ e. omega arith) in
-    let moved = getD-set-other m ended-at moved-at v 0 (λ e. omega arith) in
-    rw (atoms, moved, getD-set-same m ended-at v 0 (omega arith))
+  pub tally-1 : tallyOf (set m moved-at v) ≡ set (tallyOf m) 1 v
+  tally-1 =
+      rw (
+        others m moved-at v 0 (λ e. omega arith),
+        getD-set-same m moved-at v 0 (omega arith),
+        others m moved-at v 2 (λ e. omega arith),
+        others m moved-at v 4 (λ e. omega arith),
+        others m moved-at v 5 (λ e. omega arith),
+      )
+
+  pub tally-2 : tallyOf (set m ended-at v) ≡ set (tallyOf m) 2 v
+  tally-2 =
+      rw (
+        others m ended-at v 0 (λ e. omega arith),
+        others m ended-at v 1 (λ e. omega arith),
+        getD-set-same m ended-at v 0 (omega arith),
+        others m ended-at v 4 (λ e. omega arith),
+        others m ended-at v 5 (λ e. omega arith),
+      )
 
 -- the row before the first pass
 module _ (table words : List ℕ) (l : length words ≡ event-words) where
-  blank : List ℕ
+  abbrev blank : List ℕ
   blank = replicate places-of-row 0
 
-  filled : List ℕ
+  abbrev filled : List ℕ
   filled = withWords words blank
 
-  pub first-words : (base : ℕ) → wordsOf (firstNumbers words base) ≡ words
-  unfolding filled blank
-  first-words base = words-stay filled base-at base (omega arith) ∙ words-in blank words l
+  module _ (low high base : ℕ) where
+    abbrev based : List ℕ
+    based = set filled base-at base
 
-  pub first-tally : (base : ℕ) → tallyOf (firstNumbers words base) ≡ 0 ∷ 0 ∷ 0 ∷ []
-  unfolding filled blank
-  first-tally base =
-      let atoms = getD-set-other filled base-at atoms-at base 0 (λ e. omega arith) in
-      let moved = getD-set-other filled base-at moved-at base 0 (λ e. omega arith) in
-      let ended = getD-set-other filled base-at ended-at base 0 (λ e. omega arith) in
-      rw (atoms, moved, ended) (words-tally blank words l)
+    abbrev valued : List ℕ
+    valued = set based values-at low
 
-  pub first-holds : Numbers table (firstNumbers words (6 * nodes table))
-  unfolding filled blank
-  first-holds =
-      let kept = words-kept blank words l refl in
-      record {
-        long = length-set filled base-at (6 * nodes table) ∙ kept .long;
-        ended-below = rw (getD-set-other filled base-at ended-at (6 * nodes table) 0 (λ e. omega arith), kept .ended) (omega arith);
-        base = getD-set-same filled base-at (6 * nodes table) 0 (omega (arith, kept .long));
-      }
+    based-long : length based ≡ places-of-row
+    based-long = length-set filled base-at base ∙ words-kept blank words l refl .long
+
+    -- a number that none of the three is written to
+    apart : (j : ℕ) → j < 3 → getD (firstNumbers words low high base) (event-words + j) 0 ≡ 0
+    apart j h =
+        others valued (values-at + 1) high j (λ e. omega arith)
+        ∙ (others based values-at low j (λ e. omega arith) ∙ (others filled base-at base j (λ e. omega arith) ∙ zero-at j h))
+      where
+        zero-at : (j : ℕ) → j < 3 → getD filled (event-words + j) 0 ≡ 0
+        zero-at zero h = behind blank words l 0
+        zero-at (suc zero) h = behind blank words l 1
+        zero-at (suc (suc zero)) h = behind blank words l 2
+        zero-at (suc (suc (suc j))) h = absurd (omega arith)
+
+    pub first-words : wordsOf (firstNumbers words low high base) ≡ words
+    first-words =
+        words-stay valued (values-at + 1) high (omega arith)
+        ∙ (words-stay based values-at low (omega arith) ∙ (words-stay filled base-at base (omega arith) ∙ words-in blank words l))
+
+    pub first-tally : tallyOf (firstNumbers words low high base) ≡ 0 ∷ 0 ∷ 0 ∷ low ∷ high ∷ []
+    first-tally =
+        let low-is = others valued (values-at + 1) high 4 (λ e. omega arith) ∙ getD-set-same based values-at low 0 (omega (arith, based-long)) in
+        let high-is = getD-set-same valued (values-at + 1) high 0 (omega (arith, length-set based values-at low, based-long)) in
+        rw (apart 0 (omega arith), apart 1 (omega arith), apart 2 (omega arith), low-is, high-is)
+
+    pub first-holds : base ≡ 6 * nodes table → Numbers table (firstNumbers words low high base)
+    first-holds e =
+        record {
+          long = length-set valued (values-at + 1) high ∙ (length-set based values-at low ∙ based-long);
+          ended-below = rw (apart 2 (omega arith)) (omega arith);
+          base =
+              others valued (values-at + 1) high 3 (λ e. omega arith)
+              ∙ (others based values-at low 3 (λ e. omega arith)
+              ∙ (getD-set-same filled base-at base 0 (omega (arith, length-set filled base-at base, based-long)) ∙ e));
+        }
 
 -- the row between two passes
 pub next-words : (m : List ℕ) → wordsOf (nextNumbers m) ≡ wordsOf m
@@ -154,7 +193,14 @@ module _ (m : List ℕ) (e : ℕ) (l : length m ≡ places-of-row) (there : e < 
             ap marks (words-set w)
             ∙ marks-put (wordsOf m) e b w (omega arith) (λ j. rw (getD-take event-words m (e / 64) 0 word-in, d));
         wide = ap length (words-set w) ∙ length-set (wordsOf m) (e / 64) w;
-        tally = rw (other atoms-at (omega arith), other moved-at (omega arith), other ended-at (omega arith));
+        tally =
+            rw (
+              other atoms-at (omega arith),
+              other moved-at (omega arith),
+              other ended-at (omega arith),
+              other values-at (omega arith),
+              other (values-at + 1) (omega arith),
+            );
         kept = record { long = length-set m (e / 64) w; ended = other ended-at (omega arith); base = other base-at (omega arith) };
       }
 
@@ -170,3 +216,12 @@ copy-more k [] ys l n = absurd (omega arith)
 copy-more k (x ∷ xs) [] l n = absurd (omega arith)
 copy-more zero (x ∷ xs) (y ∷ ys) l n = refl
 copy-more (suc k) (x ∷ xs) (y ∷ ys) l n = ap (λ (l : List ℕ). x ∷ l) (copy-more k xs ys (omega arith) (omega arith))
+
+-- a value of the box, read there
+pub value-at : (m : List ℕ) (v : ℕ) → v < 16 → getD m (values-at + v / 8) 0 / 2 ^ (8 * (v % 8)) % 256 ≡ valuesIn (tallyOf m) v
+value-at m v h = ap (λ n. n / 2 ^ (8 * (v % 8)) % 256) (go (v / 8) (omega arith))
+  where
+    go : (k : ℕ) → k < 2 → getD m (values-at + k) 0 ≡ getD (tallyOf m) (3 + k) 0
+    go zero l = refl
+    go (suc zero) l = refl
+    go (suc (suc k)) l = absurd (omega arith)

@@ -1,10 +1,10 @@
 -- Which terms each function of a pass runs.
 use Prim.Native.Nat.{ℕ}
 use mathlib.Core.Path.{_≡_}
-use mathlib.Core.Logic.{_≢_}
+use mathlib.Core.Logic.{_≢_, _⊎_}
 use Rattle.junior.specs.Program.{kind}
 use Rattle.junior.specs.Term.{Term, prog}
-use Rattle.state.specs.Kinds.{seq-kind, par-kind, loop-kind, await-kind, when-kind, until-kind}
+use Rattle.state.specs.Kinds.{seq-kind, par-kind, loop-kind, await-kind, when-kind, until-kind, if-kind}
 use Rattle.state.specs.StateBytes.{head}
 use Rattle.steps.specs.Running.{Phase, KindPhase}
 
@@ -33,12 +33,16 @@ BothSuspended t = OfKind par-kind t × (head t .phase ≡ 0) × (head t .flags �
 abbrev pub NotBoth : Term → Type 0
 NotBoth t = OfKind par-kind t × (head t .phase ≡ 0 → head t .flags ≢ 0)
 
--- a Seq, When or Until in its second child; a When in its then branch; a Loop whose body begins; an Until*
+-- the kinds of a When and of an If
+abbrev pub Choosing : ℕ → Type 0
+Choosing k = (k ≡ when-kind) ⊎ (k ≡ if-kind)
+
+-- a Seq, When, Until or If in its second child; a When or an If in its first; a Loop whose body begins; an Until*
 abbrev pub InSecond : Term → Type 0
 InSecond = Phase 2
 
 abbrev pub InThen : Term → Type 0
-InThen = KindPhase when-kind 1
+InThen t = Choosing (kind (prog t)) × (head t .phase ≡ 1)
 
 abbrev pub Beginning : Term → Type 0
 Beginning = KindPhase loop-kind 0

@@ -1,5 +1,6 @@
 -- The row of numbers that a pass carries: the event words, then one number each for how many atoms are done, whether something moved, whether
--- the end is declared, and the byte of the table where the configurations begin. A number more is a place more here.
+-- the end is declared, the byte of the table where the configurations begin, and two for the box's values, eight each. A number more is a place
+-- more here.
 use Prim.Native.Nat.{ℕ, _+_, _*_, _<_}
 use mathlib.Core.Bool.{Bool}
 use mathlib.Core.Path.{_≡_}
@@ -25,16 +26,25 @@ ended-at = event-words + 2
 abbrev pub base-at : ℕ
 base-at = event-words + 3
 
+abbrev pub values-at : ℕ
+values-at = event-words + 4
+
 abbrev pub places-of-row : ℕ
-places-of-row = event-words + 4
+places-of-row = event-words + 6
 
 -- the event words of a row
 abbrev pub wordsOf : List ℕ → List ℕ
 wordsOf numbers = take event-words numbers
 
--- the tally of a row: atoms done, moved, ended
+-- the tally of a row: atoms done, moved, ended, the values
 abbrev pub tallyOf : List ℕ → List ℕ
-tallyOf numbers = getD numbers atoms-at 0 ∷ getD numbers moved-at 0 ∷ getD numbers ended-at 0 ∷ []
+tallyOf numbers =
+    getD numbers atoms-at 0
+    ∷ getD numbers moved-at 0
+    ∷ getD numbers ended-at 0
+    ∷ getD numbers values-at 0
+    ∷ getD numbers (values-at + 1) 0
+    ∷ []
 
 -- a row with other event words
 abbrev pub withWords : List ℕ → List ℕ → List ℕ
@@ -59,9 +69,10 @@ pub record Put (e : ℕ) (present : Bool) (numbers numbers′ : List ℕ) : Type
   pub tally : tallyOf numbers′ ≡ tallyOf numbers
   pub kept : Kept numbers numbers′
 
--- before the first pass: the events handed in; nothing is done, moved or ended
-abbrev pub firstNumbers : List ℕ → ℕ → List ℕ
-firstNumbers words base = set (withWords words (replicate places-of-row 0)) base-at base
+-- before the first pass: the events and the values handed in; nothing is done, moved or ended
+abbrev pub firstNumbers : List ℕ → ℕ → ℕ → ℕ → List ℕ
+firstNumbers words low high base =
+    set (set (set (withWords words (replicate places-of-row 0)) base-at base) values-at low) (values-at + 1) high
 
 -- between two passes: the end is declared if nothing moved, and move is false again
 abbrev pub nextNumbers : List ℕ → List ℕ

@@ -1,8 +1,8 @@
 -- What the functions of a pass promise one another. No contract of a customer's call cites this file.
-use Prim.Native.Nat.{ℕ, _+_, _*_, _%_, _≤_, _<_}
+use Prim.Native.Nat.{ℕ, _+_, _*_, _/_, _%_, _^_, _≤_, _<_}
 use mathlib.Core.Bool.{Bool, true, false, cond}
 use mathlib.Core.Path.{_≡_}
-use mathlib.Core.Logic.{_≢_}
+use mathlib.Core.Logic.{_≢_, _⊎_}
 use mathlib.Core.List.{List, _++_}
 use lib.ListN.{length, getD, take, drop, set}
 use lib.Dec.{ltb}
@@ -12,6 +12,7 @@ use Rattle.junior.specs.declared.Flag.the-variants.{SUSP, STOP, TERM}
 use Rattle.junior.specs.declared.Verdict.{Verdict}
 use Rattle.junior.specs.Flags.{γ, δ₁, δ₂}
 use Rattle.junior.specs.Configuration.{Config, Env, test}
+use Rattle.junior.specs.Values.{Values}
 use Rattle.junior.specs.Program.{kind, size}
 use Rattle.junior.specs.Term.{Term, prog}
 use Rattle.junior.specs.Trace.{Place, Act, atoms}
@@ -21,10 +22,11 @@ use Rattle.junior.specs.Inside.{Going, pot}
 use Rattle.table.specs.Records.{nodes, configurations, argumentAt}
 use Rattle.table.specs.Spells.{Configured, tested}
 use Rattle.table.specs.Inside.{Loaded, Placed}
-use Rattle.state.specs.Kinds.{par-kind, repeat-kind}
+use Rattle.state.specs.Kinds.{par-kind, repeat-kind, repeat-ext-kind}
 use Rattle.state.specs.StateBytes.{code, head, zeros, stateBytes}
 
--- The tally of an instant: how many atoms are done, whether something moved, whether the end is declared (0 for no).
+-- The tally of an instant: how many atoms are done, whether something moved, whether the end is declared (0 for no); behind these the box's
+-- values, eight to a number, which no run changes.
 abbrev pub atoms-done : List ℕ → ℕ
 atoms-done tally = getD tally 0 0
 
@@ -33,6 +35,9 @@ something-moved tally = getD tally 1 0
 
 abbrev pub end-declared : List ℕ → ℕ
 end-declared tally = getD tally 2 0
+
+abbrev pub valuesIn : List ℕ → Values
+valuesIn tally v = getD tally (3 + v / 8) 0 / 2 ^ (8 * (v % 8)) % 256
 
 -- the environment that the words and the tally stand for
 abbrev pub envOf : List ℕ → List ℕ → Env
@@ -48,7 +53,7 @@ pub record Ready (skip : ℕ) (table : List ℕ) (i : ℕ) (state words row tall
   pub placed : Placed table i (prog t)
   pub loops : LoopsStop (prog t)
   pub wide : 64 * length words ≡ places
-  pub tallied : length tally ≡ 3
+  pub tallied : length tally ≡ 5
   pub long : length state ≡ 4 * size (prog t)
   pub bytes : Bytes skip state t
   pub going : Going (marks words) t
@@ -65,16 +70,17 @@ pub record Wrote (xs row : List ℕ) (at : ℕ) (row′ : List ℕ) (at′ : ℕ
   pub done-is : at′ ≡ at + length xs
   pub row-is : row′ ≡ take at row ++ (xs ++ drop (at + length xs) row)
 
--- words and tally are as long as they were
+-- words and tally are as long as they were, and the values the same
 pub record SameLengths (words tally words′ tally′ : List ℕ) : Type 0 where
   pub of-words : length words′ ≡ length words
   pub of-tally : length tally′ ≡ length tally
+  pub of-values : valuesIn tally′ ≡ valuesIn tally
 
 -- t at place P was run once, by the rules
 pub record Ran (P : Place) (t : Term) (words row tally state′ words′ row′ tally′ : List ℕ) (α : Flag) : Type 0 where
   pub to : Term
   pub acts : List Act
-  pub rewrites : Rewrites left-first P t (envOf words tally) (answers α to (envOf words′ tally′) acts)
+  pub rewrites : Rewrites (left-first (valuesIn tally)) P t (envOf words tally) (answers α to (envOf words′ tally′) acts)
   pub bytes : state′ ≡ left α to
   pub wrote : Wrote (atoms acts) row (atoms-done tally) row′ (atoms-done tally′)
   pub lengths : SameLengths words tally words′ tally′
@@ -95,9 +101,12 @@ Phase ph t = head t .phase ≡ ph
 abbrev pub KindPhase : ℕ → ℕ → Term → Type 0
 KindPhase k ph t = (kind (prog t) ≡ k) × (head t .phase ≡ ph)
 
--- begun Repeats with k runs still to begin
+-- the kinds of a Repeat and of a RepeatExt; begun ones with k runs still to begin
+abbrev pub Repeating : ℕ → Type 0
+Repeating k = (k ≡ repeat-kind) ⊎ (k ≡ repeat-ext-kind)
+
 abbrev pub Times : ℕ → Term → Type 0
-Times k t = (kind (prog t) ≡ repeat-kind) × (head t .phase ≡ 1) × (head t .count ≡ k)
+Times k t = Repeating (kind (prog t)) × (head t .phase ≡ 1) × (head t .count ≡ k)
 
 -- Pars of which only the first branch is suspended, or only the second
 abbrev pub LeftSuspended : Term → Type 0
@@ -139,7 +148,7 @@ pub record HasTest (table : List ℕ) (i : ℕ) (tally : List ℕ) : Type 0 wher
   pub node : i < nodes table
   pub tests : argumentAt table i < configurations table
   pub spelled : (c : Config) × Configured table (tested table i) c
-  pub tallied : length tally ≡ 3
+  pub tallied : length tally ≡ 5
 
 abbrev pub TestRead : List ℕ → ℕ → List ℕ → List ℕ → Verdict → Type 0
 TestRead table i words tally r = (c : Config) → Configured table (tested table i) c → r ≡ test c (envOf words tally)

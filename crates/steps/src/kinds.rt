@@ -1,4 +1,4 @@
-// The kinds of nodes by name (01, "The table").
+// The kinds of nodes by name (01, "The table"; L14).
 pub const NOTHING: usize = 0;
 
 pub const STOP: usize = 1;
@@ -24,3 +24,7 @@ pub const UNTIL: usize = 10;
 pub const CONTROL: usize = 11;
 
 pub const LOCAL: usize = 12;
+
+pub const IF: usize = 14;
+
+pub const REPEAT_EXT: usize = 15;

@@ -1,11 +1,13 @@
 // The row of numbers that a pass carries: the event words first, then one number each.
 ghost use mathlib.Core.Path.{_≡_};
-ghost use Prim.Native.Nat.{_<_};
+ghost use Prim.Native.Nat.{_<_, min};
 ghost use lib.ListN.{length};
 ghost use Rattle.events.specs.Events.{put};
 ghost use Rattle.events.specs.Members.{places, marks};
 ghost use Rattle.events.proofs.Bits.{digits};
-ghost use Rattle.steps.specs.Numbers.{Put, places-of-row, wordsOf, withWords, firstNumbers, nextNumbers};
+ghost use Rattle.table.specs.Spells.{valueIn, capIn};
+ghost use Rattle.steps.specs.Running.{valuesIn};
+ghost use Rattle.steps.specs.Numbers.{Put, places-of-row, wordsOf, tallyOf, withWords, firstNumbers, nextNumbers};
 use events::EventSet;
 use events::WORDS;
 use table::reading::ROW;
@@ -21,6 +23,9 @@ pub const ENDED: usize = WORDS + 2;
 
 // The byte of the table where the configurations begin.
 pub const BASE: usize = WORDS + 3;
+
+// The box's values, eight to a number, the first lowest.
+pub const VALUES: usize = WORDS + 4;
 
 // How many numbers the row has.
 pub const NUMBERS: usize = ROW;
@@ -76,6 +81,27 @@ fn has_event(numbers: &[u64; NUMBERS], event: usize) -> bool
     (numbers[event / 64] >> (event % 64)) % 2 == 1
 }
 
+// Value v of the box.
+pub fn value_of(numbers: &[u64; NUMBERS], v: usize) -> u64
+    requires { ⌜ (length (now numbers) ≡ places-of-row) × (v < 16) ⌝ }
+    ensures { λ r. ⌜ r ≡ valuesIn (tallyOf (now (numbers .entry))) v ⌝ }
+{
+    (numbers[VALUES + v / 8] >> (8 * (v % 8))) % 256
+}
+
+// How often a RepeatExt with this argument runs when it begins: "the lesser of cap and value".
+pub fn times_asked(numbers: &[u64; NUMBERS], argument: usize) -> usize
+    requires { ⌜ length (now numbers) ≡ places-of-row ⌝ }
+    ensures { λ r. ⌜ r ≡ min (capIn argument) (valuesIn (tallyOf (now (numbers .entry))) (valueIn argument)) ⌝ }
+{
+    let cap = argument / 16;
+    let value = value_of(numbers, argument % 16) as usize;
+    if value < cap {
+        return value;
+    }
+    cap
+}
+
 // One binary digit of a word.
 fn put_digit(word: u64, at: usize, present: bool) -> u64
     requires { ⌜ at < 64 ⌝ }
@@ -88,12 +114,14 @@ fn put_digit(word: u64, at: usize, present: bool) -> u64
 }
 
 // The row before the first pass of an instant.
-pub fn first_numbers(events: EventSet, base: usize) -> [u64; NUMBERS]
-    ensures { λ r. ⌜ r ≡ firstNumbers (events .words) base ⌝ }
+pub fn first_numbers(events: EventSet, low: u64, high: u64, base: usize) -> [u64; NUMBERS]
+    ensures { λ r. ⌜ r ≡ firstNumbers (events .words) low high base ⌝ }
 {
     let mut numbers = [0; NUMBERS];
     keep_events(&mut numbers, events);
     numbers[BASE] = base as u64;
+    numbers[VALUES] = low;
+    numbers[VALUES + 1] = high;
     numbers
 }
 

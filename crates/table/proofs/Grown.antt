@@ -1,17 +1,18 @@
 -- Good records spell a tree: `spells-tree`.
 use Prim.Native.Nat.{ℕ, zero, suc, _+_, _≤_, _<_}
-use mathlib.Core.Bool.{true, _||_}
-use lib.Dec.{eqb, ltb}
+use mathlib.Core.Bool.{true, not, _||_, false≢true}
+use lib.Dec.{eqb, leb, ltb}
 use mathlib.Core.Path.{_≡_, refl, sym, _∙_}
+use mathlib.Core.Logic.{_≢_}
 use mathlib.Core.List.{List}
 use native.Mathlib.Omega.{arith}
-use borrow.Author.Tests.{leb-true, ltb-true}
+use borrow.Author.Tests.{leb-true, ltb-true, eq-eqb}
 use Rattle.junior.specs.Program.{Program, kind, argument, Leaf, nothing, stop, atom, generate, await, One, loop, repeat}
-use Rattle.junior.specs.Program.{control, local, Two, seq, par, when, until, size}
+use Rattle.junior.specs.Program.{control, local, Two, seq, par, when, until, if, size}
 use Rattle.junior.proofs.Parts.{parts-none, parts-one, parts-two}
 use Rattle.table.specs.Records.{nodes, configurations, kindAt, zeroAt, argumentAt, sizeAt, secondAt}
 use Rattle.table.specs.Records.{configurationAt}
-use Rattle.table.specs.Good.{last-kind, children, argumentLimit, goodNode}
+use Rattle.table.specs.Good.{known, children, argumentLimit, goodNode}
 use Rattle.table.specs.Spells.{Configured, configurationOf, Argues, Spells, form, programOf, tested, treeOf}
 use Rattle.table.specs.Inside.{ConfigurationsGood, NodesGood}
 use Rattle.table.specs.Inside.Weighing.{treeAt}
@@ -34,22 +35,32 @@ pub data Kind : ℕ → Type 0 where
   k10 : Kind 10
   k11 : Kind 11
   k12 : Kind 12
+  k14 : Kind 14
+  k15 : Kind 15
 
-pub kind-below : (k : ℕ) → k ≤ last-kind → Kind k
-kind-below zero h = k0
-kind-below (suc zero) h = k1
-kind-below (suc (suc zero)) h = k2
-kind-below (suc (suc (suc zero))) h = k3
-kind-below (suc (suc (suc (suc zero)))) h = k4
-kind-below (suc (suc (suc (suc (suc zero))))) h = k5
-kind-below (suc (suc (suc (suc (suc (suc zero)))))) h = k6
-kind-below (suc (suc (suc (suc (suc (suc (suc zero))))))) h = k7
-kind-below (suc (suc (suc (suc (suc (suc (suc (suc zero)))))))) h = k8
-kind-below (suc (suc (suc (suc (suc (suc (suc (suc (suc zero))))))))) h = k9
-kind-below (suc (suc (suc (suc (suc (suc (suc (suc (suc (suc zero)))))))))) h = k10
-kind-below (suc (suc (suc (suc (suc (suc (suc (suc (suc (suc (suc zero))))))))))) h = k11
-kind-below (suc (suc (suc (suc (suc (suc (suc (suc (suc (suc (suc (suc zero)))))))))))) h = k12
-kind-below (suc (suc (suc (suc (suc (suc (suc (suc (suc (suc (suc (suc (suc k))))))))))))) h = absurd (omega arith)
+pub kind-below : (k : ℕ) → k ≤ 15 → k ≢ 13 → Kind k
+kind-below zero h n = k0
+kind-below (suc zero) h n = k1
+kind-below (suc (suc zero)) h n = k2
+kind-below (suc (suc (suc zero))) h n = k3
+kind-below (suc (suc (suc (suc zero)))) h n = k4
+kind-below (suc (suc (suc (suc (suc zero))))) h n = k5
+kind-below (suc (suc (suc (suc (suc (suc zero)))))) h n = k6
+kind-below (suc (suc (suc (suc (suc (suc (suc zero))))))) h n = k7
+kind-below (suc (suc (suc (suc (suc (suc (suc (suc zero)))))))) h n = k8
+kind-below (suc (suc (suc (suc (suc (suc (suc (suc (suc zero))))))))) h n = k9
+kind-below (suc (suc (suc (suc (suc (suc (suc (suc (suc (suc zero)))))))))) h n = k10
+kind-below (suc (suc (suc (suc (suc (suc (suc (suc (suc (suc (suc zero))))))))))) h n = k11
+kind-below (suc (suc (suc (suc (suc (suc (suc (suc (suc (suc (suc (suc zero)))))))))))) h n = k12
+kind-below (suc (suc (suc (suc (suc (suc (suc (suc (suc (suc (suc (suc (suc zero))))))))))))) h n = absurd (n refl)
+kind-below (suc (suc (suc (suc (suc (suc (suc (suc (suc (suc (suc (suc (suc (suc zero)))))))))))))) h n = k14
+kind-below (suc (suc (suc (suc (suc (suc (suc (suc (suc (suc (suc (suc (suc (suc (suc zero))))))))))))))) h n = k15
+kind-below (suc (suc (suc (suc (suc (suc (suc (suc (suc (suc (suc (suc (suc (suc (suc (suc k)))))))))))))))) h n = absurd (omega arith)
+
+known-kind : (k : ℕ) → known k ≡ true → Kind k
+known-kind k h =
+    let (below, other) = both {a = leb k 15} {b = not (eqb k 13)} h in
+    kind-below k (leb-true k 15 below) (λ e. false≢true (rw (eq-eqb k 13 e) at other))
 
 -- what a good record says
 pub record Fine (t : List ℕ) (i k : ℕ) : Type 0 where
@@ -68,7 +79,7 @@ fine t i k e g =
     rw
     (← e)
     (record {
-      known = kind-below _ (leb-true _ _ (h .0));
+      known = known-kind _ (h .0);
       argument-below = ltb-true _ _ (a .0);
       laid-out = laid _ _ _ _ (l .0);
       root = l .1;
@@ -111,6 +122,8 @@ module _ (t : List ℕ)
     formed i p q k k10 = record { of-kind = refl; shape = two-form (until _ p q); argued = spelled _ }
     formed i p q k k11 = record { of-kind = refl; shape = one-form (control _ p); argued = λ h. refl }
     formed i p q k k12 = record { of-kind = refl; shape = one-form (local _ p); argued = λ h. refl }
+    formed i p q k k14 = record { of-kind = refl; shape = two-form (if _ p q); argued = λ h. refl }
+    formed i p q k k15 = record { of-kind = refl; shape = one-form (repeat _ p); argued = λ h. (refl, refl) }
 
     grown-at : (f i : ℕ) → ((j : ℕ) → i < j → j < nodes t → Grown t j (programOf t f j)) → i < nodes t → (k : ℕ)
         → kindAt t i ≡ k → Fine t i k → Grown t i (programOf t (suc f) i)

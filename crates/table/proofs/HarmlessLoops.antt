@@ -14,6 +14,7 @@ use Rattle.junior.specs.Configuration.{Env, Event, unknown, early-true, early-f
 use Rattle.junior.specs.Program.{Program, Stop, Nothing, When, kind, Parts, no-part, one-part, two-parts, parts, size}
 use Rattle.junior.specs.Term.{when0}
 use Rattle.junior.specs.Trace.{Place}
+use Rattle.junior.specs.Values.{Values}
 use Rattle.junior.specs.Rules.{left-first, Result, Rewrites, r17, r18, r19, r20, r21}
 use Rattle.junior.specs.Figures.{only-if, stops, figure, G, A, W, per, every}
 use Rattle.junior.specs.StoppedBefore.{stopped-before, figure-before, G-before, A-before, W-before}
@@ -35,7 +36,8 @@ use Rattle.table.proofs.Laid.{both}
 absent-unknown : (s : ℕ) (E : Env) → E .now s ≡ false → E .eoi ≡ false → unknown (Event s) E
 absent-unknown s E a e = rw (test-event s E, a, e)
 
-absent-stops : {P : Place} {E : Env} {s : ℕ} {p q : Program} {r : Result} → Rewrites left-first P (when0 (Event s) p q) E r
+absent-stops : {value : Values} {P : Place} {E : Env} {s : ℕ} {p q : Program} {r : Result}
+    → Rewrites (left-first value) P (when0 (Event s) p q) E r
     → E .now s ≡ false → E .eoi ≡ true → r .flag ≡ STOP
 absent-stops (r17 v e d) a h = absurd (false≢true (sym e ∙ h))
 absent-stops {E = E} {s = s} (r18 v e) a h = absurd (false≢true (sym a ∙ present s E v))
@@ -155,7 +157,7 @@ harmless-loops =
       absent = absent-unknown;
       then-stops = λ d. absent-stops d;
       accepted-now = refl;
-      mistaken = (When (Event 0) Stop Nothing, refl, λ X n r i. stops-right (When (Event 0) Stop Nothing) i refl);
+      mistaken = (When (Event 0) Stop Nothing, refl, λ value X n r i. stops-right (When (Event 0) Stop Nothing) i refl);
       true-early = sat-early;
       false-early = unsat-early;
       of-event = λ s. (refl, refl);
@@ -170,7 +172,7 @@ harmless-loops =
           (needs (early-true c) (stops p) (k .0), needs (early-false c) (stops q) (k .1));
       until-stops = λ c p q h f. and-eq-true-iff _ _ .1 (h, possibly (early-true c) (stops q) f);
       until-needs = λ c p q h. let k = both {a = stops p} h in (k .0, needs (early-true c) (stops q) (k .1));
-      stops-right = λ p h X n r i. stops-right p i h;
+      stops-right = λ p h value X n r i. stops-right p i h;
       refusal-7 = λ p. refl;
       figures = λ k n p. refl;
       still-accepted = λ t h. accepts-still t h;

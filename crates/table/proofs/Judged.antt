@@ -8,16 +8,30 @@ use lib.Dec.{eqb, leb, ltb}
 use lib.ListN.{getD, List·getD-eq-default}
 use borrow.Author.Tests.{lt-ltb, le-ltb, le-leb, lt-leb, eq-eqb, ne-eqb}
 use Rattle.table.specs.Records.{nodes, configurations, events, kindAt, zeroAt, argumentAt, sizeAt}
-use Rattle.table.specs.Good.{last-kind, childCounts, children, argumentLimits, argumentLimit, laidOut, goodNode}
+use Rattle.table.specs.Good.{known, childCounts, children, argumentLimits, argumentLimit, laidOut, goodNode}
 use Rattle.table.specs.Inside.Weighing.{SizedWhole, Within, OfKind}
+use Rattle.table.proofs.Little.{below-or}
 
 root-fine : (t : List ℕ) (n i : ℕ) → sizeAt t 0 ≡ n → n ≡ nodes t → (ltb 0 i || eqb (sizeAt t i) (nodes t)) ≡ true
 root-fine t n zero e f = rw (eq-eqb _ _ (e ∙ f))
 root-fine t n (suc i) e f = rw (lt-ltb 0 (suc i) (omega arith))
 
-pub bad-kind : (t : List ℕ) (i : ℕ) → last-kind < kindAt t i → false ≡ goodNode t i
+pub bad-kind : (t : List ℕ) (i : ℕ) → known (kindAt t i) ≡ false → false ≡ goodNode t i
 unfolding goodNode
-bad-kind t i h = rw (lt-leb (kindAt t i) last-kind h)
+bad-kind t i h = rw h
+
+-- the kinds that there aren't
+pub above-all : (k : ℕ) → 15 < k → known k ≡ false
+above-all k h = rw (lt-leb k 15 h)
+
+pub left-out : (k : ℕ) → k ≡ 13 → known k ≡ false
+left-out k e = rw e
+
+pub known-so : (k : ℕ) → k ≤ 15 → (k ≡ 13 → ⊥) → known k ≡ true
+known-so k h f = rw (le-leb k 15 h, ne-eqb k 13 f)
+
+pub none-known : (k : ℕ) → 13 ≤ k → (k ≡ 14 → ⊥) → (k ≡ 15 → ⊥) → known k ≡ false
+none-known k h f g = below-or 15 k (above-all k) (λ l. left-out k (omega arith))
 
 -- the layout, by how many children there are and by the tests that pass
 module _ (written : ℕ → ℕ) (n i count : ℕ) where
@@ -65,9 +79,9 @@ within-of P i l =
     let F = P .framed in
     record { long = omega arith; n-is = F .n-is; n-most = F .n-most; whole = P .whole; here = l }
 
-pub as-kind : {t : List ℕ} {i r : ℕ} → r ≡ kindAt t i → (k : ℕ) → r ≡ k → leb k last-kind ≡ true → {limit count : ℕ}
+pub as-kind : {t : List ℕ} {i r : ℕ} → r ≡ kindAt t i → (k : ℕ) → r ≡ k → known k ≡ true → {limit count : ℕ}
     → argumentLimit t k ≡ limit → children k ≡ count → OfKind t i k limit count
-as-kind e k f h l c = record { kind-is = sym e ∙ f; known = h; limit-is = l; count-is = c }
+as-kind e k f h l c = record { kind-is = sym e ∙ f; known-kind = h; limit-is = l; count-is = c }
 
 -- all of a list are at most b
 abbrev pub Most : ℕ → List ℕ → Type 0
@@ -80,7 +94,7 @@ most-at b (x ∷ l) d m h zero = m .0
 most-at b (x ∷ l) d m h (suc k) = most-at b l d (m .1) h k
 
 -- other kinds have no children and no argument
-pub no-children : (k : ℕ) → 13 ≤ k → children k ≡ 0
+pub no-children : (k : ℕ) → 16 ≤ k → children k ≡ 0
 unfolding children
 no-children k h = List·getD-eq-default childCounts 0 h
 
@@ -89,7 +103,7 @@ pub limit-by : (t : List ℕ) {m v : ℕ} (k : ℕ) → m ≡ configurations t �
 unfolding argumentLimit
 limit-by t k e f = ap₂ (λ v m. getD (argumentLimits v m) k 0) (sym f) (sym e)
 
-pub no-argument : (t : List ℕ) (k : ℕ) → 13 ≤ k → argumentLimit t k ≡ 0
+pub no-argument : (t : List ℕ) (k : ℕ) → 16 ≤ k → argumentLimit t k ≡ 0
 unfolding argumentLimit
 no-argument t k h = List·getD-eq-default (argumentLimits (events t) (configurations t)) 0 h
 
@@ -97,14 +111,14 @@ pub own-kind : {t : List ℕ} {i k limit count : ℕ} → OfKind t i k limit cou
 own-kind K =
     rw
     (K .kind-is)
-    (record { kind-is = K .kind-is; known = K .known; limit-is = K .limit-is; count-is = K .count-is })
+    (record { kind-is = K .kind-is; known-kind = K .known-kind; limit-is = K .limit-is; count-is = K .count-is })
 
 module _ {t : List ℕ} {n i limit count : ℕ} (w : Within t n i) (k : OfKind t i (kindAt t i) limit count) where
   judged : goodNode t i ≡ (eqb (zeroAt t i) 0 && (ltb (argumentAt t i) limit && laidOut (sizeAt t) n i count))
   unfolding goodNode
   judged =
       rw (
-        k .known,
+        k .known-kind,
         k .limit-is,
         k .count-is,
         root-fine t n i (w .whole) (w .n-is),

@@ -189,8 +189,8 @@ module _ {t : List ℕ} {n m : ℕ} (f : SomeFramed t n m) (row : List ℕ) (roo
       rw (s, getD-set-same row (j - 1) e 0 (omega arith), ← p) here)
 
 -- of the test of a node: none but that of an Await, a When or an Until, which the row has
-pub no-test : {t : List ℕ} {i k e : ℕ} → k < 8 → TestsAt t i k e
-no-test h = record { early = λ a b. absurd (omega arith) }
+pub no-test : {t : List ℕ} {i k e : ℕ} → (8 ≤ k → k ≤ 10 → ⊥) → TestsAt t i k e
+no-test h = record { early = λ a b. absurd (h a b) }
 
 pub test-here : {t : List ℕ} {i k e : ℕ} (row : List ℕ) → KnownFrom t row 0 → e ≡ getD row (argumentAt t i) 0 → TestsAt t i k e
 test-here row known same = record { early = λ a b l. rw same (known _ (omega arith) l) }

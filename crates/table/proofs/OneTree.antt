@@ -1,17 +1,18 @@
 -- The records spell one tree only: `one-tree`.
 use Prim.Native.Nat.{ℕ, zero, suc, _+_}
-use mathlib.Core.Path.{_≡_, refl, ap, sym, _∙_}
+use mathlib.Core.Path.{_≡_, refl, ap, ap₂, sym, _∙_}
 use mathlib.Core.List.{List}
 use native.Mathlib.Omega.{arith}
 use Rattle.junior.specs.Configuration.{Config}
-use Rattle.junior.specs.Program.{Program, Nothing, Atom, Repeat, Generate, Await, When, Until, Control, Local}
-use Rattle.junior.specs.Program.{Argument, no-argument, number, event, configuration, argument, kind}
+use Rattle.junior.specs.Program.{Program, Nothing, Atom, Repeat, Generate, Await, When, Until, Control, Local, If}
+use Rattle.junior.specs.Program.{Argument, no-argument, number, event, configuration, value, capped, argument, kind}
+use Rattle.junior.specs.Values.{exactly, asked}
 use Rattle.junior.specs.Program.{Leaf, nothing, stop, atom, generate, await, One, loop, repeat, control, local}
-use Rattle.junior.specs.Program.{Two, seq, par, when, until, Parts, no-part, one-part, two-parts, parts, sizeOf, size}
+use Rattle.junior.specs.Program.{Two, seq, par, when, until, if, Parts, no-part, one-part, two-parts, parts, sizeOf, size}
 use Rattle.table.proofs.ByParts.{written}
 use Rattle.table.proofs.Spelled.{configuration-is}
 use Rattle.table.specs.Records.{kindAt, argumentAt, secondAt, partSize}
-use Rattle.table.specs.Spells.{weight, Configured, configurationOf, Argues, SpellsParts, Spells, form, tested}
+use Rattle.table.specs.Spells.{valueIn, capIn, weight, Configured, configurationOf, Argues, SpellsParts, Spells, form, tested}
 
 -- the program at node i, found by the sizes written there
 reading : List ℕ → ℕ → ℕ → Program
@@ -43,6 +44,8 @@ Fits a c no-argument = Unit {0}
 Fits a c (number n) = a ≡ n
 Fits a c (event s) = a ≡ s
 Fits a c (configuration d) = c ≡ d
+Fits a c (value v) = a ≡ v
+Fits a c (capped v cap) = (valueIn a ≡ v) × (capIn a ≡ cap)
 
 -- each form is the form of its kind with its argument and its parts
 module _ (a : ℕ) (c : Config) where
@@ -57,7 +60,8 @@ module _ (a : ℕ) (c : Config) where
   form-one : {p q : Program} → One p q → (r : Program) → Fits a c (argument p) → form (kind p) a c q r ≡ p
   unfolding form kind
   form-one (loop q) r e = refl
-  form-one (repeat n q) r e = ap (λ n. Repeat n q) e
+  form-one (repeat (exactly n) q) r e = ap (λ n. Repeat (exactly n) q) e
+  form-one (repeat (asked v cap) q) r e = ap₂ (λ v cap. Repeat (asked v cap) q) (e .0) (e .1)
   form-one (control s q) r e = ap (λ s. Control s q) e
   form-one (local s q) r e = ap (λ s. Local s q) e
 
@@ -67,6 +71,7 @@ module _ (a : ℕ) (c : Config) where
   form-two (par q r) e = refl
   form-two (when d q r) e = ap (λ d. When d q r) e
   form-two (until d q r) e = ap (λ d. Until d q r) e
+  form-two (if v q r) e = ap (λ v. If v q r) e
 
 module _ (t : List ℕ) where
   tested-is : (c : ℕ) (d : Config) → Configured t c d → configurationOf t (partSize t c) c ≡ d
@@ -80,6 +85,8 @@ module _ (t : List ℕ) where
   fits i (number n) h = h
   fits i (event s) h = h
   fits i (configuration c) h = tested-is (tested t i) c h
+  fits i (value v) h = h
+  fits i (capped v cap) h = h
 
   reading-is : (f i : ℕ) {p : Program} (v : Parts p) → SpellsParts t i v → reading t (sizeOf v + f) i ≡ p
   unfolding reading

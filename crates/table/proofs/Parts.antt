@@ -8,13 +8,15 @@ use lib.Dec.{eqb, leb, eqb·suc-zero}
 use borrow.Author.Tests.{le-leb}
 use Rattle.junior.specs.Configuration.{Config, early-true, early-false}
 use Rattle.junior.specs.Program.{Program, Nothing, Stop, Atom, Seq, Par, Loop, Repeat, Generate, Await, When, Until}
-use Rattle.junior.specs.Program.{Control, Local, Argument, no-argument, number, event, configuration, argument, kind}
+use Rattle.junior.specs.Program.{Control, Local, If, Argument, no-argument, number, event, configuration, value, capped, argument, kind}
+use Rattle.junior.specs.Values.{exactly, asked}
 use Rattle.junior.specs.Program.{Leaf, nothing, stop, atom, generate, await, One, loop, repeat, control, local}
-use Rattle.junior.specs.Program.{Two, seq, par, when, until, Parts, no-part, one-part, two-parts, parts, sizeOf, size}
+use Rattle.junior.specs.Program.{Two, seq, par, when, until, if, Parts, no-part, one-part, two-parts, parts, sizeOf, size}
 use Rattle.junior.specs.Figures.{only-if, stops, figure, times, per}
 use Rattle.junior.proofs.Parts.{parts-none, parts-one, parts-two, only-parts}
 use Rattle.table.specs.Records.{configurations, events}
-use Rattle.table.specs.Good.{last-kind, children, argumentLimit}
+use Rattle.table.specs.Good.{known, children, argumentLimit}
+use Rattle.table.specs.Spells.{capIn}
 use Rattle.table.specs.Verdict.{Node, partsInOrder, preorder, endlessParts, endlessLoop}
 use Rattle.table.specs.Inside.Early.{Earliness, Tests}
 use Rattle.table.specs.Inside.Weighing.{Counts, levels, height}
@@ -30,28 +32,32 @@ limitOf t no-argument = 1
 limitOf t (number n) = 65536
 limitOf t (event s) = events t
 limitOf t (configuration c) = configurations t
+limitOf t (value v) = 16
+limitOf t (capped v cap) = 4096
 
 -- what a program's kind says of it
 pub record ByKind (p : Program) : Type 0 where
-  pub known : kind p ≤ last-kind
+  pub known-kind : known (kind p) ≡ true
   pub count-is : children (kind p) ≡ partCount (parts p)
   pub limit-is : (t : List ℕ) → argumentLimit t (kind p) ≡ limitOf t (argument p)
 
 pub by-kind : (p : Program) → ByKind p
 unfolding kind children argumentLimit
-by-kind Nothing = record { known = omega arith; count-is = refl; limit-is = λ t. refl }
-by-kind Stop = record { known = omega arith; count-is = refl; limit-is = λ t. refl }
-by-kind (Atom a) = record { known = omega arith; count-is = refl; limit-is = λ t. refl }
-by-kind (Seq p q) = record { known = omega arith; count-is = refl; limit-is = λ t. refl }
-by-kind (Par p q) = record { known = omega arith; count-is = refl; limit-is = λ t. refl }
-by-kind (Loop p) = record { known = omega arith; count-is = refl; limit-is = λ t. refl }
-by-kind (Repeat n p) = record { known = omega arith; count-is = refl; limit-is = λ t. refl }
-by-kind (Generate s) = record { known = omega arith; count-is = refl; limit-is = λ t. refl }
-by-kind (Await c) = record { known = omega arith; count-is = refl; limit-is = λ t. refl }
-by-kind (When c p q) = record { known = omega arith; count-is = refl; limit-is = λ t. refl }
-by-kind (Until c p q) = record { known = omega arith; count-is = refl; limit-is = λ t. refl }
-by-kind (Control s p) = record { known = omega arith; count-is = refl; limit-is = λ t. refl }
-by-kind (Local s p) = record { known = omega arith; count-is = refl; limit-is = λ t. refl }
+by-kind Nothing = record { known-kind = refl; count-is = refl; limit-is = λ t. refl }
+by-kind Stop = record { known-kind = refl; count-is = refl; limit-is = λ t. refl }
+by-kind (Atom a) = record { known-kind = refl; count-is = refl; limit-is = λ t. refl }
+by-kind (Seq p q) = record { known-kind = refl; count-is = refl; limit-is = λ t. refl }
+by-kind (Par p q) = record { known-kind = refl; count-is = refl; limit-is = λ t. refl }
+by-kind (Loop p) = record { known-kind = refl; count-is = refl; limit-is = λ t. refl }
+by-kind (Repeat (exactly n) p) = record { known-kind = refl; count-is = refl; limit-is = λ t. refl }
+by-kind (Repeat (asked v cap) p) = record { known-kind = refl; count-is = refl; limit-is = λ t. refl }
+by-kind (Generate s) = record { known-kind = refl; count-is = refl; limit-is = λ t. refl }
+by-kind (Await c) = record { known-kind = refl; count-is = refl; limit-is = λ t. refl }
+by-kind (When c p q) = record { known-kind = refl; count-is = refl; limit-is = λ t. refl }
+by-kind (Until c p q) = record { known-kind = refl; count-is = refl; limit-is = λ t. refl }
+by-kind (Control s p) = record { known-kind = refl; count-is = refl; limit-is = λ t. refl }
+by-kind (Local s p) = record { known-kind = refl; count-is = refl; limit-is = λ t. refl }
+by-kind (If v p q) = record { known-kind = refl; count-is = refl; limit-is = λ t. refl }
 
 pub children-are : {p : Program} (v : Parts p) → children (kind p) ≡ partCount v
 children-are {p} v = by-kind p .count-is ∙ ap partCount (only-parts v)
@@ -61,7 +67,11 @@ node d p = record { depth = d; part = p }
 
 -- how often a figure counts the part of a program of kind k, a being its argument
 abbrev pub often : ℕ → ℕ → Bool → ℕ
-often k a part-stops = cond (eqb k 5) 2 (cond (eqb k 6) (times a part-stops) 1)
+often k a part-stops = cond (eqb k 5) 2 (cond (eqb k 6) (times a part-stops) (cond (eqb k 15) (times (capIn a) part-stops) 1))
+
+-- a program of kind k runs one of its two parts
+abbrev pub chooses : ℕ → Bool
+chooses k = eqb k 9 || eqb k 14
 
 -- the figures of each form, and whether it stops, by its kind; e says when its test can be decided early
 pub record FiguresOfNone (e : ℕ) (p : Program) : Type 0 where
@@ -70,19 +80,19 @@ pub record FiguresOfNone (e : ℕ) (p : Program) : Type 0 where
 
 pub record FiguresOfOne (a : ℕ) (p q : Program) : Type 0 where
   pub figure-is : (k : Program → ℕ) → figure k p ≡ k p + often (kind p) a (stops q) * figure k q
-  pub stops-is : stops p ≡ cond (eqb (kind p) 5) true (cond (eqb (kind p) 6) (leb 1 a && stops q) (stops q))
+  pub stops-is : stops p ≡ cond (eqb (kind p) 5) true (cond (eqb (kind p) 6) (leb 1 a && stops q) (cond (eqb (kind p) 15) false (stops q)))
   pub no-generation : per 7 p ≡ 0
   pub no-atom : per 2 p ≡ 0
 
 pub record FiguresOfTwo (e : ℕ) (p q r : Program) : Type 0 where
   pub figure-is : (k : Program → ℕ)
-      → figure k p ≡ k p + cond (eqb (kind p) 9) (max (figure k q) (figure k r)) (figure k q + figure k r)
+      → figure k p ≡ k p + cond (chooses (kind p)) (max (figure k q) (figure k r)) (figure k q + figure k r)
   pub stops-is : Tests e p
       → stops p
       ≡ cond
       (eqb (kind p) 9)
       ((stops q || eqb e 0) && (stops r || eqb e 2))
-      (cond (eqb (kind p) 10) (stops q && (stops r || eqb e 0)) (stops q || stops r))
+      (cond (eqb (kind p) 10) (stops q && (stops r || eqb e 0)) (cond (eqb (kind p) 14) (stops q && stops r) (stops q || stops r)))
   pub no-generation : per 7 p ≡ 0
   pub no-atom : per 2 p ≡ 0
 
@@ -121,7 +131,9 @@ figures-of-none {e = e} (await c) =
 pub figures-of-one : {a : ℕ} {p q : Program} → One p q → Counts a p → FiguresOfOne a p q
 unfolding figure stops kind
 figures-of-one (loop p) e = record { figure-is = λ k. refl; stops-is = refl; no-generation = refl; no-atom = refl }
-figures-of-one (repeat n p) e = rw (e .same n refl) (record { figure-is = λ k. refl; stops-is = refl; no-generation = refl; no-atom = refl })
+figures-of-one (repeat (exactly n) p) e = rw (e .same n refl) (record { figure-is = λ k. refl; stops-is = refl; no-generation = refl; no-atom = refl })
+figures-of-one (repeat (asked v m) p) e =
+    rw (← e .cap-is v m refl) (record { figure-is = λ k. refl; stops-is = refl; no-generation = refl; no-atom = refl })
 figures-of-one (control s p) e = record { figure-is = λ k. omega arith; stops-is = refl; no-generation = refl; no-atom = refl }
 figures-of-one (local s p) e = record { figure-is = λ k. omega arith; stops-is = refl; no-generation = refl; no-atom = refl }
 
@@ -143,6 +155,7 @@ figures-of-two (until c p q) =
       no-generation = refl;
       no-atom = refl;
     }
+figures-of-two (if v p q) = record { figure-is = λ k. refl; stops-is = λ h. refl; no-generation = refl; no-atom = refl }
 
 -- what goes by the parts alone
 pub record OfNone (p : Program) : Type 0 where

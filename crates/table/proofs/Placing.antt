@@ -59,7 +59,8 @@ module _ {t w : List ℕ} {n i k limit count top : ℕ} (R : ToPlace t w n i top
 
   count-is : Counts (argumentAt t i) (treeAt t i)
   count-is =
-      record { same = λ n e. rw e at (argued-here t (R .configurations-good) i good-from i (omega arith) here-below) }
+      let there = argued-here t (R .configurations-good) i good-from i (omega arith) here-below in
+      record { same = λ n e. rw e at there; cap-is = λ v cap e. (rw e at there) .1 }
 
   -- when its test, if it has one, can be decided early
   early-here : (e : ℕ) → TestsAt t i k e → Tests e (treeAt t i)

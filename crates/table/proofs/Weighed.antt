@@ -12,9 +12,10 @@ use Rattle.junior.specs.Figures.{stops, figure, times}
 use Rattle.table.specs.declared.weights.Weight.{Weight}
 use Rattle.table.specs.Inside.Early.{Tests}
 use Rattle.table.specs.Inside.Weighing.{Counts, Figure, Weighs, height, bit, counted, repeatedly}
-use Rattle.table.specs.Inside.Weighing.{together}
+use Rattle.table.specs.Inside.Weighing.{either, together}
+use Rattle.table.specs.Spells.{capIn}
 use Rattle.table.proofs.Little.{below-or}
-use Rattle.table.proofs.Parts.{often, of-none, of-one, of-two, figures-of-none, FiguresOfOne, figures-of-one, figures-of-two}
+use Rattle.table.proofs.Parts.{often, chooses, of-none, of-one, of-two, figures-of-none, FiguresOfOne, figures-of-one, figures-of-two}
 
 counted-exact : (c x f : ℕ) → min x 65536 ≡ min f 65536 → min (counted c x) 65536 ≡ min (c * f) 65536
 counted-exact zero x f e = rw (zero-mul (min x 65536), zero-mul f) (omega arith)
@@ -53,13 +54,13 @@ module _ {k : Program → ℕ} where
       let g = counted-exact c x (figure k q) (f .exact) in
       record { exact = rw (v .figure-is k, o) (omega arith); small = omega arith }
 
-  pub added : {p q r : Program} → Two p q r → eqb (kind p) 9 ≡ false → (x y z : ℕ) → k p ≤ 1 → z ≡ x + y + k p
+  pub added : {p q r : Program} → Two p q r → chooses (kind p) ≡ false → (x y z : ℕ) → k p ≤ 1 → z ≡ x + y + k p
       → Figure k q x → Figure k r y → Figure k p z
   added v o x y z l e f g =
       let s = of-two v .size-is in
       record { exact = rw (figures-of-two {e = 0} v .figure-is k, o) (omega arith); small = omega arith }
 
-  pub larger : {p q r : Program} → Two p q r → eqb (kind p) 9 ≡ true → (x y z : ℕ) → k p ≤ 1 → z ≡ max x y + k p
+  pub larger : {p q r : Program} → Two p q r → chooses (kind p) ≡ true → (x y z : ℕ) → k p ≤ 1 → z ≡ max x y + k p
       → Figure k q x → Figure k r y → Figure k p z
   larger {q = q} {r = r} v o x y z l e f g =
       let s = of-two v .size-is in
@@ -145,7 +146,16 @@ module _ {x : Weight} {a : ℕ} {p q : Program} (v : One p q) (n : Counts a p) w
       (rw (figures-of-one v n .stops-is, e, le-leb 1 a (omega arith)) (w .stops-is))
       w
 
-  pub under-weighs : (kind p ≡ 5 → ⊥) → (kind p ≡ 6 → ⊥) → Weighs x q
+  pub capped-weighs : kind p ≡ 15 → (c : ℕ) → c ≡ times (capIn a) (eqb (x .stops) 1) → Weighs x q → Weighs (repeatedly c x 0) p
+  capped-weighs e c m w =
+      repeats
+      c
+      0
+      (rw e (sym (m ∙ ap (times (capIn a)) (ap (λ n. eqb n 1) (w .stops-is) ∙ bit-back (stops q)))))
+      (rw (figures-of-one v n .stops-is, e))
+      w
+
+  pub under-weighs : (kind p ≡ 5 → ⊥) → (kind p ≡ 6 → ⊥) → (kind p ≡ 15 → ⊥) → Weighs x q
       → Weighs
       (record {
         generations = x .generations;
@@ -155,16 +165,16 @@ module _ {x : Weight} {a : ℕ} {p q : Program} (v : One p q) (n : Counts a p) w
         stops = x .stops;
       })
       p
-  under-weighs e f w =
+  under-weighs e f g w =
       let o = figures-of-one v n in
-      let m : often (kind p) a (stops q) ≡ 1 = rw (ne-eqb (kind p) 5 e, ne-eqb (kind p) 6 f) in
+      let m : often (kind p) a (stops q) ≡ 1 = rw (ne-eqb (kind p) 5 e, ne-eqb (kind p) 6 f, ne-eqb (kind p) 15 g) in
       let h = of-one v .height-is in
       record {
         generations-are = under v o m (x .generations) _ (omega arith) (omega arith) (w .generations-are);
         atoms-are = under v o m (x .atoms) _ (omega arith) (omega arith) (w .atoms-are);
         nodes-are = under v o m (x .nodes) _ (omega arith) refl (w .nodes-are);
         height-is = omega arith;
-        stops-is = rw (o .stops-is, ne-eqb (kind p) 5 e, ne-eqb (kind p) 6 f) (w .stops-is);
+        stops-is = rw (o .stops-is, ne-eqb (kind p) 5 e, ne-eqb (kind p) 6 f, ne-eqb (kind p) 15 g) (w .stops-is);
       }
 
 -- the stops of When and Until from those of their parts, and from when their test can be decided early
@@ -175,19 +185,9 @@ until-stops : (a b c : Bool) → bitAnd (bit a) (bitOr (bit b) (bit c)) ≡ bit 
 until-stops a b c = rw (bits-or b c) (bits-and a (b || c))
 
 module _ {x y : Weight} {p q r : Program} where
-  pub larger-weighs : {e : ℕ} → Two p q r → kind p ≡ 9 → Tests e p → Weighs x q → Weighs y r
-      → Weighs
-      (record {
-        generations = max (x .generations) (y .generations);
-        atoms = max (x .atoms) (y .atoms);
-        nodes = max (x .nodes) (y .nodes) + 1;
-        height = max (x .height) (y .height) + 1;
-        stops = bitAnd (bitOr (x .stops) (bit (eqb e 0))) (bitOr (y .stops) (bit (eqb e 2)));
-      })
-      p
-  larger-weighs {e} v k t w u =
-      let o = figures-of-two {e = e} v in
-      let n = eq-eqb (kind p) 9 k in
+  larger-weighs : Two p q r → chooses (kind p) ≡ true → (s : ℕ) → s ≡ bit (stops p) → Weighs x q → Weighs y r → Weighs (either x y s) p
+  larger-weighs v n s t w u =
+      let o = figures-of-two {e = 0} v in
       let h = of-two v .height-is in
       let i = w .height-is in
       let j = u .height-is in
@@ -198,14 +198,30 @@ module _ {x y : Weight} {p q r : Program} where
         atoms-are = larger v n (x .atoms) (y .atoms) _ (omega arith) (omega arith) (w .atoms-are) (u .atoms-are);
         nodes-are = larger v n (x .nodes) (y .nodes) _ (omega arith) refl (w .nodes-are) (u .nodes-are);
         height-is = omega arith;
-        stops-is = rw (w .stops-is, u .stops-is, o .stops-is t, k) (when-stops (stops q) (eqb e 0) (stops r) (eqb e 2));
+        stops-is = t;
       }
 
-  together-weighs : Two p q r → (kind p ≡ 9 → ⊥) → (s : ℕ) → s ≡ bit (stops p) → Weighs x q → Weighs y r
+  pub when-weighs : {e : ℕ} → Two p q r → kind p ≡ 9 → Tests e p → Weighs x q → Weighs y r
+      → Weighs (either x y (bitAnd (bitOr (x .stops) (bit (eqb e 0))) (bitOr (y .stops) (bit (eqb e 2))))) p
+  when-weighs {e} v k t w u =
+      larger-weighs
+      v
+      (rw k)
+      _
+      (rw (w .stops-is, u .stops-is, figures-of-two v .stops-is t, k) (when-stops (stops q) (eqb e 0) (stops r) (eqb e 2)))
+      w
+      u
+
+  pub if-weighs : {e : ℕ} → Two p q r → kind p ≡ 14 → Tests e p → Weighs x q → Weighs y r
+      → Weighs (either x y (bitAnd (x .stops) (y .stops))) p
+  if-weighs v k t w u =
+      larger-weighs v (rw k) _ (rw (w .stops-is, u .stops-is, figures-of-two v .stops-is t, k) (bits-and (stops q) (stops r))) w u
+
+  together-weighs : Two p q r → (kind p ≡ 9 → ⊥) → (kind p ≡ 14 → ⊥) → (s : ℕ) → s ≡ bit (stops p) → Weighs x q → Weighs y r
       → Weighs (together x y s) p
-  together-weighs v k s t w u =
+  together-weighs v k j s t w u =
       let o = figures-of-two {e = 0} v in
-      let n = ne-eqb (kind p) 9 k in
+      let n : chooses (kind p) ≡ false = rw (ne-eqb (kind p) 9 k, ne-eqb (kind p) 14 j) in
       let h = of-two v .height-is in
       record {
         generations-are =
@@ -223,20 +239,22 @@ module _ {x y : Weight} {p q r : Program} where
       together-weighs
       v
       (λ z. omega arith)
+      (λ z. omega arith)
       _
       (rw (w .stops-is, u .stops-is, figures-of-two v .stops-is t, k) (until-stops (stops q) (stops r) (eqb e 0)))
       w
       u
 
-  pub sum-weighs : {e : ℕ} → Two p q r → (kind p ≡ 9 → ⊥) → (kind p ≡ 10 → ⊥) → Tests e p → Weighs x q → Weighs y r
+  pub sum-weighs : {e : ℕ} → Two p q r → (kind p ≡ 9 → ⊥) → (kind p ≡ 10 → ⊥) → (kind p ≡ 14 → ⊥) → Tests e p → Weighs x q → Weighs y r
       → Weighs (together x y (bitOr (x .stops) (y .stops))) p
-  sum-weighs v k l t w u =
+  sum-weighs v k l m t w u =
       together-weighs
       v
       k
+      m
       _
       (rw
-      (w .stops-is, u .stops-is, figures-of-two v .stops-is t, ne-eqb (kind p) 9 k, ne-eqb (kind p) 10 l)
+      (w .stops-is, u .stops-is, figures-of-two v .stops-is t, ne-eqb (kind p) 9 k, ne-eqb (kind p) 10 l, ne-eqb (kind p) 14 m)
       (bits-or (stops q) (stops r)))
       w
       u

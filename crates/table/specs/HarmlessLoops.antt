@@ -13,6 +13,7 @@ use Rattle.junior.specs.Term.{when0, fresh}
 use Rattle.junior.specs.Trace.{Place}
 use Rattle.junior.specs.Rules.{left-first, Result, Rewrites}
 use Rattle.junior.specs.Instant.{Instant}
+use Rattle.junior.specs.Values.{Values, exactly}
 use Rattle.junior.specs.Figures.{stops, figure, G, A, W}
 use Rattle.junior.specs.StoppedBefore.{stopped-before, G-before, A-before, W-before}
 use Rattle.table.specs.declared.Checked.{Checked}
@@ -55,7 +56,7 @@ bouquet = node 5 0 4 ++ (node 9 0 3 ++ (node 1 0 1 ++ (node 0 0 1 ++ (configurat
 
 -- freshly begun, it doesn't end in that same instant
 abbrev pub Unending : Program → Type 0
-Unending p = (X : Events) (n : ℕ) (r : Result) → Instant left-first (fresh p) (handed-in X) n r → r .flag ≢ TERM
+Unending p = (value : Values) (X : Events) (n : ℕ) (r : Result) → Instant (left-first value) (fresh p) (handed-in X) n r → r .flag ≢ TERM
 
 -- t, accepted before with the figures g, a and w, is accepted now: the same tree, and no figure has grown
 pub record StillAccepted (t : List ℕ) (g a w : ℕ) : Type 0 where
@@ -71,8 +72,8 @@ pub record HarmlessLoops : Type 0 where
   -- "though an absent event is only decided at the end"
   pub absent : (s : ℕ) (E : Env) → E .now s ≡ false → E .eoi ≡ false → unknown (Event s) E
   -- "and then stops the loop."
-  pub then-stops : {P : Place} {E : Env} {s : ℕ} {p q : Program} {r : Result}
-      → Rewrites left-first P (when0 (Event s) p q) E r
+  pub then-stops : {value : Values} {P : Place} {E : Env} {s : ℕ} {p q : Program} {r : Result}
+      → Rewrites (left-first value) P (when0 (Event s) p q) E r
       → E .now s ≡ false
       → E .eoi ≡ true
       → r .flag ≡ STOP
@@ -115,6 +116,6 @@ pub record HarmlessLoops : Type 0 where
   -- "Refusals 7 and 8 and the figures read by this rule;"
   pub refusal-7 : (p : Program) → endlessLoop (Loop p) ≡ not (stops p)
   pub figures : (k : Program → ℕ) (n : ℕ) (p : Program)
-      → figure k (Repeat n p) ≡ k (Repeat n p) + cond (stops p) (min n 2) n * figure k p
+      → figure k (Repeat (exactly n) p) ≡ k (Repeat (exactly n) p) + cond (stops p) (min n 2) n * figure k p
   -- "every table accepted before is still accepted."
   pub still-accepted : (t : List ℕ) {g a w : ℕ} → verdictBefore t ≡ Accepted g a w → StillAccepted t g a w

@@ -1,5 +1,5 @@
 -- The tree that records spell.
-use Prim.Native.Nat.{ℕ, zero, suc, _+_, _*_}
+use Prim.Native.Nat.{ℕ, zero, suc, _+_, _*_, _/_, _%_}
 use mathlib.Core.Bool.{cond}
 use mathlib.Core.Path.{_≡_}
 use mathlib.Core.List.{List, [], _∷_}
@@ -10,7 +10,8 @@ use Rattle.table.specs.Records.{partKind}
 use Rattle.table.specs.Records.{partEvent, partSize, firstPart, secondPart}
 use Rattle.junior.specs.Configuration.{Config, Event, Not, And, Or}
 use Rattle.junior.specs.Program.{Program, Nothing, Stop, Atom, Seq, Par, Loop, Repeat, Generate, Await, When, Until}
-use Rattle.junior.specs.Program.{Control, Local, Argument, no-argument, number, event, configuration, argument, kind}
+use Rattle.junior.specs.Program.{Control, Local, If, Argument, no-argument, number, event, configuration, value, capped, argument, kind}
+use Rattle.junior.specs.Values.{exactly, asked}
 use Rattle.junior.specs.Program.{Parts, no-part, one-part, two-parts, parts, size}
 
 -- the records of a configuration
@@ -39,12 +40,21 @@ Configured t c (Or d e) =
 abbrev pub tested : List ℕ → ℕ → ℕ
 tested t i = configurationAt t (argumentAt t i)
 
+-- the value's number and the cap in a RepeatExt's argument: "a cap times 16 plus a number"
+abbrev pub valueIn : ℕ → ℕ
+valueIn a = a % 16
+
+abbrev pub capIn : ℕ → ℕ
+capIn a = a / 16
+
 -- node i's argument is this one
 abbrev pub Argues : List ℕ → ℕ → Argument → Type 0
 Argues t i no-argument = Unit {0}
 Argues t i (number n) = argumentAt t i ≡ n
 Argues t i (event s) = argumentAt t i ≡ s
 Argues t i (configuration c) = Configured t (tested t i) c
+Argues t i (value v) = argumentAt t i ≡ v
+Argues t i (capped v cap) = (valueIn (argumentAt t i) ≡ v) × (capIn (argumentAt t i) ≡ cap)
 
 -- node i's own record is that of p
 abbrev pub Heads : List ℕ → ℕ → Program → Type 0
@@ -72,7 +82,7 @@ configurationOf t (suc levels) c =
     (Event (partEvent t c))
     (cond (eqb (partKind t c) 1) (Not d) (cond (eqb (partKind t c) 2) (And d e) (Or d e)))
 
--- the forms in the order of their kinds, with the argument a or c and the parts p and q
+-- the forms in the order of their kinds, with the argument a or c and the parts p and q; none has kind 13
 abbrev pub forms : ℕ → Config → Program → Program → List Program
 forms a c p q =
     Nothing
@@ -81,13 +91,16 @@ forms a c p q =
     ∷ Seq p q
     ∷ Par p q
     ∷ Loop p
-    ∷ Repeat a p
+    ∷ Repeat (exactly a) p
     ∷ Generate a
     ∷ Await c
     ∷ When c p q
     ∷ Until c p q
     ∷ Control a p
     ∷ Local a p
+    ∷ Nothing
+    ∷ If a p q
+    ∷ Repeat (asked (valueIn a) (capIn a)) p
     ∷ []
 
 unfoldable pub form : ℕ → ℕ → Config → Program → Program → Program

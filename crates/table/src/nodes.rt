@@ -135,6 +135,8 @@ fn place(
         10 => pair(table, n, i, 10, m, early_of(table, i, early), waiting, top),
         11 => body(table, n, i, 11, v, waiting, top),
         12 => body(table, n, i, 12, v, waiting, top),
+        14 => pair(table, n, i, 14, 16, 0, waiting, top),
+        15 => body(table, n, i, 15, 4096, waiting, top),
         _ => 0,
     }
 }
@@ -298,21 +300,21 @@ fn good_node(table: &[u8], n: usize, m: usize, v: usize, i: usize) -> bool
     ensures { λ r. ⌜ r ≡ goodNode (now (table .entry)) i ⌝ }
 {
     let k = kind_at(table, i);
-    if k > LAST_KIND {
+    if k > 15 {
+        return false;
+    }
+    if k == 13 {
         return false;
     }
     good_as(table, n, i, limit_of(k, m, v), children_of(k))
 }
 
-// The kinds go from 0, Nothing, to this one, Local.
-const LAST_KIND: usize = 12;
-
 // What the argument of kind k is below.
 fn limit_of(k: usize, m: usize, v: usize) -> usize
     ensures { λ r. ⌜ ((t : List ℕ) → m ≡ configurations t → v ≡ events t → argumentLimit t k ≡ r) ⌝ }
 {
-    let limits = [1, 1, 65536, 1, 1, 1, 65536, v, m, m, m, v, v];
-    if k <= LAST_KIND {
+    let limits = [1, 1, 65536, 1, 1, 1, 65536, v, m, m, m, v, v, 0, 16, 4096];
+    if k < 16 {
         return limits[k];
     }
     0
@@ -342,13 +344,13 @@ fn first_deep(table: &[u8], i: usize, d: usize) -> usize
     first_deep(table, second, d + 1)
 }
 
-const CHILDREN: [usize; LAST_KIND + 1] = [0, 0, 0, 2, 2, 1, 1, 0, 0, 2, 2, 1, 1];
+const CHILDREN: [usize; 16] = [0, 0, 0, 2, 2, 1, 1, 0, 0, 2, 2, 1, 1, 0, 2, 1];
 
 // How many children kind k has.
 pub fn children_of(k: usize) -> usize
     ensures { λ r. ⌜ children k ≡ r ⌝ }
 {
-    if k <= LAST_KIND {
+    if k < 16 {
         return CHILDREN[k];
     }
     0

@@ -6,7 +6,7 @@ ghost use lib.Dec.{eqb};
 ghost use Rattle.junior.specs.Program.{Program, kind, Leaf, One, Two};
 ghost use Rattle.junior.specs.Figures.{stops, times};
 ghost use Rattle.table.specs.Inside.Early.{Tests};
-ghost use Rattle.table.specs.Inside.Weighing.{bit, Counts, Weighs, Small, counted, repeatedly, together, weightAt, put};
+ghost use Rattle.table.specs.Inside.Weighing.{bit, Counts, Weighs, Small, counted, repeatedly, either, together, weightAt, put};
 
 // What a program weighs: its figures, exact below 65,536; its height; and 1 if it stops.
 pub struct Weight {
@@ -67,7 +67,7 @@ pub fn single(k: usize, e: usize) -> Weight
     }
 }
 
-// How often a Repeat's body counts.
+// How often the body of a repetition counts.
 fn times_of(count: usize, stops: u32) -> u32
     requires { ⌜ count < 65536 ⌝ }
     ensures { λ r. ⌜ (r ≡ times count (eqb stops 1)) × (r < 65536) ⌝ }
@@ -115,6 +115,9 @@ pub fn wrapped(k: usize, count: usize, x: Weight) -> Weight
         }
         return repeated(times_of(count, x.stops), x, x.stops);
     }
+    if k == 15 {
+        return repeated(times_of(count / 16, x.stops), x, 0);
+    }
     Weight {
         generations: x.generations,
         atoms: x.atoms,
@@ -137,22 +140,32 @@ fn sum(x: Weight, y: Weight, stops: u32) -> Weight
     }
 }
 
+fn most(x: Weight, y: Weight, stops: u32) -> Weight
+    requires { ⌜ Small x × Small y ⌝ }
+    ensures { λ r. ⌜ r ≡ either x y stops ⌝ }
+{
+    Weight {
+        generations: larger(x.generations, y.generations),
+        atoms: larger(x.atoms, y.atoms),
+        nodes: larger(x.nodes, y.nodes) + 1,
+        height: larger(x.height, y.height) + 1,
+        stops,
+    }
+}
+
 // What a program of kind k weighs whose parts weigh x and y, its test being decided early as e says: 0 never true, 2 never false.
 pub fn joined(k: usize, e: usize, x: Weight, y: Weight) -> Weight
     requires { ⌜ Small x × Small y ⌝ }
     ensures { λ r. ⌜ ((p q s : Program) → Two p q s → k ≡ kind p → Tests e p → Weighs x q → Weighs y s → Weighs r p) ⌝ }
 {
     if k == 9 {
-        return Weight {
-            generations: larger(x.generations, y.generations),
-            atoms: larger(x.atoms, y.atoms),
-            nodes: larger(x.nodes, y.nodes) + 1,
-            height: larger(x.height, y.height) + 1,
-            stops: (x.stops | one_if(e, 0)) & (y.stops | one_if(e, 2)),
-        };
+        return most(x, y, (x.stops | one_if(e, 0)) & (y.stops | one_if(e, 2)));
     }
     if k == 10 {
         return sum(x, y, x.stops & (y.stops | one_if(e, 0)));
+    }
+    if k == 14 {
+        return most(x, y, x.stops & y.stops);
     }
     sum(x, y, x.stops | y.stops)
 }

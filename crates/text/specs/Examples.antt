@@ -47,6 +47,13 @@ shared = node 4 0 3 ++ (node 8 0 1 ++ (node 8 0 1 ++ (configuration 0 0 1 ++ (co
 abbrev pub await-1023 : List ℕ
 await-1023 = node 8 0 1 ++ (configuration 48 255 1 ++ trailer 1 1 1024 10 4)
 
+-- RepeatExt of value 15, cap 255 and Stop; If of value 3 and two Atoms
+abbrev pub asked-15 : List ℕ
+asked-15 = node 15 4095 2 ++ (node 1 0 1 ++ trailer 2 0 1 12 0)
+
+abbrev pub if-3 : List ℕ
+if-3 = node 14 3 3 ++ (node 2 1 1 ++ (node 2 2 1 ++ trailer 3 0 1 18 0))
+
 abbrev pub examples-list : List Example
 examples-list =
     -- F1: the offset is the length of the longest beginning that some text of the form has
@@ -86,6 +93,13 @@ examples-list =
     -- L10: an event from 256 on, read and printed
     ∷ good (bytes "Jr.Await(1023)") await-1023 20
     ∷ printing await-1023 (blank 14) (bytes "Jr.Await(1023)") (told.Printed 14)
+    -- L14: the value's number first, then the cap
+    ∷ failing (bytes "Jr.If(16, Jr.Stop(), Jr.Stop())") 7
+    ∷ failing (bytes "Jr.RepeatExt(1, 256, Jr.Stop())") 18
+    ∷ good (bytes "Jr.RepeatExt(15, 255, Jr.Stop())") asked-15 22
+    ∷ printing asked-15 (blank 32) (bytes "Jr.RepeatExt(15, 255, Jr.Stop())") (told.Printed 32)
+    ∷ good (bytes "Jr.If(3, Jr.Atom(1), Jr.Atom(2))") if-3 28
+    ∷ printing if-3 (blank 32) (bytes "Jr.If(3, Jr.Atom(1), Jr.Atom(2))") (told.Printed 32)
     -- P, its Seq with three parts
     ∷ good
     (bytes "Jr.Par(Jr.Seq(Jr.Await(0), Jr.Atom(7), Jr.Generate(1)), Jr.Await(1))")

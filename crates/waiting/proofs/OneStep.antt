@@ -17,7 +17,8 @@ use Rattle.junior.specs.Configuration.{Config}
 use Rattle.junior.specs.Program.{Program, One, Two, size, kind, argument, configuration}
 use Rattle.junior.specs.Program as Program
 use Rattle.junior.specs.Term.{Term, done, nothing, stop, atom, generate, await, seq0, seq2, par, loop0, loop1}
-use Rattle.junior.specs.Term.{repeat0, repeat1, when0, when1, when2, until0, until*, until2, control, local, prog}
+use Rattle.junior.specs.Term.{repeat0, repeat1, when0, when1, when2, until0, until*, until2, control, local, if0, if1, if2, prog}
+use Rattle.junior.specs.Values.{exactly, asked}
 use Rattle.junior.specs.Waited.{lacks, Wait, waits-for}
 use Rattle.junior.proofs.WayDown.{waiting-in}
 use Rattle.table.specs.Records.{nodes, configurations, kindAt, argumentAt, secondAt}
@@ -78,7 +79,8 @@ module _ {t s : List ℕ} {i : ℕ} where
   own-view-of (loop0 p) h X e = nothing-there e
   own-view-of (loop1 u) h X e = neither (λ Y. refl)
   own-view-of (repeat0 n p) h X e = nothing-there e
-  own-view-of (repeat1 n k u) h X e = neither (λ Y. refl)
+  own-view-of (repeat1 (exactly n) k u) h X e = neither (λ Y. refl)
+  own-view-of (repeat1 (asked v m) k u) h X e = neither (λ Y. refl)
   own-view-of (when0 c p q) h X e = tests c (test-below (h .placed) c refl) (argued t i _ (h .placed .spelled)) (λ Y. refl)
   own-view-of (when1 c u q) h X e = neither (λ Y. refl)
   own-view-of (when2 c p u) h X e = neither (λ Y. refl)
@@ -88,6 +90,9 @@ module _ {t s : List ℕ} {i : ℕ} where
   own-view-of (control s u) h X e = let a = argued t i _ (h .placed .spelled) in controls {x = control s u} (λ Y. rw a)
   own-view-of (local true s u) h X e = neither (λ Y. refl)
   own-view-of (local false s u) h X e = neither (λ Y. refl)
+  own-view-of (if0 v p q) h X e = nothing-there e
+  own-view-of (if1 v u q) h X e = neither (λ Y. refl)
+  own-view-of (if2 v p u) h X e = neither (λ Y. refl)
 
   module _ {x : Term} (h : StandsAt t s i x) (X : Events) {w : Wait} (e : waiting-in i x X ≡ some w) {k ph : ℕ}
       (kind-read : k ≡ kindAt t i) (phase-read : ph ≡ getD s (4 * i) 0) where
@@ -178,6 +183,9 @@ here (until* c t q) X n e = by-test (lacks c X) n e
 here (until2 c p t) X n e = nothing-there n
 here (control s t) {i = i} X n e = by-control s (waiting-in (suc i) t X) (X s) n e
 here (local b s t) X n e = nothing-there n
+here (if0 v p q) X n e = nothing-there n
+here (if1 v t q) X n e = nothing-there n
+here (if2 v p t) X n e = nothing-there n
 
 -- else its child leads there
 pub record Goes (t s : List ℕ) (i j : ℕ) (X : Events) (w : Wait) : Type 0 where
@@ -236,7 +244,8 @@ module _ {t s : List ℕ} {i : ℕ} {w : Wait} (X : Events) where
   goes (loop0 p) h n e = nothing-there e
   goes (loop1 u) h n e = to-only h _ u (Program.loop (prog u)) refl e
   goes (repeat0 m p) h n e = nothing-there e
-  goes (repeat1 m k u) h n e = to-only h _ u (Program.repeat m (prog u)) refl e
+  goes (repeat1 (exactly m) k u) h n e = to-only h _ u (Program.repeat (exactly m) (prog u)) refl e
+  goes (repeat1 (asked v m) k u) h n e = to-only h _ u (Program.repeat (asked v m) (prog u)) refl e
   goes (when0 c p q) h n e = waits-not i (lacks c X) n e
   goes (when1 c u q) h n e = to-first h _ u (Program.when c (prog u) q) (zeros q) refl e
   goes (when2 c p u) h n e = to-second h _ u (Program.when c p (prog u)) (zeros p) (zeros-long p) refl e
@@ -250,6 +259,9 @@ module _ {t s : List ℕ} {i : ℕ} {w : Wait} (X : Events) where
   goes (local false s u) h n e =
       let a = argued t i _ (h .placed .spelled) in
       rw a (to-only h _ u (Program.local s (prog u)) refl e)
+  goes (if0 v p q) h n e = nothing-there e
+  goes (if1 v u q) h n e = to-first h _ u (Program.if v (prog u) q) (zeros q) refl e
+  goes (if2 v p u) h n e = to-second h _ u (Program.if v p (prog u)) (zeros p) (zeros-long p) refl e
 
   -- by the bytes
   pub goes-on : {x : Term} → StandsAt t s i x → own-wait x X ≡ none → waiting-in i x X ≡ some w

@@ -9,7 +9,7 @@ use lib.ListN.{drop}
 use Rattle.events.specs.Events.{Events, put}
 use Rattle.events.specs.Members.{places}
 use Rattle.junior.specs.Term.{Term, done, nothing, stop, atom, generate, await, seq0, seq2, par, loop0, loop1}
-use Rattle.junior.specs.Term.{repeat0, repeat1, when0, when1, when2, until0, until*, until2, control, local, prog}
+use Rattle.junior.specs.Term.{repeat0, repeat1, when0, when1, when2, until0, until*, until2, control, local, if0, if1, if2, prog}
 use Rattle.junior.specs.Waited.{lacks, Wait}
 use Rattle.junior.proofs.WayDown.{waiting-in}
 use Rattle.table.specs.Records.{byte, kindAt, argumentAt, secondAt}
@@ -67,6 +67,9 @@ own-wait (until* c t q) X = lacks c X
 own-wait (until2 c p t) X = none
 own-wait (control s t) X = cond (X s) none (some s)
 own-wait (local b s t) X = none
+own-wait (if0 v p q) X = none
+own-wait (if1 v t q) X = none
+own-wait (if2 v p t) X = none
 
 abbrev pub OwnWait : List ℕ → List ℕ → ℕ → Events → ℕ → Type 0
 OwnWait table state i X r =

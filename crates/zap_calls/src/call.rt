@@ -23,6 +23,9 @@ use text::numbers::refusal_of_read;
 // The bytes of the longest line that is a call.
 pub const LONGEST: usize = 400000;
 
+// The values handed in with an instant.
+const VALUES: usize = 16;
+
 pub fn answer_call(
     line: &[u8],
     table: &mut [u8],
@@ -181,15 +184,12 @@ fn with_state(
     if !e.good {
         return bad_line(output);
     }
-    let r = read_row(&words[b + 1..], row);
-    if !r.good {
-        return bad_line(output);
-    }
-    let k = r.count;
-    call_instant(table, state, e.events, &mut row[..k], output)
+    with_events(&words[b + 1..], table, state, e.events, row, output)
 }
 
-fn call_instant(
+// An instant whose table, state and events have been read. Its values are sixteen bytes exactly: what isn't a word that the room takes counts 0.
+fn with_events(
+    words: &[u8],
     table: &[u8],
     state: &mut [u8],
     handed_in: EventSet,
@@ -199,7 +199,35 @@ fn call_instant(
     requires { ⌜ StateRoom (now state) × RowRoom (now row) × AnswerRoom (now output) ⌝ }
     ensures { λ r. ⌜ r ≤ length (now (output .entry)) ⌝ }
 {
-    let answer = kernel::instant(table, state, handed_in, row);
+    let b = find(words, 0, words.len(), 32);
+    if words.len() <= b {
+        return bad_line(output);
+    }
+    let mut values = [0u8; VALUES];
+    let v = read_bytes(&words[..b], &mut values);
+    if v.count != VALUES {
+        return bad_line(output);
+    }
+    let r = read_row(&words[b + 1..], row);
+    if !r.good {
+        return bad_line(output);
+    }
+    let k = r.count;
+    call_instant(table, state, handed_in, &values, &mut row[..k], output)
+}
+
+fn call_instant(
+    table: &[u8],
+    state: &mut [u8],
+    handed_in: EventSet,
+    values: &[u8; VALUES],
+    row: &mut [u16],
+    output: &mut [u8],
+) -> usize
+    requires { ⌜ StateRoom (now state) × RowRoom (now row) × AnswerRoom (now output) ⌝ }
+    ensures { λ r. ⌜ r ≤ length (now (output .entry)) ⌝ }
+{
+    let answer = kernel::instant(table, state, handed_in, values, row);
     let outcome = answer.outcome;
     let refusal = refusal_of(outcome);
     let refused = put_numbers(output, 0, &[refusal.number as u64, refusal.index as u64]);

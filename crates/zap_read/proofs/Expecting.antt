@@ -39,13 +39,9 @@ module _ {text room after : List ℕ} {r : TextRead} (o : Reads text room after 
   fails-begins = go (eqb k (length text)) refl
     where
       go : (b : Bool) → eqb k (length text) ≡ b → Told b (Begins text)
-      go true h =
-          let long = eqb-true k (length text) h in
-          subst Begins (take-all k text (omega arith)) (there .so-far)
+      go true h = subst Begins (take-all k text (omega (arith, eqb-true k (length text) h))) (there .so-far)
       go false h = λ (p, x, d).
-          let short = eqb-false k (length text) h in
-          let within = there .within in
-          let lt : k < length text = omega arith in
+          let lt : k < length text = omega (arith, eqb-false k (length text) h, there .within) in
           let whole-text = append-assoc (take (suc k) text) (drop (suc k) text) x in
           let split = ap (λ (l : List ℕ). l ++ x) (sym (take-append-drop (suc k) text)) ∙ whole-text in
           there .no-further lt (p, drop (suc k) text ++ x, subst (Says (whole p)) split d)

@@ -3,11 +3,12 @@
 use super::draft::Records;
 use super::random::Random;
 use super::{grow, harm, limits, rest};
-use crate::env::{Events, EVENTS};
+use crate::env::{Events, Values, EVENTS};
 use crate::figures::Figures;
 use crate::instant;
 use crate::lines::{print, Call};
 use crate::table::{self, Program};
+use crate::words::hex;
 
 /// As many lines as asked for, the same for the same seed.
 pub fn lines(cases: usize, seed: u64) -> impl Iterator<Item = String> {
@@ -89,7 +90,11 @@ impl Maker {
             1 => rest::state(&mut self.r, &talk.program.root),
             _ => {
                 let mut state = rest::state(&mut self.r, &talk.program.root);
-                rest::damage(&mut self.r, &mut state, talk.program.root.size);
+                if self.r.chance(20) {
+                    rest::recount(&mut self.r, &talk.program.root, &mut state);
+                } else {
+                    rest::damage(&mut self.r, &mut state, talk.program.root.size);
+                }
                 state
             }
         };
@@ -102,6 +107,7 @@ impl Maker {
             _ => state.truncate(self.r.below(state.len())),
         }
         let events = self.events(talk.program.events);
+        let values = self.values();
         let places = match self.r.weigh(&[50, 46, 4]) {
             0 => talk.figures.a as usize,
             1 => talk.figures.a as usize + self.r.between(1, 3),
@@ -111,14 +117,14 @@ impl Maker {
 
         // The conversation goes on from what the instant leaves, unless it was refused or is over.
         let mut after = state.clone();
-        let report = instant::instant(&talk.table, &mut after, events, &mut row.clone());
+        let report = instant::instant(&talk.table, &mut after, events, values, &mut row.clone());
         let table = talk.table.clone();
         if report.is_ok_and(|report| !report.finished || self.r.chance(20)) {
             after.truncate(talk.state.len());
             talk.state = after;
             self.talk = Some(talk);
         }
-        Call::Instant { table, state, events, row }
+        Call::Instant { table, state, events, values, row }
     }
 
     /// A conversation over a random program that is accepted and writes few atoms.
@@ -150,13 +156,30 @@ impl Maker {
         events
     }
 
+    /// Values to hand in: 0 and 1 often, else small or any, up to 255.
+    fn values(&mut self) -> Values {
+        let mut values = Values::default();
+        let weights = *self.r.pick(&[[100, 0, 0, 0, 0], [40, 30, 20, 5, 5], [10, 30, 50, 5, 5], [10, 10, 10, 50, 20]]);
+        for value in &mut values {
+            *value = match self.r.weigh(&weights) {
+                0 => 0,
+                1 => 1,
+                2 => self.r.between(2, 5) as u8,
+                3 => self.r.byte(),
+                _ => 255,
+            };
+        }
+        values
+    }
+
     /// An instant of a damaged table, in rooms that would do for the sound one.
     fn damaged_instant(&mut self) -> String {
         let records = self.program();
         let state = vec![0; 4 * records.nodes.len()];
         let row = vec![0; self.r.below(30)];
         let events = self.events(usize::from(records.events));
-        print(&Call::Instant { table: harm::damaged(&mut self.r, records), state, events, row })
+        let values = self.values();
+        print(&Call::Instant { table: harm::damaged(&mut self.r, records), state, events, values, row })
     }
 
     /// A line that was good before one change; a few changes leave it good.
@@ -164,7 +187,11 @@ impl Maker {
         let line = print(&self.instant());
         let mut words: Vec<String> = line.split(' ').map(str::to_string).collect();
         let place = self.r.below(words.len());
-        match self.r.below(10) {
+        match self.r.below(11) {
+            10 => {
+                let length = *self.r.pick(&[0, 1, 15, 16, 17, 32]);
+                words[4] = hex(&self.r.bytes(length));
+            }
             8 => {
                 words[3] =
                     self.r.pick(&["1024", "00", "1,", ",1", "1,,2", "01", "+1", "1;2", "0,0", "3,1,3"]).to_string()

@@ -25,6 +25,10 @@ pub enum Draft {
     Until(Cond, Box<Draft>, Box<Draft>),
     Control(u16, Box<Draft>),
     Local(u16, Box<Draft>),
+    /// The number of a value and the two branches.
+    If(u16, Box<Draft>, Box<Draft>),
+    /// The number of a value, the cap and the body.
+    RepeatExt(u16, u16, Box<Draft>),
 }
 
 /// Short names for drafts, so that programs read like those of the documents.
@@ -81,6 +85,12 @@ pub mod short {
     }
     pub fn local(s: u16, t: Draft) -> Draft {
         Draft::Local(s, Box::new(t))
+    }
+    pub fn choose(value: u16, t: Draft, u: Draft) -> Draft {
+        Draft::If(value, Box::new(t), Box::new(u))
+    }
+    pub fn repeat_ext(value: u16, cap: u16, t: Draft) -> Draft {
+        Draft::RepeatExt(value, cap, Box::new(t))
     }
 }
 
@@ -195,6 +205,8 @@ impl Records {
             Draft::Until(c, t, u) => (10, self.test(c), vec![t, u]),
             Draft::Control(s, t) => (11, *s, vec![t]),
             Draft::Local(s, t) => (12, *s, vec![t]),
+            Draft::If(value, t, u) => (14, *value, vec![t, u]),
+            Draft::RepeatExt(value, cap, t) => (15, 16 * cap + value, vec![t]),
         };
         self.nodes.push(NodeRecord::new(kind, argument, 0));
         for child in below {

@@ -6,8 +6,9 @@ use super::draft::{Cond, Draft, Records};
 use super::event_edges;
 use super::limits::{broad, filled, nots, weighing, wrapped};
 use super::loop_edges;
+use super::value_edges;
 use super::wait_edges;
-use crate::env::Events;
+use crate::env::{Events, Values};
 use crate::instant;
 use crate::lines::{print, Call};
 use std::collections::HashSet;
@@ -40,6 +41,7 @@ pub fn lines() -> Vec<String> {
     wait_edges::add(&mut edges);
     event_edges::add(&mut edges);
     configuration_edges::add(&mut edges);
+    value_edges::add(&mut edges);
     let mut met = HashSet::new();
     edges.0.retain(|line| met.insert(line.clone()));
     edges.0
@@ -82,8 +84,13 @@ impl Edges {
     }
 
     pub fn instant(&mut self, table: &[u8], state: &[u8], events: &[u16], places: usize) {
+        self.valued(table, state, events, Values::default(), places);
+    }
+
+    /// An instant with values handed in.
+    fn valued(&mut self, table: &[u8], state: &[u8], events: &[u16], values: Values, places: usize) {
         let (table, state) = (table.to_vec(), state.to_vec());
-        self.add(Call::Instant { table, state, events: set(events), row: vec![0xa5a5; places] });
+        self.add(Call::Instant { table, state, events: set(events), values, row: vec![0xa5a5; places] });
     }
 
     /// The same table in all three calls, in rooms that would do for 16 nodes.
@@ -95,13 +102,19 @@ impl Edges {
 
     /// Instants one after the other from a state on, in rooms with places to spare.
     pub fn go_on(&mut self, records: &Records, state: Vec<u8>, instants: &[&[u16]]) {
+        let instants: Vec<_> = instants.iter().map(|&events| (events, Values::default())).collect();
+        self.ask(records, state, &instants);
+    }
+
+    /// The same, each with values handed in.
+    pub fn ask(&mut self, records: &Records, state: Vec<u8>, instants: &[(&[u16], Values)]) {
         let table = records.bytes();
         let places = instant::check(&table).map_or(0, |figures| figures.a as usize) + 1;
         let mut state = state;
         state.extend([OTHER; 2]);
-        for events in instants {
-            self.instant(&table, &state, events, places);
-            let _ = instant::instant(&table, &mut state, set(events), &mut vec![0; places]);
+        for &(events, values) in instants {
+            self.valued(&table, &state, events, values, places);
+            let _ = instant::instant(&table, &mut state, set(events), values, &mut vec![0; places]);
         }
     }
 
@@ -491,7 +504,7 @@ impl Edges {
             self.instant(&table, &vec![OTHER; length], &[9], 0);
         }
         let mut reached = vec![0; 28];
-        let _ = instant::instant(&table, &mut reached, Events::none(), &mut [0; 2]);
+        let _ = instant::instant(&table, &mut reached, Events::none(), Values::default(), &mut [0; 2]);
         for places in [0, 1, 2, 3, 5] {
             self.instant(&table, &[0; 28], &[], places);
             self.instant(&table, &reached, &[], places);
@@ -529,6 +542,8 @@ impl Edges {
             par(child(), child()),
             when(event(0), child(), child()),
             until(event(0), child(), child()),
+            choose(0, child(), child()),
+            repeat_ext(0, 3, child()),
         ] {
             let records = Records::new(1, &program);
             let nodes = records.nodes.len();
@@ -695,29 +710,45 @@ impl Edges {
             "instant - - -",
             "instant - - - -",
             "instant - - - - -",
-            "instants - - - -",
+            "instant - - - - - -",
+            "instants - - - - -",
         ] {
             self.0.push(line.to_string());
+        }
+        let zeros = "00".repeat(16);
+        self.0.push(format!("instant - - - {zeros} -"));
+        self.0.push(format!("instant - - - {zeros}"));
+        self.0.push(format!("instant - - - {zeros} - -"));
+        self.0.push(format!("instant {table} 00000000 {zeros} - -"));
+        self.0.push(format!("instant {table} 00000000 - - {zeros}"));
+        // Values: exactly 16 bytes, in lowercase.
+        for values in
+            ["-", "00", &zeros[1..], &zeros[2..], &zeros, &format!("{zeros}0"), &format!("{zeros}00"), &zeros.repeat(2)]
+        {
+            self.0.push(format!("instant {table} 00000000 - {values} -"));
+        }
+        for value in ["ff", "FF", "0g", "0 ", ", ", "0,"] {
+            self.0.push(format!("instant {table} 00000000 - {}{value} -", &zeros[2..]));
         }
         for events in [
             "0", "00", "01", "0,0", "0,", ",0", "0,,0", "255", "256", "999", "1000", "1023", "1024", "1030", "9999",
             "10000", "0256", "+0", "-0", "--", "0;1", "0, 1", "3,1,2",
         ] {
-            self.0.push(format!("instant {table} 00000000 {events} -"));
+            self.0.push(format!("instant {table} 00000000 {events} {zeros} -"));
         }
         for row in ["0", "00", "000", "0000", "00000", "000000", "ABCD", "abcd", "00 00"] {
-            self.0.push(format!("instant {table} 00000000 - {row}"));
+            self.0.push(format!("instant {table} 00000000 - {zeros} {row}"));
         }
         for state in ["0", "000000", "00000000", "0000000", "0000000G", "0000000A"] {
-            self.0.push(format!("instant {table} {state} - -"));
+            self.0.push(format!("instant {table} {state} - {zeros} -"));
             self.0.push(format!("start {table} {state}"));
         }
         self.0.push(format!("check {}", table.replace("06", "0G")));
         self.0.push(format!("check {}", table.to_uppercase()));
         // Lines of 400,000 and 400,001 bytes: repeated events fill them.
-        let many = ",10".repeat(133_328);
-        self.0.push(format!("instant - - 10{many} -"));
-        self.0.push(format!("instant - - 100{many} -"));
+        let many = ",10".repeat(133_317);
+        self.0.push(format!("instant - - 10{many} {zeros} -"));
+        self.0.push(format!("instant - - 100{many} {zeros} -"));
     }
 
     // K1 to K12 of 01.

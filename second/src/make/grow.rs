@@ -3,7 +3,7 @@
 use super::draft::short::*;
 use super::draft::{Cond, Draft, Records};
 use super::random::Random;
-use crate::env::EVENTS;
+use crate::env::{EVENTS, VALUES};
 
 /// What a program is grown from.
 struct Ground<'a> {
@@ -13,7 +13,7 @@ struct Ground<'a> {
     /// The conditions that tests choose from, so that several tests ask the same.
     conds: Vec<Cond>,
     /// How often each kind of step is taken.
-    steps: [usize; 8],
+    steps: [usize; 10],
 }
 
 /// A random program as records, mostly of an acceptable table.
@@ -30,14 +30,14 @@ pub fn lasting(r: &mut Random) -> Records {
 /// A random program of many branches that share few events, so that the order in which they run tells.
 pub fn woven(r: &mut Random) -> Records {
     let events = r.between(2, 4);
-    let program = weave(r, events, [26, 26, 20, 4, 7, 7, 4, 6]);
+    let program = weave(r, events, [26, 26, 20, 4, 7, 7, 4, 6, 5, 4]);
     Records::sharing(events as u16, &program)
 }
 
 /// A random program of many tests over several events, within scopes and one behind another, so that instants wait.
 pub fn waiting(r: &mut Random) -> Records {
     let events = r.between(2, 6);
-    let program = weave(r, events, [10, 34, 3, 3, 12, 14, 12, 12]);
+    let program = weave(r, events, [10, 34, 3, 3, 12, 14, 12, 12, 4, 3]);
     let mut records = Records::sharing(events as u16, &program);
     if r.chance(15) {
         spread(r, &mut records);
@@ -45,7 +45,14 @@ pub fn waiting(r: &mut Random) -> Records {
     records
 }
 
-fn weave(r: &mut Random, events: usize, steps: [usize; 8]) -> Draft {
+/// A random program in which the values that the box hands in choose and count, beside, behind and within one another (L14).
+pub fn asking(r: &mut Random) -> Records {
+    let events = r.between(1, 3);
+    let program = weave(r, events, [12, 12, 14, 10, 4, 5, 3, 3, 30, 30]);
+    Records::sharing(events as u16, &program)
+}
+
+fn weave(r: &mut Random, events: usize, steps: [usize; 10]) -> Draft {
     let conds = (0..r.between(1, 4)).map(|_| cond(r, events, 3)).collect();
     let branches = r.between(2, 8);
     Ground { r, events, conds, steps }.weave(branches)
@@ -81,7 +88,7 @@ fn records(r: &mut Random, lasting: bool) -> Records {
         3 => r.between(26, 60),
         _ => r.between(61, 160),
     };
-    let mut ground = Ground { r, events, conds, steps: [1; 8] };
+    let mut ground = Ground { r, events, conds, steps: [1; 10] };
     let program = match ground.r.weigh(&[50, 10, 32, 8]) {
         0 => ground.draft(nodes),
         1 => ground.chain(nodes / 5 + 1),
@@ -152,6 +159,24 @@ impl Ground<'_> {
         }
     }
 
+    /// The number of a value, low ones more often, so that several forms ask for the same.
+    fn value(&mut self) -> u16 {
+        if self.r.chance(70) {
+            self.r.below(3) as u16
+        } else {
+            self.r.below(VALUES) as u16
+        }
+    }
+
+    fn cap(&mut self) -> u16 {
+        match self.r.weigh(&[8, 14, 26, 22, 14, 8, 5, 3]) {
+            5 => self.r.between(5, 12) as u16,
+            6 => self.r.below(256) as u16,
+            7 => 255,
+            cap => cap as u16,
+        }
+    }
+
     /// Any program of about this many nodes.
     fn draft(&mut self, nodes: usize) -> Draft {
         if nodes <= 1 || self.r.chance(4) {
@@ -159,7 +184,7 @@ impl Ground<'_> {
         }
         let one = nodes - 1;
         let (two, rest) = self.split(one);
-        match self.r.weigh(&[24, 28, 7, 9, 8, 10, 7, 9]) {
+        match self.r.weigh(&[24, 28, 7, 9, 8, 10, 7, 9, 6, 6]) {
             0 => seq(self.draft(two), self.draft(rest)),
             1 => par(self.draft(two), self.draft(rest)),
             // Now and then a body that doesn't stop.
@@ -168,7 +193,9 @@ impl Ground<'_> {
             4 => when(self.test(), self.draft(two), self.draft(rest)),
             5 => until(self.test(), self.draft(two), self.draft(rest)),
             6 => control(self.event(), self.draft(one)),
-            _ => local(self.event(), self.draft(one)),
+            7 => local(self.event(), self.draft(one)),
+            8 => choose(self.value(), self.draft(two), self.draft(rest)),
+            _ => repeat_ext(self.value(), self.cap(), self.draft(one)),
         }
     }
 
@@ -179,7 +206,7 @@ impl Ground<'_> {
         }
         let one = nodes - 1;
         let (two, rest) = self.split(one);
-        match self.r.weigh(&[24, 14, 14, 8, 7, 7, 7, 7, 7, 5, 5, 5]) {
+        match self.r.weigh(&[24, 14, 14, 8, 7, 7, 7, 7, 7, 5, 5, 5, 5]) {
             0 => seq(self.draft(two), self.stopping(rest)),
             1 => seq(self.stopping(two), self.draft(rest)),
             2 => par(self.draft(two), self.stopping(rest)),
@@ -191,7 +218,8 @@ impl Ground<'_> {
             8 => control(self.event(), self.stopping(one)),
             9 => local(self.event(), self.stopping(one)),
             10 => when(self.late(), self.draft(two), self.stopping(rest)),
-            _ => until(self.late(), self.stopping(two), self.draft(rest)),
+            11 => until(self.late(), self.stopping(two), self.draft(rest)),
+            _ => choose(self.value(), self.stopping(two), self.stopping(rest)),
         }
     }
 
@@ -264,7 +292,7 @@ impl Ground<'_> {
         for _ in 1..branches {
             let other = self.thread();
             whole = if self.r.chance(50) { par(whole, other) } else { par(other, whole) };
-            whole = match self.r.below(30) {
+            whole = match self.r.below(34) {
                 0 => local(self.event(), whole),
                 1 => until(self.test(), whole, self.step()),
                 2 => seq(whole, self.step()),
@@ -273,6 +301,9 @@ impl Ground<'_> {
                 5 => forever(seq(whole, stop())),
                 6 => control(self.event(), whole),
                 7 => when(self.test(), whole, self.step()),
+                8 => choose(self.value(), whole, self.step()),
+                9 => choose(self.value(), self.step(), whole),
+                10 => repeat_ext(self.value(), self.r.between(1, 3) as u16, whole),
                 _ => whole,
             };
         }
@@ -293,7 +324,12 @@ impl Ground<'_> {
             4 => when(self.test(), self.leaf(), self.leaf()),
             5 => until(self.test(), seq(self.leaf(), stop()), self.leaf()),
             6 => control(self.event(), self.leaf()),
-            _ => local(self.event(), par(self.leaf(), self.leaf())),
+            7 => local(self.event(), par(self.leaf(), self.leaf())),
+            8 => choose(self.value(), self.leaf(), self.leaf()),
+            _ => {
+                let body = if self.r.chance(50) { self.leaf() } else { seq(self.leaf(), stop()) };
+                repeat_ext(self.value(), self.cap(), body)
+            }
         }
     }
 

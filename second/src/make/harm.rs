@@ -33,10 +33,10 @@ fn in_a_record(r: &mut Random, mut records: Records) -> Records {
         }
     } else {
         let other = r.below(n);
-        let limit = if r.chance(50) { records.events } else { m as u16 };
+        let limit = *r.pick(&[records.events, records.events, m as u16, m as u16, 16, 4_096]);
         let node = &mut records.nodes[r.below(n)];
         match r.below(6) {
-            0 => node.kind = r.below(15) as u8,
+            0 => node.kind = r.below(18) as u8,
             1 => node.zero = r.byte(),
             2 => node.argument = near(r, node.argument),
             3 => node.argument = near(r, limit),

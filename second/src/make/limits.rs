@@ -63,7 +63,7 @@ pub fn near(r: &mut Random) -> Records {
 fn deep(r: &mut Random) -> Records {
     let mut program = if r.chance(50) { nothing() } else { seq(stop(), nothing()) };
     for _ in 0..r.between(61, 65) {
-        program = match r.below(8) {
+        program = match r.below(11) {
             0 => seq(program, stop()),
             1 => seq(nothing(), program),
             2 => par(program, stop()),
@@ -71,6 +71,9 @@ fn deep(r: &mut Random) -> Records {
             4 => control(0, program),
             5 => local(1, program),
             6 => until(event(0), program, nothing()),
+            7 => choose(15, program, nothing()),
+            8 => choose(0, nothing(), program),
+            9 => repeat_ext(3, 255, program),
             _ => until(event(1), stop(), program),
         };
     }
@@ -115,8 +118,14 @@ fn heavy(r: &mut Random) -> Records {
     let count = r.between(limit / 2 - 2, limit / 2 + 2) as u16;
     let half = repeat(count, leaf.clone());
     let whole = repeat((limit - 2 + r.below(4)) as u16, leaf.clone());
-    let program = match r.below(8) {
+    // A cap of at most 255 over what is left of the limit.
+    let cap = *r.pick(&[1, 2, 3, 16, 254, 255]);
+    let share = repeat(((limit + r.below(3)) / cap) as u16, leaf.clone());
+    let program = match r.below(11) {
         0 => whole,
+        8 => repeat_ext(r.below(16) as u16, cap as u16, share),
+        9 => repeat_ext(0, r.between(0, 3) as u16, seq(stop(), half)),
+        10 => choose(1, half, whole),
         1 => forever(seq(half, stop())),
         2 => repeat(r.between(2, 9) as u16, seq(stop(), half)),
         3 => repeat(2, half),

@@ -50,6 +50,9 @@ fn changed(r: &mut Random, mut records: Records) -> Records {
     match node.kind {
         0 | 1 => node.kind = 1 - node.kind,
         6 => node.argument = r.below(3) as u16,
+        // Another value's number or cap, which moves no border.
+        14 => node.argument = r.below(16) as u16,
+        15 => node.argument = r.below(80) as u16,
         9 | 10 if r.chance(50) => node.kind = 19 - node.kind,
         8..=10 => node.argument = r.below(m) as u16,
         _ => {}
@@ -117,7 +120,7 @@ impl Ground<'_> {
         let one = nodes - 1;
         let first = self.r.between(1, one.max(2) - 1);
         let second = one.saturating_sub(first).max(1);
-        match self.r.weigh(&[10, 8, 28, 28, 5, 5, 12, 4]) {
+        match self.r.weigh(&[10, 8, 28, 28, 5, 5, 12, 4, 12, 5]) {
             0 => seq(self.body(first), self.body(second)),
             1 => par(self.body(first), self.body(second)),
             2 => when(self.test(), self.body(first), self.body(second)),
@@ -125,6 +128,8 @@ impl Ground<'_> {
             4 => control(self.event(), self.body(one)),
             5 => local(self.event(), self.body(one)),
             6 => repeat(self.r.below(4) as u16, self.body(one)),
+            8 => choose(self.r.below(16) as u16, self.body(first), self.body(second)),
+            9 => repeat_ext(self.r.below(16) as u16, self.r.below(5) as u16, self.body(one)),
             _ => forever(self.body(one)),
         }
     }

@@ -18,6 +18,8 @@ mod rest;
 mod spoil;
 pub mod text_edges;
 pub mod texts;
+mod value_edges;
+pub mod values;
 mod wait_edges;
 pub mod waits;
 mod wide;
@@ -30,6 +32,7 @@ pub fn lines(sort: &str, cases: usize, seed: u64) -> Option<Box<dyn Iterator<Ite
         "loops" => Some(Box::new(loops::lines(cases, seed))),
         "orders" => Some(Box::new(orders::lines(cases, seed))),
         "texts" => Some(Box::new(texts::lines(cases, seed))),
+        "values" => Some(Box::new(values::lines(cases, seed))),
         "waits" => Some(Box::new(waits::lines(cases, seed))),
         _ => None,
     }

@@ -60,6 +60,14 @@ fn forms(edges: &mut Edges) {
         wrapped(63, stop(), |_, t| control(0, t)),
         wrapped(63, stop(), |_, t| par(t, stop())),
         wait(nots(15, event(7))),
+        choose(0, atom(1), stop()),
+        choose(9, stop(), atom(1)),
+        choose(15, wait(event(3)), choose(10, stop(), wait(event(2)))),
+        repeat_ext(0, 0, stop()),
+        repeat_ext(1, 9, stop()),
+        repeat_ext(10, 99, seq(atom(1), stop())),
+        repeat_ext(15, 255, seq(stop(), wait(not(event(1))))),
+        repeat_ext(9, 100, choose(1, repeat_ext(2, 10, stop()), nothing())),
     ] {
         exact(edges, &Records::new(1_024, &program));
     }
@@ -97,6 +105,8 @@ fn refused(edges: &mut Edges) {
         Records::raw(1, &[(0, 0, 1)], &[(0, 1, 1)]).bytes(),
         Records::new(1, &wait(nots(16, event(0)))).bytes(),
         Records::raw(1, &[(13, 0, 1)], &[]).bytes(),
+        Records::new(1, &choose(16, stop(), stop())).bytes(),
+        Records::raw(1, &[(15, 4_096, 2), (1, 0, 1)], &[]).bytes(),
         Records::raw(1, &[(5, 0, 3), (1, 0, 2)], &[]).bytes(),
         Records::new(1, &wrapped(64, stop(), |_, t| local(0, t))).bytes(),
         Records::new(1, &forever(wait(event(0)))).bytes(),

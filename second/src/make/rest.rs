@@ -1,6 +1,7 @@
 //! Random states: at rest, most of them never reached from fresh, and damaged ones.
 
 use super::random::Random;
+use crate::state::below;
 use crate::table::{Node, Written};
 
 /// A random state at rest of a tree.
@@ -59,7 +60,14 @@ fn fill(r: &mut Random, node: &Node, gone: usize, room: &mut [u8]) {
                 fill(r, body, gone, room);
             }
         }
-        Written::When(_, then, other) => match r.below(3) {
+        Written::RepeatExt(_, cap, body) => {
+            if *cap > 0 && r.chance(75) {
+                room[at] = 1;
+                room[at + 3] = if r.chance(30) { cap - 1 } else { r.below(usize::from(*cap)) as u8 };
+                fill(r, body, gone, room);
+            }
+        }
+        Written::When(_, then, other) | Written::If(_, then, other) => match r.below(3) {
             0 => {}
             1 => {
                 room[at] = 1;
@@ -79,6 +87,28 @@ fn fill(r: &mut Random, node: &Node, gone: usize, room: &mut [u8]) {
             }
         }
     }
+}
+
+/// Gives one of the begun repetitions of a state a count that is just too great, or near it.
+pub fn recount(r: &mut Random, root: &Node, state: &mut [u8]) {
+    let mut begun = vec![];
+    limits_of_begun(root, state, &mut begun);
+    if !begun.is_empty() {
+        let (at, limit) = *r.pick(&begun);
+        let count = limit.saturating_add(*r.pick(&[0, 0, 0, 1, 255, 256])).saturating_sub(*r.pick(&[0, 0, 1]));
+        state[at + 2..at + 4].copy_from_slice(&count.to_be_bytes());
+    }
+}
+
+/// Where the bytes of each begun repetition stand, and the count or cap that its count is below.
+fn limits_of_begun(node: &Node, state: &[u8], found: &mut Vec<(usize, u16)>) {
+    let limit = match &node.written {
+        Written::Repeat(times, _) => Some(*times),
+        Written::RepeatExt(_, cap, _) => Some(u16::from(*cap)),
+        _ => None,
+    };
+    found.extend(limit.filter(|_| state[4 * node.at] == 1).map(|limit| (4 * node.at, limit)));
+    below(node).into_iter().for_each(|child| limits_of_begun(child, state, found));
 }
 
 /// Changes a state's 4N bytes in one to three places, mostly to values that some node may have.

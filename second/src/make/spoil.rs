@@ -18,7 +18,7 @@ pub fn damaged(r: &mut Random, text: &str) -> Vec<u8> {
 }
 
 /// What stands in a text, and what may be written there by mistake.
-const MISTAKES: [(&str, &[&str]); 21] = [
+const MISTAKES: [(&str, &[&str]); 23] = [
     (", ", &[",", " ,", ",  ", ", , ", ",,", "; ", ",\t", ",\n", " ", ""]),
     ("Jr.", &["jr.", "JR.", "Jr", "Jr .", "", "Jr.Jr."]),
     ("(", &["( ", " (", "((", "", "["]),
@@ -39,6 +39,8 @@ const MISTAKES: [(&str, &[&str]); 21] = [
     ("When", &["Until", "Whe", "Control", "If"]),
     ("Until", &["When", "Unti", "Until*", "Seq"]),
     ("Control", &["Local", "Repeat", "Contro", "Freezable"]),
+    ("If", &["When", "IF", "I", "Iff", "RepeatExt"]),
+    ("RepeatExt", &["Repeat", "RepeatEx", "RepeatExts", "Repeatext", "If"]),
     ("Stop()", &["Seq()", "Seq(Jr.Stop())", "Par(Jr.Stop())", "Loop(Jr.Stop(), Jr.Stop())", "Loop()", "Await()"]),
 ];
 
@@ -90,8 +92,8 @@ fn change_a_number(r: &mut Random, bytes: &mut Vec<u8>) {
         3 => format!("{}{old}", r.pick(&["+", "-", " ", "00", "1"])),
         _ => r
             .pick(&[
-                "0", "00", "01", "255", "256", "300", "999", "1000", "1023", "1024", "1030", "2550", "65535", "65536",
-                "65540",
+                "0", "00", "01", "15", "16", "20", "255", "256", "300", "999", "1000", "1023", "1024", "1030", "2550",
+                "65535", "65536", "65540",
             ])
             .to_string(),
     };

@@ -14,6 +14,7 @@ pub fn lines() -> Vec<String> {
     edges.forms();
     edges.names();
     edges.numbers();
+    edges.values_and_caps();
     edges.blanks();
     edges.brackets_and_parts();
     edges.ends();
@@ -130,8 +131,10 @@ impl Edges {
             "Jr.Unless(",
             "Jr.Until*(",
             "Jr.Controls",
-            "Jr.RepeatExt(1, 2, Jr.Stop())",
-            "Jr.If(1, Jr.Stop(), Jr.Stop())",
+            "Jr.Iff(1, Jr.Stop(), Jr.Stop())",
+            "Jr.I",
+            "Jr.RepeatEx(1, 2, Jr.Stop())",
+            "Jr.RepeatExtend(",
             "Jr.Freezable(1, Jr.Stop())",
             "Jr.Machine(Jr.Stop())",
             "\u{feff}Jr.Stop()",
@@ -185,6 +188,69 @@ impl Edges {
             "Jr.Await(25",
             "Jr.Await(102",
         ]);
+    }
+
+    // L14: a value's number up to 15, a cap up to 255, both counted in no event; their parts in their order.
+    fn values_and_caps(&mut self) {
+        let choice = |n: &str| format!("Jr.If({n}, Jr.Atom(1), Jr.Await(2))");
+        let value = |n: &str| format!("Jr.RepeatExt({n}, 3, Jr.Stop())");
+        let cap = |n: &str| format!("Jr.RepeatExt(4, {n}, Jr.Stop())");
+        for number in ["0", "1", "9", "10", "15"] {
+            self.exact(&choice(number));
+            self.exact(&value(number));
+        }
+        for number in ["0", "1", "9", "10", "16", "99", "100", "199", "200", "249", "250", "255"] {
+            self.exact(&cap(number));
+        }
+        for number in ["", "16", "17", "19", "20", "150", "00", "01", "015", "-1", " 1", "1 ", "x", "(not 1)"] {
+            self.failing(&[&choice(number)]);
+        }
+        for number in ["", "16", "20", "01"] {
+            self.failing(&[&value(number)]);
+        }
+        for number in ["", "256", "260", "300", "1000", "2550", "07", " 1", "1 "] {
+            self.failing(&[&cap(number)]);
+        }
+        self.in_rooms(&choice("7"));
+        self.in_rooms(&cap("7"));
+        self.failing(&[
+            "Jr.If(",
+            "Jr.If(1",
+            "Jr.If(1)",
+            "Jr.If(1, ",
+            "Jr.If(1, Jr.Stop())",
+            "Jr.If(1,Jr.Stop(), Jr.Stop())",
+            "Jr.If(1, Jr.Stop(),Jr.Stop())",
+            "Jr.If(1, Jr.Stop(), Jr.Stop()",
+            "Jr.If(1, Jr.Stop(), Jr.Stop(), Jr.Stop())",
+            "Jr.If(1, 2, Jr.Stop())",
+            "Jr.If(Jr.Stop(), Jr.Stop(), 1)",
+            "Jr.RepeatExt(",
+            "Jr.RepeatExt(1, Jr.Stop())",
+            "Jr.RepeatExt(1, 2)",
+            "Jr.RepeatExt(1, 2, Jr.Stop()",
+            "Jr.RepeatExt(1,2, Jr.Stop())",
+            "Jr.RepeatExt(1, 2,Jr.Stop())",
+            "Jr.RepeatExt(1, 2, 3, Jr.Stop())",
+            "Jr.RepeatExt(1, 2, Jr.Stop(), Jr.Stop())",
+            "Jr.RepeatExt(Jr.Stop(), 1, 2)",
+            "Jr.RepeatExt (1, 2, Jr.Stop())",
+            "Jr.Repeat(1, 2, Jr.Stop())",
+            "Jr.RepeatE",
+        ]);
+        for text in [
+            "Jr.If(15, Jr.Nothing(), Jr.Nothing())",
+            "Jr.If(3, Jr.Await((not 4)), Jr.If(2, Jr.Await(1), Jr.Generate(0)))",
+            "Jr.Seq(Jr.If(9, Jr.Await(3), Jr.Await(2)), Jr.When(1, Jr.RepeatExt(8, 200, Jr.Await(0)), Jr.Stop()))",
+            "Jr.RepeatExt(0, 2, Jr.RepeatExt(15, 255, Jr.Seq(Jr.Await(1), Jr.Atom(65), Jr.Stop())))",
+            "Jr.Loop(Jr.If(0, Jr.Stop(), Jr.Stop()))",
+            "Jr.Loop(Jr.If(0, Jr.Stop(), Jr.Nothing()))",
+            "Jr.Loop(Jr.RepeatExt(0, 1, Jr.Stop()))",
+            "Jr.RepeatExt(0, 255, Jr.RepeatExt(0, 17, Jr.Generate(0)))",
+            "Jr.RepeatExt(0, 0, Jr.Repeat(65535, Jr.Repeat(65535, Jr.Stop())))",
+        ] {
+            self.exact(text);
+        }
     }
 
     // A blank, and other bytes like it, at each place of a text.

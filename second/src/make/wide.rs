@@ -48,8 +48,11 @@ pub fn bush(records: usize) -> String {
 }
 
 /// Brackets that make a program deeper, and those that make a configuration higher.
-pub const DEEPER: [(&str, &str); 10] = [
+pub const DEEPER: [(&str, &str); 13] = [
     ("Jr.Loop(", ")"),
+    ("Jr.RepeatExt(2, 1, ", ")"),
+    ("Jr.If(15, Jr.Stop(), ", ")"),
+    ("Jr.If(0, ", ", Jr.Stop())"),
     ("Jr.Repeat(1, ", ")"),
     ("Jr.Control(0, ", ")"),
     ("Jr.Local(1, ", ")"),

@@ -49,6 +49,19 @@ impl Hand<'_> {
         .to_string()
     }
 
+    fn value(&mut self) -> String {
+        self.r.below(16).to_string()
+    }
+
+    fn cap(&mut self) -> String {
+        match self.r.weigh(&[15, 60, 25]) {
+            0 => 0,
+            1 => self.r.between(1, 4),
+            _ => *self.r.pick(&[9, 10, 16, 25, 26, 99, 100, 199, 200, 249, 250, 255]),
+        }
+        .to_string()
+    }
+
     fn config(&mut self, height: usize) -> String {
         if height <= 1 || self.r.chance(35) {
             return self.event();
@@ -82,7 +95,7 @@ impl Hand<'_> {
             return self.leaf();
         }
         let half = nodes.div_ceil(2);
-        let (name, parts) = match self.r.weigh(&[25, 25, 6, 8, 9, 9, 9, 9]) {
+        let (name, parts) = match self.r.weigh(&[25, 25, 6, 8, 9, 9, 9, 9, 8, 8]) {
             0 => ("Seq", self.several(nodes)),
             1 => ("Par", self.several(nodes)),
             2 => ("Loop", vec![self.body(nodes - 1)]),
@@ -90,6 +103,8 @@ impl Hand<'_> {
             4 => ("When", vec![self.test(), self.program(half), self.program(nodes - half)]),
             5 => ("Until", vec![self.test(), self.program(half), self.program(nodes - half)]),
             6 => ("Control", vec![self.event(), self.program(nodes - 1)]),
+            8 => ("If", vec![self.value(), self.program(half), self.program(nodes - half)]),
+            9 => ("RepeatExt", vec![self.value(), self.cap(), self.program(nodes - 1)]),
             _ => ("Local", vec![self.event(), self.program(nodes - 1)]),
         };
         form(name, &parts)

@@ -6,10 +6,13 @@ use crate::make::draft::short::*;
 use crate::make::draft::Cond;
 use crate::words::hex;
 
+/// Sixteen values, all 0.
+const ZEROS: &str = "00000000000000000000000000000000";
+
 /// A fresh instant of a lone Await over V events with these handed in answers this line.
 fn await_says(events: u16, cond: Cond, handed: &str, wanted: &str) {
     let table = hex(&Records::new(events, &wait(cond)).bytes());
-    assert_eq!(lines::answer(format!("instant {table} 00000000 {handed} -").as_bytes()), wanted, "{handed}");
+    assert_eq!(lines::answer(format!("instant {table} 00000000 {handed} {ZEROS} -").as_bytes()), wanted, "{handed}");
 }
 
 fn tower(times: usize) -> Cond {
@@ -53,7 +56,7 @@ fn the_middle_of_another() {
         ("000000000000000000000000", "-", "0 0 - 0 1024 0 0 2 1 0 000000000300000000000000 -"),
         ("000000000300000000000000", "0", "0 0 0 1 0 0 1 1 4096 1024 030000000000000000000000 -"),
     ] {
-        assert_eq!(lines::answer(format!("instant {table} {state} {handed} -").as_bytes()), wanted);
+        assert_eq!(lines::answer(format!("instant {table} {state} {handed} {ZEROS} -").as_bytes()), wanted);
     }
 }
 

@@ -150,6 +150,8 @@ fn stopped_before(node: &Node) -> bool {
         }
         Written::Control(_, body) | Written::Local(_, body) => stopped_before(body),
         Written::Repeat(count, body) => *count >= 1 && stopped_before(body),
+        Written::If(_, first, second) => stopped_before(first) && stopped_before(second),
+        Written::RepeatExt(..) => false,
     }
 }
 
@@ -180,15 +182,17 @@ fn nothing_is_lost() {
     assert!(gained > 1_000, "{gained}");
 }
 
-// The rule's reason: what stops, freshly begun among any events, doesn't end in that instant.
+// The rule's reason: what stops, freshly begun among any events and values, doesn't end in that instant.
 #[test]
 fn what_stops_does_not_end_at_once() {
     let (mut stopped, mut ended) = (0, 0);
     for program in programs().filter(|program| figures::load(&program.root).is_ok()) {
         for node in subtree(&program.root).into_iter().filter(|node| node.size <= 40) {
-            for bits in 0..4u8 {
+            // The two events, and the values of even and of odd number, each there or not.
+            for bits in 0..16u8 {
                 let handed = (0..2).filter(|s| bits >> s & 1 == 1).collect();
-                let (answer, ..) = instant::passes(state::fresh(node), handed, &mut Course::new(&mut || false));
+                let values = std::array::from_fn(|number| bits >> (2 + number % 2) & 1);
+                let (answer, ..) = instant::passes(state::fresh(node), handed, &mut Course::new(values, &mut || false));
                 let finished = answer == Flag::Term;
                 assert!(!(finished && figures::stops(node)), "{node:?} {handed:?}");
                 stopped += usize::from(figures::stops(node));

@@ -2,7 +2,7 @@
 
 use crate::instant;
 use crate::lines;
-use crate::make::{calls, edges};
+use crate::make::{calls, edges, values};
 use crate::state;
 use crate::table;
 use crate::term::Flag;
@@ -10,7 +10,7 @@ use crate::words::read_hex;
 
 /// Lines to try, and the words of each line and of its answer.
 fn each_case(mut look: impl FnMut(&[&str], &[&str])) {
-    for line in calls::lines(4_000, 2).chain(edges::lines()) {
+    for line in calls::lines(4_000, 2).chain(values::lines(2_000, 2)).chain(edges::lines()) {
         let answer = lines::answer(line.as_bytes());
         if answer != "bad-line" {
             look(&line.split(' ').collect::<Vec<_>>(), &answer.split(' ').collect::<Vec<_>>());
@@ -31,7 +31,7 @@ fn a_refusal_writes_nothing() {
         ("start", _) => assert_eq!(answer[2], line[2]),
         _ => {
             assert_eq!(answer[2..10], ["-", "0", "1024", "0", "0", "0", "4096", "1024"]);
-            assert_eq!(answer[10..], [line[2], line[4]]);
+            assert_eq!(answer[10..], [line[2], line[5]]);
         }
     });
 }
@@ -50,7 +50,7 @@ fn success_writes_its_part() {
         if line[0] == "start" {
             assert!(after[..4 * n].iter().all(|&byte| byte == 0));
         } else {
-            let (row, later) = (bytes(line[4]), bytes(answer[11]));
+            let (row, later) = (bytes(line[5]), bytes(answer[11]));
             let atoms: usize = answer[5].parse().expect("a number");
             assert_eq!(row.len(), later.len());
             assert_eq!(row[2 * atoms..], later[2 * atoms..]);

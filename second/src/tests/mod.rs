@@ -13,9 +13,10 @@ mod readings;
 mod rules;
 mod text_laws;
 mod texts;
+mod values;
 mod waits;
 
-use crate::env::Events;
+use crate::env::{Events, Values};
 use crate::figures::Figures;
 use crate::instant::{self, Report, Wait};
 use crate::make::draft::{Draft, Records};
@@ -53,8 +54,13 @@ impl Play {
     }
 
     fn call(&mut self, events: &[u16]) -> Result<Report, Refusal> {
+        self.ask(events, Values::default())
+    }
+
+    /// The same, with values handed in.
+    fn ask(&mut self, events: &[u16], values: Values) -> Result<Report, Refusal> {
         let mut row = vec![0; 4096];
-        let answer = instant::instant(&self.table, &mut self.state, set(events), &mut row);
+        let answer = instant::instant(&self.table, &mut self.state, set(events), values, &mut row);
         self.atoms = row[..answer.as_ref().map_or(0, |report| report.atoms)].to_vec();
         self.waits = answer.as_ref().map_or(None, |report| report.waits);
         answer

@@ -2,23 +2,28 @@
 
 use super::*;
 use crate::make::draft::short::*;
-use crate::make::{edges, orders};
+use crate::make::{edges, orders, values};
 use crate::words::{event as number, read_hex};
 
 /// What no order may change: event set, finished answer, end state, the atoms, however ordered, and, more than L6 asks, what is waited for.
 type Outcome = (Vec<u16>, bool, Vec<u8>, Vec<u16>, Option<Wait>);
 
 /// The outcome of an instant and its passes, each Par with two suspended branches asking which one runs first.
-fn outcome(table: &[u8], state: &[u8], handed: Events, second_first: &mut dyn FnMut() -> bool) -> (Outcome, usize) {
+fn outcome(
+    table: &[u8],
+    state: &[u8],
+    (handed, values): (Events, Values),
+    second_first: &mut dyn FnMut() -> bool,
+) -> (Outcome, usize) {
     let (mut state, mut row) = (state.to_vec(), vec![0; 4_096]);
-    let report = instant::in_any_order(table, &mut state, handed, &mut row, second_first).expect("no refusal");
+    let report = instant::in_any_order(table, &mut state, handed, values, &mut row, second_first).expect("no refusal");
     row.truncate(report.atoms);
     row.sort();
     ((report.events.rising().collect(), report.finished, state, row, report.waits), report.passes)
 }
 
 /// The outcome of every order and its passes, or of the first so many: each sequence of choices in its turn.
-fn orders_of(table: &[u8], state: &[u8], handed: Events, most: usize) -> Vec<(Outcome, usize)> {
+fn orders_of(table: &[u8], state: &[u8], handed: (Events, Values), most: usize) -> Vec<(Outcome, usize)> {
     let mut found = vec![];
     let mut choices: Vec<bool> = vec![];
     while found.len() < most {
@@ -46,7 +51,7 @@ fn orders_of(table: &[u8], state: &[u8], handed: Events, most: usize) -> Vec<(Ou
 fn any_order(events: u16, program: Draft, handed: &[u16], wanted: (&[u16], bool, &[u8], &[u16]), passes: &[usize]) {
     let table = Records::new(events, &program).bytes();
     let (present, finished, state, atoms) = wanted;
-    let orders = orders_of(&table, &vec![0; state.len()], set(handed), 1_000);
+    let orders = orders_of(&table, &vec![0; state.len()], (set(handed), Values::default()), 1_000);
     for (outcome, _) in &orders {
         assert_eq!(*outcome, (present.to_vec(), finished, state.to_vec(), atoms.to_vec(), None));
     }
@@ -97,7 +102,11 @@ fn atoms_in_both_orders() {
     let table = Records::new(1, &program()).bytes();
     for (second_first, atoms) in [(false, [1, 2]), (true, [2, 1])] {
         let mut row = [0; 2];
-        assert!(instant::in_any_order(&table, &mut [0; 20], Events::none(), &mut row, &mut || second_first).is_ok());
+        let answer =
+            instant::in_any_order(&table, &mut [0; 20], Events::none(), Values::default(), &mut row, &mut || {
+                second_first
+            });
+        assert!(answer.is_ok());
         assert_eq!(row, atoms);
     }
 }
@@ -106,7 +115,7 @@ fn atoms_in_both_orders() {
 #[test]
 fn waits_in_both_orders() {
     let table = Records::new(2, &par(wait(event(1)), wait(event(0)))).bytes();
-    let orders = orders_of(&table, &[0; 12], set(&[]), 1_000);
+    let orders = orders_of(&table, &[0; 12], (set(&[]), Values::default()), 1_000);
     assert_eq!(orders.len(), 4);
     assert!(orders.iter().all(|((.., waits), passes)| *waits == Some(Wait { node: 1, event: 1 }) && *passes == 2));
 }
@@ -117,7 +126,7 @@ fn when_a_choice_is_made() {
     let asked = |program: Draft| {
         let records = Records::new(2, &program);
         let mut times = 0;
-        outcome(&records.bytes(), &vec![0; 4 * records.nodes.len()], Events::none(), &mut || {
+        outcome(&records.bytes(), &vec![0; 4 * records.nodes.len()], (Events::none(), Values::default()), &mut || {
             times += 1;
             false
         });
@@ -135,19 +144,24 @@ fn when_a_choice_is_made() {
     assert_eq!(asked(par(wait(event(0)), par(nothing(), atom(1)))), 2);
 }
 
-// Every order, or the first 64 of them, of random and edge instants has one outcome; often not in the same passes.
+// Every order, or the first 64 of them, of random and edge instants has one outcome for equal values (L14); often not in the same passes.
 #[test]
 fn one_outcome() {
     let (mut instants, mut many, mut unlike, mut waiting) = (0, 0, 0, 0);
-    for line in orders::lines(3_000, 4).chain(edges::lines()) {
+    for line in orders::lines(3_000, 4).chain(values::lines(2_000, 4)).chain(edges::lines()) {
         let words: Vec<&str> = line.split(' ').collect();
-        let ["instant", table, state, events, _] = words[..] else { continue };
-        let (Some(table), Some(state)) = (read_hex(table.as_bytes()), read_hex(state.as_bytes())) else { continue };
+        let ["instant", table, state, events, values, _] = words[..] else { continue };
+        let [Some(table), Some(state), Some(values)] = [table, state, values].map(|word| read_hex(word.as_bytes()))
+        else {
+            continue;
+        };
+        let Ok(values) = Values::try_from(values) else { continue };
         let handed: Events = events.split(',').filter_map(|word| number(word.as_bytes())).collect();
-        if table.len() > 1_000 || instant::instant(&table, &mut state.clone(), handed, &mut [0; 4_096]).is_err() {
+        if table.len() > 1_000 || instant::instant(&table, &mut state.clone(), handed, values, &mut [0; 4_096]).is_err()
+        {
             continue;
         }
-        let orders = orders_of(&table, &state, handed, 64);
+        let orders = orders_of(&table, &state, (handed, values), 64);
         assert!(orders.iter().all(|(outcome, _)| *outcome == orders[0].0), "{line}");
         instants += 1;
         many += usize::from(orders.len() > 1);

@@ -8,6 +8,9 @@ use crate::state::below;
 use crate::table::{self, Node, Written};
 use crate::words::read_hex;
 
+/// Sixteen values, all 0.
+const ZEROS: &str = "00000000000000000000000000000000";
+
 /// The fields of an instant that waits.
 pub fn at(node: usize, event: u16) -> Option<Wait> {
     Some(Wait { node, event })
@@ -109,12 +112,15 @@ fn refused_calls() {
     assert_eq!(Play::new(1, wait(event(0))).call(&[3, 0]), refused(11, 3));
     let table = "08000000000100000001000100010001000a0004";
     assert_eq!(
-        lines::answer(format!("instant {table} 00000000 0,3 -").as_bytes()),
+        lines::answer(format!("instant {table} 00000000 0,3 {ZEROS} -").as_bytes()),
         "11 3 - 0 1024 0 0 0 4096 1024 00000000 -"
     );
-    assert_eq!(lines::answer(format!("instant {table} 00000000 - -").as_bytes()), "0 0 - 0 1024 0 0 2 0 0 00000000 -");
     assert_eq!(
-        lines::answer(format!("instant {table} 00000000 0 -").as_bytes()),
+        lines::answer(format!("instant {table} 00000000 - {ZEROS} -").as_bytes()),
+        "0 0 - 0 1024 0 0 2 0 0 00000000 -"
+    );
+    assert_eq!(
+        lines::answer(format!("instant {table} 00000000 0 {ZEROS} -").as_bytes()),
         "0 0 0 1 0 0 1 1 4096 1024 03000000 -"
     );
 }

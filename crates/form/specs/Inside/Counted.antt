@@ -5,7 +5,7 @@ use mathlib.Core.List.{List, [], _∷_}
 use lib.Dec.{eqb}
 use Rattle.form.specs.Made.{larger}
 use Rattle.form.specs.Inside.Machine.{byte, prog, name, parts, conf, inner, joint, num}
-use Rattle.form.specs.Inside.Machine.{tail, event, plain, endByte, Stack, Next, dead, on, step}
+use Rattle.form.specs.Inside.Machine.{tail, event, plain, value, cap, endByte, Stack, Next, dead, on, step}
 
 pub record Counts : Type 0 where
   pub nodes : ℕ
@@ -42,6 +42,8 @@ counted (joint ∷ σ) b k = k
 counted (num n e ∷ σ) b k = k
 counted (tail event v e ∷ σ) b k = cond (eqb b (endByte e)) (an-event v k) k
 counted (tail plain v e ∷ σ) b k = k
+counted (tail value v e ∷ σ) b k = k
+counted (tail cap v e ∷ σ) b k = k
 
 abbrev pub going : Next → (Stack → Counts) → Counts → Counts
 going dead f k = k

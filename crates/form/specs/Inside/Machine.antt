@@ -19,13 +19,15 @@ endByte close = 41
 endByte comma = 44
 endByte space = 32
 
--- an event's number, or another
+-- an event's number, one of 16 bits, a value's, a cap
 pub data Number : Type 0 where
-  event plain : Number
+  event plain value cap : Number
 
 abbrev pub limit : Number → ℕ
 limit event = places - 1
 limit plain = 65535
+limit value = 15
+limit cap = 255
 
 -- What is still to come. A number or configuration has the byte behind it in its symbol, so that every stack can
 -- be completed.
@@ -58,7 +60,7 @@ abbrev pub ending : ℕ → End
 ending x = cond (eqb x 41) close (cond (eqb x 44) comma space)
 
 abbrev pub sortOf : ℕ → Number
-sortOf x = cond (eqb x 139) plain event
+sortOf x = cond (ltb x 139) event (cond (eqb x 139) plain (cond (eqb x 140) value cap))
 
 -- a symbol that ends its row
 abbrev pub last : ℕ → Sym

@@ -6,13 +6,16 @@ use mathlib.Core.List.{List, [], _∷_, _++_, map}
 use lib.Dec.{eqb}
 use lib.ListN.{getD, drop}
 use Rattle.letters.specs.Text.{bytes}
-use Rattle.form.specs.Names.{Part, number, event, test, program, programs, Form, forms, words}
+use Rattle.form.specs.Names.{Part, number, event, value, cap, test, program, programs, Form, forms, words, kindOfForm, formOfKind}
 
 -- A byte below 128 is to be read as it is. 128 is a program; 129 a form's name; 133 stands behind a second or later part; 134 is a
--- configuration; 136 stands behind its bracket; 137 behind its first part and a space; 138 is an event, 139 another number.
+-- configuration; 136 stands behind its bracket; 137 behind its first part and a space; 138 is an event, 139 a number, 140 the number of a
+-- value, 141 a cap.
 abbrev pub withPart : Part → List ℕ → List ℕ
 withPart number l = 139 ∷ l
 withPart event l = 138 ∷ l
+withPart value l = 140 ∷ l
+withPart cap l = 141 ∷ l
 withPart test l = 134 ∷ l
 withPart program l = 128 ∷ l
 withPart programs l = 128 ∷ 133 ∷ []
@@ -65,19 +68,22 @@ codeAt p = getD names p 0
 abbrev pub rowAt : ℕ → ℕ
 rowAt r = 20 * r
 
--- the rows of kind k
+-- the rows of a configuration of kind k, of form i, and of a form of kind k
 abbrev pub wordRow : ℕ → ℕ
 wordRow k = 2 + k
 
 abbrev pub formRow : ℕ → ℕ
-formRow k = 6 + k
+formRow i = 6 + i
+
+abbrev pub rowOf : ℕ → ℕ
+rowOf k = formRow (formOfKind k)
 
 -- how many forms there are, and how many bytes
-abbrev pub kinds : ℕ
-kinds = 13
+abbrev pub formCount : ℕ
+formCount = 15
 
 abbrev pub long : ℕ
-long = rowAt (formRow kinds)
+long = rowAt (formRow formCount)
 
 -- a name ends with its bracket, a word with a space
 unfoldable pub endsName : ℕ → Bool
@@ -97,7 +103,7 @@ nameEnd r = behindName (rowAt r) (drop (rowAt r) names)
 -- the code at place j of what stands in the brackets of kind k
 unfoldable pub inside : ℕ → ℕ → ℕ
 unfolding codeAt nameEnd
-inside k j = codeAt (nameEnd (formRow k) + j)
+inside k j = codeAt (nameEnd (rowOf k) + j)
 
 -- a text begins with the name of these codes
 unfoldable pub starts : List ℕ → List ℕ → Bool
@@ -111,15 +117,20 @@ unfoldable pub named : ℕ → List ℕ → Bool
 unfolding names starts
 named r w = starts (drop (rowAt r) names) w
 
--- the kind, k or higher, whose name a text begins with, n forms being left; if none, the number of kinds
-unfoldable pub kindFrom : ℕ → ℕ → List ℕ → ℕ
+-- the form, number i or higher, whose name a text begins with, n being left; if none, the number of forms
+unfoldable pub formFrom : ℕ → ℕ → List ℕ → ℕ
 unfolding named
-kindFrom zero k w = k
-kindFrom (suc n) k w = cond (named (formRow k) w) k (kindFrom n (suc k) w)
+formFrom zero i w = i
+formFrom (suc n) i w = cond (named (formRow i) w) i (formFrom n (suc i) w)
 
+unfoldable pub formIn : List ℕ → ℕ
+unfolding formFrom
+formIn w = formFrom formCount 0 w
+
+-- its kind
 unfoldable pub kindOf : List ℕ → ℕ
-unfolding kindFrom
-kindOf w = kindFrom kinds 0 w
+unfolding formIn
+kindOf w = kindOfForm (formIn w)
 
 -- 2 if it begins with `and`, 3 if with `or`
 unfoldable pub pairOf : List ℕ → ℕ
@@ -185,4 +196,4 @@ placeFrom (suc n) r p b =
 -- where b is read in a name: at place p, or in another row that begins as its row does; 0 if nowhere
 unfoldable pub placeOf : ℕ → ℕ → ℕ
 unfolding codeAt placeFrom
-placeOf p b = cond (eqb b (codeAt p)) p (placeFrom kinds (formRow 0) p b)
+placeOf p b = cond (eqb b (codeAt p)) p (placeFrom formCount (formRow 0) p b)

@@ -36,7 +36,7 @@ answer-line-requires c κs =
     let loop = c .before .before .before .before .before .before .before .before .loop in
     let room-for-line = c .before .before .before .before .before .room-for-line in
     let long = mid-len (room-for-line .result) (length (loop .output)) (loop .output) (omega arith) in
-    omega (arith, room-for-line .ensures, loop .inv, start .pre)
+    omega (arith, long, room-for-line .ensures, loop .inv, start .pre)
 
 add-filled : tie.Need-add-filled Inv-loop μ-loop
 add-filled c =
@@ -47,7 +47,7 @@ add-filled c =
     let room-for-line = c8 .before .before .before .before .room-for-line in
     let answer-line = c .before .before .before .before .before .before .answer-line in
     let long = mid-len (room-for-line .result) (length (loop .output)) (loop .output) (omega arith) in
-    omega (arith, answer-line .ensures .within, loop .inv, start .pre)
+    omega (arith, long, answer-line .ensures .within, loop .inv, start .pre)
 
 -- next += 1;
 add-next : tie.Need-add-next Inv-loop μ-loop
@@ -106,7 +106,7 @@ loop-again c =
       kept ∙ loop .inv .2,
       omega (arith, find2 .ensures .0),
       find2 .ensures .1,
-      omega (arith, answer-line .ensures .within, room-for-line .ensures, loop .inv .2),
+      omega (arith, long, answer-line .ensures .within, room-for-line .ensures, loop .inv .2),
       omega (arith, loop .inv),
     )
 

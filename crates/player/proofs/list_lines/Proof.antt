@@ -38,7 +38,7 @@ slice-reshare-prefix-list-last c =
     let loop = c .before .before .before .before .before .before .before .before .loop in
     let read-some = c .before .before .before .before .before .read-some in
     let kept = same-len-mid (loop .held) (length (loop .input) - loop .held) (loop .input) (read-some .last .1 .0) (read-some .kept .1 .0) in
-    omega (arith, loop .inv, start .pre)
+    omega (arith, kept, loop .inv, start .pre)
 
 slice-aggregate-list-last : tie.Need-slice-aggregate-list-last Inv-loop μ-loop
 slice-aggregate-list-last c =
@@ -47,7 +47,7 @@ slice-aggregate-list-last c =
     let read-some = c .before .before .before .before .before .before .read-some in
     let kept = same-len-mid (loop .held) (length (loop .input) - loop .held) (loop .input) (read-some .last .1 .0) (read-some .kept .1 .0) in
     let input = putMid (loop .held) (length (loop .input) - loop .held) (loop .input) (read-some .last .1 .0) in
-    sym (length-take-le (loop .held) input (omega (arith, loop .inv, start .pre)))
+    sym (length-take-le (loop .held) input (omega (arith, kept, loop .inv, start .pre)))
 
 list-last-requires : tie.Need-list-last-requires Inv-loop μ-loop
 list-last-requires c κs =
@@ -97,7 +97,7 @@ add-list-block c =
     let read-some = c .before .before .before .before .before .before .read-some in
     let kept = same-len-mid (loop .held) (length (loop .input) - loop .held) (loop .input) (read-some .last .1 .0) (read-some .kept .1 .0) in
     let long = mid-len (loop .held) (length (loop .input)) (loop .input) (omega (arith, loop .inv, start .pre)) in
-    omega (arith, loop .inv, start .pre, read-some .ensures, read-some .kept .1 .0)
+    omega (arith, kept, long, loop .inv, start .pre, read-some .ensures, read-some .kept .1 .0)
 
 list-block-requires : tie.Need-list-block-requires Inv-loop μ-loop
 list-block-requires c κs =
@@ -107,7 +107,7 @@ list-block-requires c κs =
     let read-some = c .before .before .before .before .before .before .before .read-some in
     let kept = same-len-mid (loop .held) (length (loop .input) - loop .held) (loop .input) (read-some .last .1 .0) (read-some .kept .1 .0) in
     let long = mid-len (loop .held) (length (loop .input)) (loop .input) (omega (arith, loop .inv, start .pre)) in
-    omega (arith, loop .inv, start .pre, read-some .ensures, read-some .kept .1 .0, loop-test .taken)
+    omega (arith, kept, long, loop .inv, start .pre, read-some .ensures, read-some .kept .1 .0, loop-test .taken)
 
 -- for _ in 0..TURNS {
 add-counter : tie.Need-add-counter Inv-loop μ-loop

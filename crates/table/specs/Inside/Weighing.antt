@@ -3,20 +3,20 @@ use Prim.Native.Nat.{ℕ, zero, suc, _+_, _*_, _≤_, _<_, min, max}
 use mathlib.Core.Bool.{Bool, true, cond}
 use mathlib.Core.Path.{_≡_}
 use mathlib.Core.List.{List}
-use lib.Dec.{leb}
 use lib.ListN.{length, getD, set}
-use Rattle.junior.specs.Program.{Program, number, argument, Parts, no-part, one-part, two-parts, parts, size}
+use Rattle.junior.specs.Program.{Program, number, capped, argument, Parts, no-part, one-part, two-parts, parts, size}
 use Rattle.junior.specs.Figures.{stops, figure, per, every}
 use Rattle.table.specs.declared.weights.Weight.{Weight}
 use Rattle.table.specs.Records.{nodes, kindAt, sizeAt}
-use Rattle.table.specs.Good.{last-kind, children, argumentLimit, goodNode}
-use Rattle.table.specs.Spells.{programOf}
+use Rattle.table.specs.Good.{known, children, argumentLimit, goodNode}
+use Rattle.table.specs.Spells.{capIn, programOf}
 use Rattle.table.specs.Verdict.{endlessLoop}
 use Rattle.table.specs.Inside.{Framed, ConfigurationsGood, NodesGood}
 
--- if the argument of p is a number, it is a
+-- if the argument of p is a number, it is a; if it has a cap, that is a's
 pub record Counts (a : ℕ) (p : Program) : Type 0 where
   pub same : (n : ℕ) → argument p ≡ number n → a ≡ n
+  pub cap-is : (v cap : ℕ) → argument p ≡ capped v cap → capIn a ≡ cap
 
 -- the program at node i
 abbrev pub treeAt : List ℕ → ℕ → Program
@@ -67,6 +67,17 @@ together x y s =
       generations = x .generations + y .generations;
       atoms = x .atoms + y .atoms;
       nodes = x .nodes + y .nodes + 1;
+      height = max (x .height) (y .height) + 1;
+      stops = s;
+    }
+
+-- what counts the larger of x and y, and one node more
+abbrev pub either : Weight → Weight → ℕ → Weight
+either x y s =
+    record {
+      generations = max (x .generations) (y .generations);
+      atoms = max (x .atoms) (y .atoms);
+      nodes = max (x .nodes) (y .nodes) + 1;
       height = max (x .height) (y .height) + 1;
       stops = s;
     }
@@ -127,7 +138,7 @@ pub record Within (t : List ℕ) (n i : ℕ) : Type 0 where
 -- its kind, what its argument must be below, and how many children it has
 pub record OfKind (t : List ℕ) (i k limit count : ℕ) : Type 0 where
   pub kind-is : kindAt t i ≡ k
-  pub known : leb k last-kind ≡ true
+  pub known-kind : known k ≡ true
   pub limit-is : argumentLimit t k ≡ limit
   pub count-is : children k ≡ count
 

@@ -86,7 +86,7 @@ answer-call-requires c κs =
     let loop = c8 .before .before .loop in
     let room-for-answer = c .before .before .before .before .before .before .before .room-for-answer in
     let long = mid-len (room-for-answer .result) (length (loop .output)) (loop .output) (omega (arith, room-for-answer .ensures)) in
-    omega (arith, room-for-answer .ensures, loop .inv, start .pre)
+    omega (arith, long, room-for-answer .ensures, loop .inv, start .pre)
 
 add-filled : tie.Need-add-filled Inv-loop μ-loop
 add-filled c =
@@ -98,7 +98,7 @@ add-filled c =
     let room-for-answer = c16 .before .before .room-for-answer in
     let answer-call = c8 .before .before .answer-call in
     let long = mid-len (room-for-answer .result) (length (loop .output)) (loop .output) (omega (arith, room-for-answer .ensures)) in
-    omega (arith, answer-call .ensures, loop .inv, start .pre)
+    omega (arith, long, answer-call .ensures, loop .inv, start .pre)
 
 -- from = end + 1;
 add-from : tie.Need-add-from Inv-loop μ-loop
@@ -150,7 +150,7 @@ loop-again c =
       kept ∙ loop .inv .4,
       omega (arith, find2 .ensures .0),
       find2 .ensures .1,
-      omega (arith, answer-call .ensures, room-for-answer .ensures, loop .inv .4),
+      omega (arith, long, answer-call .ensures, room-for-answer .ensures, loop .inv .4),
     )
 
 -- write_out(&output[..filled]);

@@ -56,7 +56,7 @@ slice-reshare-prefix-answer-last c =
     let loop = c .before .before .before .before .before .before .before .before .before .before .loop in
     let read-some = c .before .before .before .before .before .before .before .read-some in
     let kept = same-len-mid (loop .held) (length (loop .input) - loop .held) (loop .input) (read-some .last .1 .0) (read-some .kept .1 .0) in
-    omega (arith, loop .inv, start .pre)
+    omega (arith, kept, loop .inv, start .pre)
 
 slice-aggregate-answer-last : tie.Need-slice-aggregate-answer-last Inv-loop μ-loop
 slice-aggregate-answer-last c =
@@ -67,7 +67,7 @@ slice-aggregate-answer-last c =
     let read-some = c8 .read-some in
     let kept = same-len-mid (loop .held) (length (loop .input) - loop .held) (loop .input) (read-some .last .1 .0) (read-some .kept .1 .0) in
     let input = putMid (loop .held) (length (loop .input) - loop .held) (loop .input) (read-some .last .1 .0) in
-    sym (length-take-le (loop .held) input (omega (arith, loop .inv, start .pre)))
+    sym (length-take-le (loop .held) input (omega (arith, kept, loop .inv, start .pre)))
 
 answer-last-requires : tie.Need-answer-last-requires Inv-loop μ-loop
 answer-last-requires c κs =
@@ -141,7 +141,7 @@ add-answer-block c =
     let read-some = c8 .read-some in
     let kept = same-len-mid (loop .held) (length (loop .input) - loop .held) (loop .input) (read-some .last .1 .0) (read-some .kept .1 .0) in
     let long = mid-len (loop .held) (length (loop .input)) (loop .input) (omega (arith, loop .inv, start .pre)) in
-    omega (arith, loop .inv, start .pre, read-some .ensures, read-some .kept .1 .0)
+    omega (arith, kept, long, loop .inv, start .pre, read-some .ensures, read-some .kept .1 .0)
 
 answer-block-requires : tie.Need-answer-block-requires Inv-loop μ-loop
 answer-block-requires c κs =
@@ -152,7 +152,7 @@ answer-block-requires c κs =
     let read-some = c8 .before .read-some in
     let kept = same-len-mid (loop .held) (length (loop .input) - loop .held) (loop .input) (read-some .last .1 .0) (read-some .kept .1 .0) in
     let long = mid-len (loop .held) (length (loop .input)) (loop .input) (omega (arith, loop .inv, start .pre)) in
-    omega (arith, loop .inv, start .pre, read-some .ensures, read-some .kept .1 .0)
+    omega (arith, kept, long, loop .inv, start .pre, read-some .ensures, read-some .kept .1 .0)
 
 -- for _ in 0..TURNS {
 add-counter : tie.Need-add-counter Inv-loop μ-loop

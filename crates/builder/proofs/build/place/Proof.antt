@@ -5,9 +5,9 @@ use borrow.Author.Needs.{needs}
 use Rattle.builder.proofs.TableHolds.{ready-in, places-in, places-none}
 use Rattle.builder.proofs.PlacedByFunctions.{place-blank, place-opens, place-separates, place-names, place-none}
 
--- 32 => place_event(text, 0, table, front),
-place-event-requires : tie.Need-place-event-requires
-place-event-requires c κs =
+-- 32 => place_blank(level, text, table, front),
+place-blank-requires : tie.Need-place-blank-requires
+place-blank-requires c κs =
     let start = c .before .before .before .before in
     let match = c .before .match in
     ready-in (λ n m s h. place-blank (start .args .b) (start .args .level) (start .args .text .now) s (match .keys1)) (start .pre .1)
@@ -19,7 +19,7 @@ place-opening-requires c κs =
     let match = c .before .match in
     (start .pre .0, ready-in (λ n m s h. place-opens (start .args .b) (start .args .level) (start .args .text .now) s (match .keys2)) (start .pre .1))
 
--- 44 => place_comma(level, table, front),
+-- 44 => place_comma(level, text, table, front),
 place-comma-requires : tie.Need-place-comma-requires
 place-comma-requires c κs =
     let start = c .before .before .before .before in
@@ -38,8 +38,8 @@ returns : tie.Need-returns
 returns c =
     let start = c .before .before .before .before .before .before .before in
     let match = c .before .before .before .before .match in
-    let place-event = c .before .before .place-event in
-    places-in (λ n m s h. place-blank (start .args .b) (start .args .level) (start .args .text .now) s (match .keys1)) (place-event .ensures)
+    let blank-placed = c .before .before .place-blank in
+    places-in (λ n m s h. place-blank (start .args .b) (start .args .level) (start .args .text .now) s (match .keys1)) (blank-placed .ensures)
 
 returns-2 : tie.Need-returns-2
 returns-2 c =
@@ -72,7 +72,7 @@ returns-5 c =
 pub place-spec : {M : Type 1} → statement M
 place-spec =
     tie.close (tie.spec
-    place-event-requires
+    place-blank-requires
     place-opening-requires
     place-comma-requires
     place-name-requires

@@ -4,38 +4,36 @@ use Rattle.builder.proofs.build.place_name.Tie as tie
 use borrow.Author.Needs.{needs}
 use Prim.Native.Nat.{_+_, _-_, _*_}
 use native.Mathlib.Omega.{arith}
-use Rattle.form.proofs.Rows.{name-after}
+use Rattle.form.proofs.Rows.{name-after, form-of-kind}
 use Rattle.builder.proofs.TableHolds.{ready-in, places-in}
 use Rattle.builder.proofs.PlacedByFunctions.{name-here, behind-is}
 
 -- let end = name_end(names, row);
 name-end-requires : tie.Need-name-end-requires
 name-end-requires c κs =
-    let start = c .before .before .before .before in
-    let wide = c .wide in
-    (start .pre .0, omega (arith, wide .ensures .0))
+    let start = c .before .before .before in
+    let form-named = c .form-named in
+    (start .pre .0, omega (arith, form-named .ensures .1))
 
 -- place_form(names, kind, end, text, 2 + (end - ROW * row), table, front)
 sub-place-form : tie.Need-sub-place-form
 sub-place-form c =
-    let wide = c .before .wide in
-    let name-end = c .name-end in
-    let l = name-after (6 + wide .result) in
+    let form-named = c .before .before .form-named in
+    let name-end = c .before .name-end in
+    let l = name-after (6 + form-named .result) in
     omega (arith, name-end .ensures .0)
 
 place-form-requires : tie.Need-place-form-requires
 place-form-requires c κs =
     let start = c .before .before .before .before .before .before in
-    let kind-of = c .before .before .before .kind-of in
-    let wide = c .before .before .wide in
-    let name-end = c .before .name-end in
+    let form-named = c .before .before .before .form-named in
+    let name-end = c .before .before .name-end in
+    let kind-of-form = c .before .kind-of-form in
     let e = name-end .ensures in (
       start .pre .0,
       (
-        (rw (wide .ensures .0) at (e .0), e .1),
-        ready-in
-            (λ n m s h. name-here (start .args .text .now) (kind-of .result) (2 + (name-end .result - 20 * (6 + wide .result))) s (kind-of .ensures .0)
-            (behind-is (kind-of .result) (name-end .result) (wide .result) (name-end .ensures .0) (wide .ensures .0))) (start .pre .1),
+        (rw (kind-of-form .ensures .0, form-of-kind (form-named .result)) (e .0), e .1),
+        (omega (arith, e .1), ready-in (λ n m s h. name-here (start .args .text .now) (form-named .result) (kind-of-form .result) (2 + (name-end .result - 20 * (6 + form-named .result))) s (form-named .ensures .0) (kind-of-form .ensures .0) (behind-is (form-named .result) (name-end .result) (name-end .ensures .0))) (start .pre .1)),
       ),
     )
 
@@ -43,20 +41,21 @@ place-form-requires c κs =
 returns : tie.Need-returns
 returns c =
     let start = c .before .before .before .before .before .before .before .before .before in
-    let kind-of = c .before .before .before .before .before .before .kind-of in
-    let wide = c .before .before .before .before .before .wide in
-    let name-end = c .before .before .before .before .name-end in
+    let form-named = c .before .before .before .before .before .before .form-named in
+    let name-end = c .before .before .before .before .before .name-end in
+    let kind-of-form = c .before .before .before .before .kind-of-form in
     let place-form = c .before .before .place-form in
-    places-in (λ n m s h. name-here (start .args .text .now) (kind-of .result) (2 + (name-end .result - 20 * (6 + wide .result))) s
-    (kind-of .ensures .0) (behind-is (kind-of .result) (name-end .result) (wide .result) (name-end .ensures .0) (wide .ensures .0))) (place-form .ensures)
+    places-in (λ n m s h. name-here (start .args .text .now) (form-named .result) (kind-of-form .result) (2 + (name-end .result - 20 * (6 + form-named .result))) s
+    (form-named .ensures .0) (kind-of-form .ensures .0) (behind-is (form-named .result) (name-end .result) (name-end .ensures .0))) (place-form .ensures)
 
 pub place-name-spec : {M : Type 1} → statement M
 place-name-spec =
     tie.close (tie.spec
-    (λ c κs. search needs)  -- kind-of-requires: let kind = kind_of(names, text);
-    (λ c κs. search needs)  -- wide-requires: let row = FIRST_FORM + wide(kind);
-    (λ c. search needs)  -- add-row
+    (λ c κs. search needs)  -- form-named-requires: let i = form_named(names, text, 2);
+    (λ c. search needs)  -- add-row: let row = FIRST_FORM + i;
     name-end-requires
+    (λ c κs. search needs)  -- kind-of-form-requires: let kind = kind_of_form(i) as u8;
+    (λ c. search needs)  -- cast-kind
     (λ c. search needs)  -- mul-place-form: place_form(names, kind, end, text, 2 + (end - ROW * row), table, front)
     sub-place-form
     (λ c. search needs)  -- add-place-form

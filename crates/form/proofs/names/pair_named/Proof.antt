@@ -1,4 +1,4 @@
--- `pair_named` meets its contract: the words of the kinds 2 and 3.
+-- `pair_named` meets its contract: the words of the formCount 2 and 3.
 use Rattle.form.proofs.names.pair_named.Statement.{statement}
 use Rattle.form.proofs.names.pair_named.Tie as tie
 use borrow.Author.Needs.{needs}

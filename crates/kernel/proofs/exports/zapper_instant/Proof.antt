@@ -27,7 +27,7 @@ returns c =
 pub zapper-instant-spec : {M : Type 1} → statement M
 zapper-instant-spec =
     tie.close (tie.spec
-    (λ c κs. search needs)  -- instant-requires: let a = instant(table, state, EventSet { words }, atoms);
+    (λ c κs. search needs)  -- instant-requires: let a = instant(table, state, EventSet { words }, values, atoms);
     (λ c κs. search needs)  -- refusal-of-requires: let refusal = refusal_of(outcome);
     (λ c. search needs)  -- cast-leading: a.finished as u64,
     (λ c κs. search needs)  -- places-of-requires: *answer = places_of(leading, present);

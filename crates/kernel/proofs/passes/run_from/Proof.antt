@@ -4,24 +4,34 @@ use Rattle.kernel.proofs.passes.run_from.Tie as tie
 use borrow.Author.Needs.{needs}
 use Prim.Native.Nat.{_+_, _-_}
 use mathlib.Core.Path.{_≡_, refl}
+use mathlib.Core.List.{List}
 use native.Mathlib.Omega.{arith}
 use lib.ListN.{length}
+use mir.Val.{Val}
+use denote.Laws.{Is}
 use Rattle.events.specs.Members.{marks}
-use Rattle.events.proofs.Sets.{whole}
 use Rattle.junior.specs.Figures.{G}
 use Rattle.junior.proofs.Little.{STOP≢SUSP, TERM≢SUSP}
 use Rattle.table.specs.Spells.{treeOf}
 use Rattle.table.specs.Reading.{event-words}
+use Rattle.steps.specs.Running.{valuesIn}
 use Rattle.steps.specs.Numbers.{wordsOf, tallyOf, Numbers}
 use Rattle.steps.proofs.FlagNumbers.{is-stop, is-term}
+use Rattle.kernel.specs.declared.passes.HandedIn.{HandedIn}
 use Rattle.kernel.specs.Passes.{Startable}
-use Rattle.kernel.proofs.Passing.{Underway, few-passes, handed-words, begins-by, can-pass, ran-by, row-holds, can-look, goes-by, Names}
+use Rattle.kernel.proofs.passes.HandedIn as I
+use Rattle.kernel.proofs.Passing.{Underway, few-passes, handed-words, handed-values, begins-by, can-pass, ran-by, row-holds, can-look, goes-by, Names}
 use Rattle.kernel.proofs.Passing.{next-row-holds, marked-ended, some-bytes, run-of}
+
+-- the set of events that is handed in has words for all places
+handed-long : (h : HandedIn) (v : List Val) → Is I.the-row h v → length (h .events .words) ≡ event-words
+handed-long h v i = search needs
 
 abbrev Inv-loop : tie.InvT-loop
 Inv-loop t1 state₀ atoms₀ table nodes numbers₀ passes₀ waits₀ state atoms numbers passes waits =
     (b : Startable t1 (state₀ .now) (atoms₀ .now))
-    × (u : Underway t1 (b .term) (marks (wordsOf numbers₀)) (atoms₀ .now) (state .now) (wordsOf numbers) (atoms .now) (tallyOf numbers) passes)
+    × (u : Underway t1 (b .term) (marks (wordsOf numbers₀)) (valuesIn (tallyOf numbers₀)) (atoms₀ .now)
+    (state .now) (wordsOf numbers) (atoms .now) (tallyOf numbers) passes)
     × Numbers t1 numbers
     × (state .name ≡ state₀ .name)
     × (atoms .name ≡ atoms₀ .name)
@@ -41,7 +51,7 @@ word-at-requires c κs =
     let start = c .before in
     omega (arith, start .pre .placed .loaded .framed .long)
 
--- let mut row = first_numbers(events, 6 * nodes);
+-- let mut row = first_numbers(handed.events, handed.low, handed.high, 6 * nodes);
 mul-first-numbers : tie.Need-mul-first-numbers Inv-loop μ-loop
 mul-first-numbers c =
     let word-at = c .word-at in
@@ -54,8 +64,10 @@ loop-holds c =
     let word-at = c .before .before .word-at in
     let first-numbers = c .before .first-numbers in
     let no-wait = c .no-wait in
-    let long : length (start .args .events .words) ≡ event-words = search needs in
-    let (underway, holds, unnamed) = begins-by (start .args .events .words) (start .pre) long (rw (word-at .ensures .0) at (first-numbers .ensures)) in
+    let long = handed-long (start .args .handed) _ (start .good .1 .1 .0) in
+    let H = start .args .handed in
+    let (underway, holds, unnamed) =
+    begins-by (H .events .words) (H .low) (H .high) (start .pre) long (rw (word-at .ensures .0) at (first-numbers .ensures)) in
     (start .pre, underway, holds, refl, refl, rw unnamed (record { node-is = no-wait .ensures .0; event-is = no-wait .ensures .1 }))
 
 -- passes += 1;
@@ -95,11 +107,13 @@ returns c =
     let report = c .report in
     let u = loop .inv .1 in
     let ran = ran-by u (loop .inv .2) (run-child .ensures .0) (is-stop (if1 .taken)) in
-    let long = whole (start .args .events) _ (start .good .1 .1 .0) .long in
-    let handed = handed-words (start .args .t1 .now) (start .args .events .words) long _ (first-numbers .ensures) in
+    let long = handed-long (start .args .handed) _ (start .good .1 .1 .0) in
+    let H = start .args .handed in
+    let handed = handed-words (start .args .t1 .now) (H .events .words) long (H .low) (H .high) _ (first-numbers .ensures) in
+    let asked = handed-values (start .args .t1 .now) (H .events .words) long (H .low) (H .high) _ (first-numbers .ensures) in
     record {
       outcome-is = report .ensures .outcome-is;
-      run = rw handed at (run-of (loop .inv .0) u ran STOP≢SUSP (ran .bytes) (events-of .ensures) (loop .inv .5) (report .ensures));
+      run = rw (handed, asked) at (run-of (loop .inv .0) u ran STOP≢SUSP (ran .bytes) (events-of .ensures) (loop .inv .5) (report .ensures));
       same-state = search needs;
       same-row = search needs;
     }
@@ -137,11 +151,13 @@ returns-2 c =
     let report2 = c .report2 in
     let u = loop .inv .1 in
     let ran = ran-by u (loop .inv .2) (run-child .ensures .0) (is-term (if2 .taken)) in
-    let long = whole (start .args .events) _ (start .good .1 .1 .0) .long in
-    let handed = handed-words (start .args .t1 .now) (start .args .events .words) long _ (first-numbers .ensures) in
+    let long = handed-long (start .args .handed) _ (start .good .1 .1 .0) in
+    let H = start .args .handed in
+    let handed = handed-words (start .args .t1 .now) (H .events .words) long (H .low) (H .high) _ (first-numbers .ensures) in
+    let asked = handed-values (start .args .t1 .now) (H .events .words) long (H .low) (H .high) _ (first-numbers .ensures) in
     record {
       outcome-is = report2 .ensures .outcome-is;
-      run = rw handed at (run-of (loop .inv .0) u ran TERM≢SUSP (marked-ended u ran) (events-of2 .ensures) (loop .inv .5) (report2 .ensures));
+      run = rw (handed, asked) at (run-of (loop .inv .0) u ran TERM≢SUSP (marked-ended u ran) (events-of2 .ensures) (loop .inv .5) (report2 .ensures));
       same-state = search needs;
       same-row = search needs;
     }

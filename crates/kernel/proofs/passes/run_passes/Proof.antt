@@ -5,8 +5,8 @@
 --     _9 = &_5; _10 = &_6
 --     _0 = run_from(_1, _9, _3, _10)
 --     return
--- Of `run_from` nothing is known but that it meets its contract; no field of the event set or of the answer is named.
--- Letters: t, s, e, w are the table, the state, the events, the row of atoms (also the locals s and w); κ a lifetime and its token.
+-- Of `run_from` nothing is known but that it meets its contract; no field of what is handed in or of the answer is walked.
+-- Letters: t, s, e, w are the table, the state, what is handed in, the row of atoms (also the locals s and w); κ a lifetime and its token.
 -- In brackets stands what is in hand at a point of the walk, counted from 0; `…` is what nothing asks for any more. A local _i is two
 -- items, its memory and the right to free it; a local that is lent leaves the second in its place.
 use mathlib.Core.Path.{_≡_, refl}
@@ -46,17 +46,17 @@ use denote.Triple.Table.{entered, cited}
 use denote.Triple.Walked.{says, needs, Stays, stay-dropped, stay-slice, walkOf, AllGo, goes-dropped, goes-slice, Walks, ends-at, walked}
 use denote.Triple.Walked.{walk-meets}
 use denote.Exit.{yes}
-use Rattle.events.specs.declared.EventSet.{EventSet}
 use Rattle.events.specs.Members.{members}
-use Rattle.events.proofs.EventSet as E
-use Rattle.events.proofs.EventSet.Laws as E′
 use Rattle.lending.proofs.Thin.{Loan, lifetime, half₁, half₂, Thin, thin, OnLoan, Back, lends-thin, ends-thin}
 use Rattle.kernel.specs.declared.Outcome.the-variants.{Ran}
 use Rattle.kernel.specs.declared.Answer.{Answer}
+use Rattle.kernel.specs.declared.passes.HandedIn.{HandedIn}
 use Rattle.kernel.specs.Answer.{Run}
-use Rattle.kernel.specs.Passes.{Startable, RanBehind}
+use Rattle.kernel.specs.Passes.{wordValues, Startable, RanBehind}
 use Rattle.kernel.proofs.Answer as An
 use Rattle.kernel.proofs.Answer.Laws as An′
+use Rattle.kernel.proofs.passes.HandedIn as I
+use Rattle.kernel.proofs.passes.HandedIn.Laws as I′
 use Rattle.kernel.proofs.passes.run_from as run-from
 use Rattle.kernel.proofs.passes.run_from.Symbol as from-symbol
 use Rattle.kernel.proofs.passes.run_from.Met as from-met
@@ -72,7 +72,7 @@ Slice = RefT (List ℕ)
 abbrev stayed : Stays (run-passes.ended .signature .params) (run-passes.ended .kept)
 stayed = (
   stay-dropped (shrSliceOf (0 ∷ []) tt (plain (λ _. u8))) yes,
-  (stay-slice (1 ∷ []) tt (plain (λ _. u8)), (stay-dropped (plain (λ _. E.the-row)) yes, (stay-slice (2 ∷ []) tt (plain (λ _. u16)), tt))),
+  (stay-slice (1 ∷ []) tt (plain (λ _. u8)), (stay-dropped (plain (λ _. I.the-row)) yes, (stay-slice (2 ∷ []) tt (plain (λ _. u16)), tt))),
 )
 
 -- the contract of `run_from`
@@ -82,7 +82,7 @@ From 𝓤 H A memory run = tripleOf 𝓤 H A run-from.signature (run-from.spec �
 -- each parameter with its lifetime κ and the share q of that one's token: the table t, the state at (sb, so) under sγ, the events, the row of
 -- atoms at (wb, wo) under wγ
 module _ {M : Type 1} (𝓤 : URA M) (H : Heap 𝓤) (A : Atoms 𝓤) (W : Given 𝓤 H A) (memory : Memory → SProp 𝓤) (run : Routine → Fun 𝓤)
-    (κt κs κw : Lft) (qt qs qw : Share) (t : Slice) (sb so : ℕ) (sγ : GName) (state : List ℕ) (events : EventSet)
+    (κt κs κw : Lft) (qt qs qw : Share) (t : Slice) (sb so : ℕ) (sγ : GName) (state : List ℕ) (handed : HandedIn)
     (wb wo : ℕ) (wγ : GName) (atoms : List ℕ) where
   abbrev s-with : List ℕ → Slice
   s-with l = record { ptr = (sb, so); name = sγ; now = l }
@@ -90,8 +90,8 @@ module _ {M : Type 1} (𝓤 : URA M) (H : Heap 𝓤) (A : Atoms 𝓤) (W : Given
   abbrev w-with : List ℕ → Slice
   w-with l = record { ptr = (wb, wo); name = wγ; now = l }
 
-  abbrev args : Slice × (Slice × (EventSet × (Slice × Unit {0})))
-  args = (t, (s-with state, (events, (w-with atoms, tt))))
+  abbrev args : Slice × (Slice × (HandedIn × (Slice × Unit {0})))
+  args = (t, (s-with state, (handed, (w-with atoms, tt))))
 
   -- the parameters in the machine
   abbrev tv : Val
@@ -101,7 +101,7 @@ module _ {M : Type 1} (𝓤 : URA M) (H : Heap 𝓤) (A : Atoms 𝓤) (W : Given
   sv = sliceVal (sb, so) (length state)
 
   abbrev ev : Val
-  ev = E′.lowered events
+  ev = I′.lowered handed
 
   abbrev wv : Val
   wv = sliceVal (wb, wo) (length atoms)
@@ -117,7 +117,7 @@ module _ {M : Type 1} (𝓤 : URA M) (H : Heap 𝓤) (A : Atoms 𝓤) (W : Given
 
   -- what `run_passes` promises of what it leaves
   abbrev Promised : Answer → List ℕ → List ℕ → Type 0
-  Promised r state′ atoms′ = (r .outcome ≡ Ran) × Run (t .now) state (members events) atoms state′ atoms′ r
+  Promised r state′ atoms′ = (r .outcome ≡ Ran) × Run (t .now) state (members (handed .events)) (wordValues (handed .low) (handed .high)) atoms state′ atoms′ r
 
   -- what is had at the end
   abbrev Left : Answer → Val → List ℕ → List ℕ → List (Item 𝓤)
@@ -146,8 +146,8 @@ module _ {M : Type 1} (𝓤 : URA M) (H : Heap 𝓤) (A : Atoms 𝓤) (W : Given
     abbrev lives : Lft × (Lft × (Lft × (Lft × (Lft × Unit {0}))))
     lives = (κt, (lifetime n, (lifetime n, (lifetime k, (lifetime k, tt)))))
 
-    abbrev passed : Slice × (RefT Slice × (EventSet × (RefT Slice × Unit {0})))
-    passed = (t, (s-thin, (events, (w-thin, tt))))
+    abbrev passed : Slice × (RefT Slice × (HandedIn × (RefT Slice × Unit {0})))
+    passed = (t, (s-thin, (handed, (w-thin, tt))))
 
     abbrev passed-vals : List Val × (List Val × (List Val × (List Val × Unit {0})))
     passed-vals = (tv ∷ [], (vptr l 0 ∷ [], (ev ∷ [], (vptr m 0 ∷ [], tt))))
@@ -162,7 +162,7 @@ module _ {M : Type 1} (𝓤 : URA M) (H : Heap 𝓤) (A : Atoms 𝓤) (W : Given
 
     abbrev Given-up : Fml
     Given-up =
-        owns (ShrSlice (named 0) κt u8 ∷ Thin u8 (named 1) (named 2) n ∷ E.the-row ∷ Thin u16 (named 3) (named 4) k ∷ []) passed passed-vals
+        owns (ShrSlice (named 0) κt u8 ∷ Thin u8 (named 1) (named 2) n ∷ I.the-row ∷ Thin u16 (named 3) (named 4) k ∷ []) passed passed-vals
 
     asks : Startable (t .now) state atoms → ent 𝓤 (⋆ 𝓤 H A (tokens ∷ ‵ Given-up ∷ [])) (From 𝓤 H A memory run .pre at-call)
     asks start = qed W (tokens ∷ ‵ Given-up ∷ []) ∵ says ! start $ frame ! $ done !
@@ -175,7 +175,7 @@ module _ {M : Type 1} (𝓤 : URA M) (H : Heap 𝓤) (A : Atoms 𝓤) (W : Given
 
     -- what is heard of it: x and y are what it left in s and in w
     abbrev Heard : Slice → Slice → Answer → Type 0
-    Heard x y r = RanBehind (t .now) (s-thin .now) (members events) (w-thin .now) x y r
+    Heard x y r = RanBehind (t .now) (s-thin .now) (members (handed .events)) (wordValues (handed .low) (handed .high)) (w-thin .now) x y r
 
   -- the two loans, of the locals at block l
   abbrev S-lent : ℕ → Loan → Item 𝓤
@@ -191,7 +191,7 @@ module _ {M : Type 1} (𝓤 : URA M) (H : Heap 𝓤) (A : Atoms 𝓤) (W : Given
   W-back l = Back u16 κw qw wγ wb wo l 𝓤 H A W (named 2) (named 3) (named 4) atoms
 
   module _ (t-room : Room u8 (length (t .now))) (s-room : Room u8 (length state)) (w-room : Room u16 (length atoms))
-      (ev-is : Is E.the-row events (ev ∷ [])) (C : Calls 𝓤 H) (Λ : Loops 𝓤 H) (fm : FmC 𝓤 H (W .laws) C)
+      (ev-is : Is I.the-row handed (ev ∷ [])) (C : Calls 𝓤 H) (Λ : Loops 𝓤 H) (fm : FmC 𝓤 H (W .laws) C)
       (known : Triple 𝓤 (C from-symbol.name) (From 𝓤 H A memory run)) where
     -- the machine's values are of their types
     abbrev t-fits : Unit {0} × WT tv
@@ -208,7 +208,7 @@ module _ {M : Type 1} (𝓤 : URA M) (H : Heap 𝓤) (A : Atoms 𝓤) (W : Given
         (WpFn 𝓤 H C Λ code.function (tv ∷ sv ∷ ev ∷ wv ∷ []) Post)
     walk start =
         qed W ((‵ (flft κt qt) ⊛ ‵ (flft κs qs) ⊛ ‵ (flft κw qw) ⊛ ‵ ftrue)
-        ∷ ‵ (owns (ShrSlice (named 0) κt u8 ∷ MutSlice (named 1) κs u8 ∷ E.the-row ∷ MutSlice (named 2) κw u16 ∷ []) args vals) ∷ []) ∵
+        ∷ ‵ (owns (ShrSlice (named 0) κt u8 ∷ MutSlice (named 1) κs u8 ∷ I.the-row ∷ MutSlice (named 2) κw u16 ∷ []) args vals) ∷ []) ∵
         enter ! C Λ code.function (tv ∷ sv ∷ ev ∷ wv ∷ []) _ $
         -- room for the locals _0 to _10; each gives two items, and the last stands first: _i at 20 - 2i
         alloc1 ! (λ l₀. alloc1 ! (λ l₁. alloc1 ! (λ l₂. alloc1 ! (λ l₃. alloc1 ! (λ l₄. alloc1 ! (λ l₅. alloc1 ! (λ l₆.
@@ -216,7 +216,7 @@ module _ {M : Type 1} (𝓤 : URA M) (H : Heap 𝓤) (A : Atoms 𝓤) (W : Given
         -- the parameters, _1 to _4
         pass1 ! (init ! 18 refl t-fits) $
         pass1 ! (init ! 16 refl s-fits) $
-        pass1 ! (init ! 14 refl (LL.lawful E.the-type E′.the-laws 𝓤 H A W .typed events _ ev-is .0)) $
+        pass1 ! (init ! 14 refl (LL.lawful I.the-type I′.the-laws 𝓤 H A W .typed handed _ ev-is .0)) $
         pass1 ! (init ! 12 refl w-fits) $ pass0 ! $
         -- _7 = _2
         assigns ! (of-opd ! (load ! (from ! (stop !)) (look ! 16 refl))) (from ! (stop !)) (init ! 6 refl s-fits) $
@@ -288,12 +288,12 @@ module _ {M : Type 1} (𝓤 : URA M) (H : Heap 𝓤) (A : Atoms 𝓤) (W : Given
       → Walks 𝓤 H A run-passes.ended stayed (WpFn 𝓤 H C Λ code.function) (run-passes.clauses 𝓤 H A memory run)
   walks C Λ fm known =
       walked 𝓤 H A run-passes.ended stayed (run-passes.clauses 𝓤 H A memory run) (WpFn 𝓤 H C Λ code.function)
-      (λ κs. (slice-vals, (slice-vals, ((λ d. E′.lowered d ∷ []), (slice-vals, tt)))))
+      (λ κs. (slice-vals, (slice-vals, ((λ d. I′.lowered d ∷ []), (slice-vals, tt)))))
       (λ κs. (
         shr-slice-tells (named 0) (κs .0) u8,
         (
           mut-slice-tells (named 1) (κs .1 .0) u8,
-          (E′.lowers .val-is, (mut-slice-tells (named 2) (κs .1 .1 .0) u16, tt)),
+          (I′.lowers .val-is, (mut-slice-tells (named 2) (κs .1 .1 .0) u16, tt)),
         ),
       ))
       (λ κs qs bounds a g are. needs 𝓤 (Startable (a .0 .now) (a .1 .0 .now) (a .1 .1 .1 .0 .now)) _
@@ -308,7 +308,7 @@ module _ {M : Type 1} (𝓤 : URA M) (H : Heap 𝓤) (A : Atoms 𝓤) (W : Given
     goes-dropped 𝓤 H A W 3 (shrSliceOf (0 ∷ []) tt (plain (λ _. u8))) yes (λ κs x f. refl),
     (
       goes-slice 𝓤 H A W 3 1 tt (plain (λ _. u8)),
-      (goes-dropped 𝓤 H A W 3 (plain (λ _. E.the-row)) yes (λ κs x f. refl), (goes-slice 𝓤 H A W 3 2 tt (plain (λ _. u16)), tt)),
+      (goes-dropped 𝓤 H A W 3 (plain (λ _. I.the-row)) yes (λ κs x f. refl), (goes-slice 𝓤 H A W 3 2 tt (plain (λ _. u16)), tt)),
     ),
   )
 

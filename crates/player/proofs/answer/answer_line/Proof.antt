@@ -8,7 +8,7 @@ use lib.Seq.{length-take-le}
 use Rattle.events.specs.Members.{members}
 use Rattle.kernel.proofs.Outcomes.{not-ran}
 use Rattle.player.specs.Answering.{Lists}
-use Rattle.player.proofs.Answering.{read-bad, read-good, atoms-within, answers, answers-under}
+use Rattle.player.proofs.Answering.{read-bad, read-good, zeros-handed, atoms-within, answers, answers-under}
 use Rattle.player.proofs.Named.{one-of-its-nodes}
 
 -- return listing::write_bad(room, number);
@@ -30,21 +30,21 @@ slice-aggregate-write-ran : tie.Need-slice-aggregate-write-ran
 slice-aggregate-write-ran c =
     let instant = c .before .before .before .before .before .before .before .before .instant in
     let enum-told = c .before .before .enum-told in
-    sym (length-take-le (instant .result .atoms) (instant .last .1 .1 .1 .0) (atoms-within (instant .ensures .ran (enum-told .given .1))))
+    sym (length-take-le (instant .result .atoms) (instant .last .1 .1 .1 .1 .0) (atoms-within (instant .ensures .ran (enum-told .given .1))))
 
 -- put_under(table, answer.waits, room, listed, why)
 put-under-requires : tie.Need-put-under-requires
 put-under-requires c κs =
     let c8 = c .before .before .before .before .before .before .before .before in
     let c16 = c8 .before .before .before .before .before .before .before .before in
-    let start = c16 .before .before .before .before .before .before .before in
+    let start = c16 .before .before .before .before .before .before .before .before in
     let instant = c8 .before .before .before .before .instant in
     let enum-told = c .before .before .before .before .before .before .enum-told in
     let write-ran = c .before .before .before .write-ran in
     let within = atoms-within (instant .ensures .ran (enum-told .given .1)) in
-    let long = length-take-le (instant .result .atoms) (instant .last .1 .1 .1 .0) within in (
+    let long = length-take-le (instant .result .atoms) (instant .last .1 .1 .1 .1 .0) within in (
       one-of-its-nodes (instant .ensures) (enum-told .given .1),
-      omega (arith, start .pre, long, within, instant .kept .1 .1 .1 .0, write-ran .ensures .short, write-ran .kept .0),
+      omega (arith, start .pre, long, within, instant .kept .1 .1 .1 .1 .0, write-ran .ensures .short, write-ran .kept .0),
     )
 
 -- pub fn answer_line
@@ -52,34 +52,36 @@ returns-2 : tie.Need-returns-2
 returns-2 c =
     let c8 = c .before .before .before .before .before .before .before .before in
     let c16 = c8 .before .before .before .before .before .before .before .before in
-    let start = c16 .before .before .before .before .before .before .before .before .before .before in
-    let read-line = c16 .before .before .before .before .read-line in
-    let if1 = c16 .before .before .if1 in
+    let start = c16 .before .before .before .before .before .before .before .before .before .before .before in
+    let read-line = c16 .before .before .before .before .before .read-line in
+    let if1 = c16 .before .before .before .if1 in
     let instant = c8 .before .before .before .before .before .before .before .instant in
     let enum-told = c8 .before .enum-told in
     let write-ran = c .before .before .before .before .before .before .write-ran in
     let put-under = c .before .before .put-under in
     let within = atoms-within (instant .ensures .ran (enum-told .given .1)) in
-    let long = length-take-le (instant .result .atoms) (instant .last .1 .1 .1 .0) within in
+    let long = length-take-le (instant .result .atoms) (instant .last .1 .1 .1 .1 .0) within in
     let reading = read-good (if1 .left) (read-line .ensures) in
-    let ran = Lists.ran (members (read-line .result .events)) (instant .result) reading (instant .ensures) (enum-told .given .1) in
-    answers-under (omega (arith, start .pre, long, within, instant .kept .1 .1 .1 .0)) (write-ran .ensures) (put-under .ensures)
+    let answered = rw zeros-handed at (instant .ensures) in
+    let ran = Lists.ran (members (read-line .result .events)) (instant .result) reading answered (enum-told .given .1) in
+    answers-under (omega (arith, start .pre, long, within, instant .kept .1 .1 .1 .1 .0)) (write-ran .ensures) (put-under .ensures)
     (write-ran .kept .0) (ran (put-under .ensures .under))
 
 returns-3 : tie.Need-returns-3
 returns-3 c =
     let c8 = c .before .before .before .before .before .before .before .before in
     let c16 = c8 .before .before .before .before .before .before .before .before in
-    let start = c16 .before .before .before .before .before in
-    let read-line = c8 .before .before .before .before .before .before .before .read-line in
-    let if1 = c8 .before .before .before .before .before .if1 in
+    let start = c16 .before .before .before .before .before .before in
+    let read-line = c8 .before .before .before .before .before .before .before .before .read-line in
+    let if1 = c8 .before .before .before .before .before .before .if1 in
     let instant = c8 .before .before .instant in
     let match = c .before .before .before .before .before .match in
     let refusal-of = c .before .before .before .before .refusal-of in
     let write-refused = c .before .before .write-refused in
     let reading = read-good (if1 .left) (read-line .ensures) in
     let other = not-ran (instant .result .outcome) (match .keys2) in
-    answers (omega (arith, start .pre)) (Lists.refused (members (read-line .result .events)) (instant .result) reading (instant .ensures) other)
+    let answered = rw zeros-handed at (instant .ensures) in
+    answers (omega (arith, start .pre)) (Lists.refused (members (read-line .result .events)) (instant .result) reading answered other)
     (rw (refusal-of .ensures .0, refusal-of .ensures .1) at (write-refused .ensures))
 
 pub answer-line-spec : {M : Type 1} → statement M

@@ -7,16 +7,16 @@ use mathlib.Core.Path.{_≡_, refl, sym, _∙_}
 use native.Mathlib.Numerals.{add-one}
 use native.Mathlib.Omega.{arith}
 use borrow.Author.Tests.{lt-ltb, le-ltb}
-use Rattle.form.specs.Inside.Rows.{formRow, kinds}
+use Rattle.form.specs.Inside.Rows.{formRow, formCount}
 use Rattle.form.proofs.Rows.{name-after}
 use Rattle.scanner.specs.Levels.{levelFrom, levelOf}
 use Rattle.scanner.proofs.RowSearch.{level-here, level-next, level-none}
 
 abbrev Inv-loop : tie.InvT-loop
-Inv-loop names before last k₀ k = (levelFrom kinds 0 before last ≡ levelFrom (kinds - k) k before last) × (k ≤ kinds)
+Inv-loop names before last k₀ k = (levelFrom formCount 0 before last ≡ levelFrom (formCount - k) k before last) × (k ≤ formCount)
 
 abbrev μ-loop : tie.MeasureT-loop
-μ-loop names before last k₀ k = kinds - k
+μ-loop names before last k₀ k = formCount - k
 
 -- return Level::Test;
 returns : tie.Need-returns Inv-loop μ-loop
@@ -51,7 +51,7 @@ returns-2 c =
     let h = loop .inv .0 ∙ level-here (start .args .before) (start .args .last) (loop .k) (loop-test .taken) (sym e ∙ if2 .taken) in
     rw (le-ltb (start .args .last) 97 (if1 .left)) (rw (name-end .ensures .0) at (level-in .ensures) ∙ sym h)
 
--- while k < KINDS {
+-- while k < FORMS {
 loop-again : tie.Need-loop-again Inv-loop μ-loop
 loop-again c =
     let start = c .before .before .before .before .before .before in
@@ -81,13 +81,13 @@ level-behind-spec =
     Inv-loop
     μ-loop
     returns
-    (λ c. (refl, search needs))  -- loop-holds: while k < KINDS {
+    (λ c. (refl, search needs))  -- loop-holds: while k < FORMS {
     (λ c. search needs)  -- add-name-end: let end = name_end(names, FIRST_FORM + k);
     (λ c κs. search needs)  -- name-end-requires
     ends-so-requires
     (λ c κs. search needs)  -- level-in-requires: return level_in(names, end);
     returns-2
     (λ c. search needs)  -- add-k: k += 1;
-    (λ c. search needs)  -- loop-less: while k < KINDS {
+    (λ c. search needs)  -- loop-less: while k < FORMS {
     loop-again
     returns-3)

@@ -5,7 +5,7 @@ use borrow.Author.Needs.{needs}
 use mathlib.Core.Path.{refl, sym, _∙_}
 use native.Mathlib.Numerals.{add-one}
 use borrow.Author.Tests.{eq-eqb, ne-eqb, lt-ltb, le-ltb}
-use Rattle.form.specs.Inside.Rows.{formRow, kinds, firstName, placeFrom}
+use Rattle.form.specs.Inside.Rows.{formRow, formCount, firstName, placeFrom}
 use Rattle.scanner.specs.Turns.{otherTurn}
 
 -- return Turn::Dead;
@@ -25,7 +25,7 @@ returns-2 c =
     let if2 = c .if2 in
     rw (
       le-ltb (start .args .pc) firstName (if1 .left),
-      eq-eqb (placeFrom kinds (formRow 0) (start .args .pc) (start .args .b)) 0 (sym (other-place .ensures .0) ∙ if2 .taken),
+      eq-eqb (placeFrom formCount (formRow 0) (start .args .pc) (start .args .b)) 0 (sym (other-place .ensures .0) ∙ if2 .taken),
     ) refl
 
 -- return Turn::Opens(at + 1);
@@ -39,7 +39,7 @@ returns-3 c =
     let if3 = c .if3 in
     simp (
       le-ltb (start .args .pc) firstName (if1 .left),
-      ne-eqb (placeFrom kinds (formRow 0) (start .args .pc) (start .args .b)) 0 (λ e. if2 .left (other-place .ensures .0 ∙ e)),
+      ne-eqb (placeFrom formCount (formRow 0) (start .args .pc) (start .args .b)) 0 (λ e. if2 .left (other-place .ensures .0 ∙ e)),
       eq-eqb (start .args .b) 40 (if3 .taken),
       other-place .ensures .0,
       add-one,
@@ -56,7 +56,7 @@ returns-4 c =
     let if3 = c .if3 in
     simp (
       le-ltb (start .args .pc) firstName (if1 .left),
-      ne-eqb (placeFrom kinds (formRow 0) (start .args .pc) (start .args .b)) 0 (λ e. if2 .left (other-place .ensures .0 ∙ e)),
+      ne-eqb (placeFrom formCount (formRow 0) (start .args .pc) (start .args .b)) 0 (λ e. if2 .left (other-place .ensures .0 ∙ e)),
       ne-eqb (start .args .b) 40 (if3 .left),
       other-place .ensures .0,
       add-one,

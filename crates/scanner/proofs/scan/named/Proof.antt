@@ -18,8 +18,7 @@ returns c =
     let if2 = c .if2 in
     simp (
       eq-eqb _ _ (if1 .taken ∙ code .ensures),
-      eq-eqb (codeAt (start .args .pc - 1)) 139 (sym
-          (code-before .ensures) ∙ if2 .taken),
+      le-ltb (codeAt (start .args .pc - 1)) 139 (rw (code-before .ensures) at (if2 .taken)),
     )
 
 returns-2 : tie.Need-returns-2
@@ -33,8 +32,7 @@ returns-2 c =
     let if3 = c .if3 in
     simp (
       eq-eqb _ _ (if1 .taken ∙ code .ensures),
-      ne-eqb (codeAt (start .args .pc - 1)) 139 (λ e. if2 .left
-          (code-before .ensures ∙ e)),
+      lt-ltb (codeAt (start .args .pc - 1)) 139 (rw (code-before .ensures) at (if2 .left)),
       lt-ltb _ _ (if3 .taken),
     )
 
@@ -49,8 +47,7 @@ returns-3 c =
     let if3 = c .if3 in
     simp (
       eq-eqb _ _ (if1 .taken ∙ code .ensures),
-      ne-eqb (codeAt (start .args .pc - 1)) 139 (λ e. if2 .left
-          (code-before .ensures ∙ e)),
+      lt-ltb (codeAt (start .args .pc - 1)) 139 (rw (code-before .ensures) at (if2 .left)),
       le-ltb _ _ (if3 .left),
     )
 

@@ -1,10 +1,8 @@
--- The phases of a When.
+-- The phases of a When or an If.
 use mathlib.Core.Bool.{or-false}
 use mathlib.Core.Path.{sym, _∙_}
 use borrow.Author.Tests.{ne-eqb}
-use Rattle.table.specs.Good.{children}
 use Rattle.table.proofs.Subtrees.{pair}
-use Rattle.state.specs.Resting.{phaseRests}
 use Rattle.state.proofs.Near.{below-near, first-near, pair-below}
 use Rattle.state.proofs.resting.branch_rests.Statement.{statement}
 use Rattle.state.proofs.resting.branch_rests.Tie as tie
@@ -12,39 +10,34 @@ use borrow.Author.Needs.{needs}
 
 -- 1 => second_zero(table, state, i, near),
 second-zero-requires : tie.Need-second-zero-requires
-unfolding children
 second-zero-requires c κs =
     let start = c .before .before .before in
-    (start .pre .0, rw (start .pre .1))
+    (start .pre .0, start .pre .1)
 
 -- fn branch_rests
 returns : tie.Need-returns
-unfolding phaseRests children
 returns c =
     let start = c .before .before .before .before in
     let match = c .before .match in
     let size-at = c .size-at in
     let j = start .pre .0 in
-    rw (match .keys1, or-false, size-at .ensures .0) (sym (below-near j) ∙ pair-below _ (pair (j .behind .loaded) _ (j .inside) (rw (start .pre .1))))
+    rw (match .keys1, or-false, size-at .ensures .0) (sym (below-near j) ∙ pair-below _ (pair (j .behind .loaded) _ (j .inside) (start .pre .1)))
 
 returns-2 : tie.Need-returns-2
-unfolding phaseRests
 returns-2 c =
     let match = c .before .match in
     let second-zero = c .second-zero in
     rw (match .keys2, or-false) (second-zero .ensures)
 
 returns-3 : tie.Need-returns-3
-unfolding phaseRests children
 returns-3 c =
     let start = c .before .before .before .before in
     let match = c .before .match in
     let second-at = c .second-at in
     let j = start .pre .0 in
-    rw (match .keys3, second-at .ensures) (sym (first-near j (pair (j .behind .loaded) _ (j .inside) (rw (start .pre .1)) .first-in)))
+    rw (match .keys3, second-at .ensures) (sym (first-near j (pair (j .behind .loaded) _ (j .inside) (start .pre .1) .first-in)))
 
 returns-4 : tie.Need-returns-4
-unfolding phaseRests
 returns-4 c =
     let match = c .match in
     simp (ne-eqb _ _ (match .rest .0 .0 .1), ne-eqb _ _ (match .rest .0 .1), ne-eqb _ _ (match .rest .1))

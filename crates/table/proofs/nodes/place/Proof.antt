@@ -3,17 +3,18 @@ use mathlib.Core.Path.{refl, sym, _∙_}
 use native.Mathlib.Omega.{arith}
 use borrow.Author.Needs.{needs}
 use Rattle.table.specs.Good.{children, argumentLimit}
-use Rattle.table.proofs.Judged.{as-kind, bad-kind}
+use Rattle.table.proofs.Judged.{as-kind, none-known, bad-kind}
 use Rattle.table.proofs.KnownEarly.{no-test, test-here}
 use Rattle.table.proofs.Little.{none-of}
 use Rattle.table.proofs.nodes.place.Statement.{statement}
 use Rattle.table.proofs.nodes.place.Tie as tie
 
 -- _ => 0,
-returns-14 : tie.Need-returns-14
-returns-14 c =
+returns-16 : tie.Need-returns-16
+returns-16 c =
     let kind-at = c .before .kind-at in
-    let unknown = rw (kind-at .ensures .0) at (none-of 13 _ (c .match .rest)) in
+    let rest = c .match .rest in
+    let unknown = rw (kind-at .ensures .0) at (none-known _ (none-of 13 _ (rest .0 .0)) (rest .0 .1) (rest .1)) in
     (λ z. absurd (omega arith), λ z g. absurd (false≢true (bad-kind _ _ unknown ∙ g)))
 
 pub place-spec : {M : Type 1} → statement M
@@ -26,27 +27,27 @@ place-spec =
     (λ c κs.
     let start = c .before .before .before .before .before in
     let kind-at = c .before .before .kind-at in
-    (start .pre .1 .0, (as-kind (kind-at .ensures .0) 0 (c .before .match .keys1) refl refl refl, no-test (omega arith))))
+    (start .pre .1 .0, (as-kind (kind-at .ensures .0) 0 (c .before .match .keys1) refl refl refl, no-test (λ a b. omega arith))))
     -- leaf-requires-2: 1 => leaf(table, n, i, 1, 1, 0, waiting, top),
     (λ c κs.
     let start = c .before .before .before .before .before in
     let kind-at = c .before .before .kind-at in
-    (start .pre .1 .0, (as-kind (kind-at .ensures .0) 1 (c .before .match .keys2) refl refl refl, no-test (omega arith))))
+    (start .pre .1 .0, (as-kind (kind-at .ensures .0) 1 (c .before .match .keys2) refl refl refl, no-test (λ a b. omega arith))))
     -- leaf-requires-3: 2 => leaf(table, n, i, 2, 65536, 0, waiting, top),
     (λ c κs.
     let start = c .before .before .before .before .before in
     let kind-at = c .before .before .kind-at in
-    (start .pre .1 .0, (as-kind (kind-at .ensures .0) 2 (c .before .match .keys3) refl refl refl, no-test (omega arith))))
+    (start .pre .1 .0, (as-kind (kind-at .ensures .0) 2 (c .before .match .keys3) refl refl refl, no-test (λ a b. omega arith))))
     -- pair-requires: 3 => pair(table, n, i, 3, 1, 0, waiting, top),
     (λ c κs.
     let start = c .before .before .before .before .before in
     let kind-at = c .before .before .kind-at in
-    (start .pre .1 .0, (as-kind (kind-at .ensures .0) 3 (c .before .match .keys4) refl refl refl, no-test (omega arith))))
+    (start .pre .1 .0, (as-kind (kind-at .ensures .0) 3 (c .before .match .keys4) refl refl refl, no-test (λ a b. omega arith))))
     -- pair-requires-2: 4 => pair(table, n, i, 4, 1, 0, waiting, top),
     (λ c κs.
     let start = c .before .before .before .before .before in
     let kind-at = c .before .before .kind-at in
-    (start .pre .1 .0, (as-kind (kind-at .ensures .0) 4 (c .before .match .keys5) refl refl refl, no-test (omega arith))))
+    (start .pre .1 .0, (as-kind (kind-at .ensures .0) 4 (c .before .match .keys5) refl refl refl, no-test (λ a b. omega arith))))
     -- body-requires: 5 => body(table, n, i, 5, 1, waiting, top),
     (λ c κs.
     let start = c .before .before .before .before .before in
@@ -61,7 +62,7 @@ place-spec =
     (λ c κs.
     let start = c .before .before .before .before .before in
     let kind-at = c .before .before .kind-at in
-    (start .pre .1 .0, (as-kind (kind-at .ensures .0) 7 (c .before .match .keys8) refl (sym (start .pre .0 .v-is)) refl, no-test (omega arith))))
+    (start .pre .1 .0, (as-kind (kind-at .ensures .0) 7 (c .before .match .keys8) refl (sym (start .pre .0 .v-is)) refl, no-test (λ a b. omega arith))))
     (λ c κs. search needs)  -- early-of-requires
     -- leaf-requires-5: 8 => leaf(table, n, i, 8, m, early_of(table, i, early), waiting, top),
     (λ c κs.
@@ -96,6 +97,16 @@ place-spec =
     let start = c .before .before .before .before .before in
     let kind-at = c .before .before .kind-at in
     (start .pre .1 .0, as-kind (kind-at .ensures .0) 12 (c .before .match .keys13) refl (sym (start .pre .0 .v-is)) refl))
+    -- pair-requires-5: 14 => pair(table, n, i, 14, 16, 0, waiting, top),
+    (λ c κs.
+    let start = c .before .before .before .before .before in
+    let kind-at = c .before .before .kind-at in
+    (start .pre .1 .0, (as-kind (kind-at .ensures .0) 14 (c .before .match .keys14) refl refl refl, no-test (λ a b. omega arith))))
+    -- body-requires-5: 15 => body(table, n, i, 15, 4096, waiting, top),
+    (λ c κs.
+    let start = c .before .before .before .before .before in
+    let kind-at = c .before .before .kind-at in
+    (start .pre .1 .0, as-kind (kind-at .ensures .0) 15 (c .before .match .keys15) refl refl refl))
     (λ c. c .leaf .ensures)  -- returns
     (λ c. c .leaf2 .ensures)  -- returns-2
     (λ c. c .leaf3 .ensures)  -- returns-3
@@ -109,4 +120,6 @@ place-spec =
     (λ c. c .pair4 .ensures)  -- returns-11
     (λ c. c .body3 .ensures)  -- returns-12
     (λ c. c .body4 .ensures)  -- returns-13
-    returns-14)
+    (λ c. c .pair5 .ensures)  -- returns-14
+    (λ c. c .body5 .ensures)  -- returns-15
+    returns-16)

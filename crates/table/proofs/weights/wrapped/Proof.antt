@@ -1,5 +1,5 @@
 use mathlib.Core.Path.{sym, _∙_}
-use Rattle.table.proofs.Weighed.{loop-weighs, never-weighs, repeat-weighs, under-weighs}
+use Rattle.table.proofs.Weighed.{loop-weighs, never-weighs, repeat-weighs, capped-weighs, under-weighs}
 use borrow.Author.Needs.{needs}
 use Rattle.table.proofs.weights.wrapped.Statement.{statement}
 use Rattle.table.proofs.weights.wrapped.Tie as tie
@@ -28,12 +28,21 @@ returns-3 c p q v n e w =
     let repeated3 = c .repeated3 in
     rw (repeated3 .ensures) (repeat-weighs v n (sym e ∙ if2 .taken) (if3 .left) _ (times-of .ensures .0) w)
 
--- pub fn wrapped(k: usize, count: usize, x: Weight) -> Weight
+-- return repeated(times_of(count / 16, x.stops), x, 0);
 returns-4 : tie.Need-returns-4
 returns-4 c p q v n e w =
-    let if1 = c .before .before .before .if1 in
-    let if2 = c .before .before .if2 in
-    under-weighs v n (λ z. if1 .left (e ∙ z)) (λ z. if2 .left (e ∙ z)) w
+    let if4 = c .before .before .if4 in
+    let times-of2 = c .before .times-of2 in
+    let repeated4 = c .repeated4 in
+    rw (repeated4 .ensures) (capped-weighs v n (sym e ∙ if4 .taken) _ (times-of2 .ensures .0) w)
+
+-- pub fn wrapped(k: usize, count: usize, x: Weight) -> Weight
+returns-5 : tie.Need-returns-5
+returns-5 c p q v n e w =
+    let if1 = c .before .before .before .before .if1 in
+    let if2 = c .before .before .before .if2 in
+    let if4 = c .before .before .if4 in
+    under-weighs v n (λ z. if1 .left (e ∙ z)) (λ z. if2 .left (e ∙ z)) (λ z. if4 .left (e ∙ z)) w
 
 pub wrapped-spec : {M : Type 1} → statement M
 wrapped-spec =
@@ -46,6 +55,9 @@ wrapped-spec =
     (λ c κs. search needs)  -- times-of-requires: return repeated(times_of(count, x.stops), x, x.stops);
     (λ c κs. search needs)  -- repeated-requires-3: return repeated(times_of(count, x.stops), x, x.stops);
     returns-3
+    (λ c κs. search needs)  -- times-of-requires-2: return repeated(times_of(count / 16, x.stops), x, 0);
+    (λ c κs. search needs)  -- repeated-requires-4: return repeated(times_of(count / 16, x.stops), x, 0);
+    returns-4
     (λ c. search needs)  -- add-t7: nodes: x.nodes + 1,
     (λ c. search needs)  -- add-t8: height: x.height + 1,
-    returns-4)
+    returns-5)

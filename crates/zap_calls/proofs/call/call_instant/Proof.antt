@@ -63,7 +63,7 @@ put-row-requires c κs =
       instant .kept .1 .0,
       put-bytes .ensures .1,
       put-bytes .kept .0,
-      instant .kept .1 .1 .1 .0,
+      instant .kept .1 .1 .1 .1 .0,
     )
 
 -- fn call_instant
@@ -81,7 +81,7 @@ same-length-2 c =
     let c16 = c8 .before .before .before .before .before .before .before .before in
     let c24 = c16 .before .before .before .before .before .before .before .before in
     let instant = c24 .before .before .before .before .before .before .instant in
-    instant .kept .1 .1 .1 .0
+    instant .kept .1 .1 .1 .1 .0
 
 returns : tie.Need-returns
 returns c =
@@ -105,7 +105,7 @@ returns c =
       put-bytes .ensures .1,
       put-row .ensures .1,
       instant .kept .1 .0,
-      instant .kept .1 .1 .1 .0,
+      instant .kept .1 .1 .1 .1 .0,
     )
 
 pub call-instant-spec : {M : Type 1} → statement M

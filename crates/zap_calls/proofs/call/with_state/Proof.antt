@@ -26,19 +26,12 @@ with-state-spec =
     (λ c κs. search needs)  -- bad-line-requires-2: return bad_line(output);
     (λ c. search needs)  -- same-length-2
     (λ c. search needs)  -- returns-2
-    (λ c. search needs)  -- add-read-row: let r = read_row(&words[b + 1..], row);
-    (λ c. search needs)  -- sub-read-row
-    (λ c. search needs)  -- part-read-row-start
-    (λ c. search needs)  -- part-read-row-end
-    (λ c κs. search needs)  -- read-row-requires
-    (λ c κs. search needs)  -- bad-line-requires-3: return bad_line(output);
-    (λ c. search needs)  -- same-length-3
+    (λ c. search needs)  -- add-with-events: with_events(&words[b + 1..], table, state, e.events, ..
+    (λ c. search needs)  -- sub-with-events
+    (λ c. search needs)  -- part-with-events-start
+    (λ c. search needs)  -- part-with-events-end
+    (λ c κs. search needs)  -- with-events-requires
+    (λ c. search needs)  -- same-length-3: fn with_state
     (λ c. search needs)  -- same-length-4
-    (λ c. search needs)  -- returns-3
-    (λ c. search needs)  -- slice-relend-prefix-call-instant: call_instant(table, state, e.events,..
-    (λ c. search needs)  -- slice-aggregate-call-instant
-    (λ c κs. search needs)  -- call-instant-requires
-    (λ c. search needs)  -- same-length-5: fn with_state
-    (λ c. search needs)  -- same-length-6
-    (λ c. search needs)  -- same-length-7
-    (λ c. search needs))  -- returns-4
+    (λ c. search needs)  -- same-length-5
+    (λ c. search needs))  -- returns-3

@@ -1,0 +1,103 @@
+-- A Repeat's body run once: whatever function runs it, it is run by the rules.
+use Rattle.runner.proofs as proofs
+use proofs.+begin_loop+run_child+run_control+run_half+run_if+run_local+run_loop+run_other+run_par+run_repeat+run_repeat_ext+run_second+run_seq+run_star+run_then+run_times+run_turn+run_until+run_when as cycle
+use cycle.Lts-run_turn as lts
+use proofs.run_turn.Reads.{Pre, Post}
+use cycle.Proof.Measures.{exactly, smaller, μ-run-child, μ-run-other, μ-run-seq, μ-run-turn}
+use borrow.Fn.Kinds.{In, Out}
+use Prim.Native.Nat.{ℕ}
+use lib.Dec.{lit<}
+use Rattle.steps.proofs.Dispatch.{to-kind, by-kind, to-others, by-others}
+use Rattle.runner.proofs.Falling.{lower-rank, turn-rank, child-rank, other-rank, form-rank}
+
+module _ (t : ℕ) where
+  abbrev given : lts.Claims
+  given = (
+    Rattle.steps.proofs.leaves.run_nothing.Reads.Asked,
+    Rattle.steps.proofs.leaves.run_nothing.Reads.Learnt,
+    smaller proofs.run_child.Kinds.ps μ-run-child proofs.run_child.Reads.Pre t,
+    proofs.run_child.Reads.Post,
+    Rattle.steps.proofs.leaves.run_await.Reads.Asked,
+    Rattle.steps.proofs.leaves.run_await.Reads.Learnt,
+    smaller proofs.run_seq.Kinds.ps μ-run-seq proofs.run_seq.Reads.Pre t,
+    proofs.run_seq.Reads.Post,
+    smaller proofs.run_other.Kinds.ps μ-run-other proofs.run_other.Reads.Pre t,
+    proofs.run_other.Reads.Post,
+  )
+
+  abbrev Of : (lts.Claims → In 7 lts.ps → Out 7 lts.ps lts.r → Type 0) → Type 0
+  Of N = N given (exactly lts.ps μ-run-turn Pre t) Post
+
+  -- return run_nothing(table, i, state, numbers, atoms);
+  run-nothing-requires : Of lts.Need-run-nothing-requires
+  run-nothing-requires c κs =
+      let start = c .before .before .before .before in
+      let if1 = c .before .before .before .if1 in
+      to-kind (start .pre .1 .1) (if1 .taken) (start .pre .1 .0)
+
+  returns : Of lts.Need-returns
+  returns c =
+      let start = c .before .before .before .before .before in
+      let if1 = c .before .before .before .before .if1 in
+      let run-nothing = c .run-nothing in
+      (by-kind (start .pre .1 .1) (if1 .taken) (run-nothing .ensures .0), run-nothing .ensures .1)
+
+  -- return run_await(table, i, state, numbers, atoms);
+  run-await-requires : Of lts.Need-run-await-requires
+  run-await-requires c κs =
+      let start = c .before .before .before .before .before .before in
+      let if3 = c .before .before .before .if3 in
+      to-kind (start .pre .1 .1) (if3 .taken) (start .pre .1 .0)
+
+  returns-3 : Of lts.Need-returns-3
+  returns-3 c =
+      let start = c .before .before .before .before .before .before .before in
+      let if3 = c .before .before .before .before .if3 in
+      let run-await = c .run-await in
+      (by-kind (start .pre .1 .1) (if3 .taken) (run-await .ensures .0), run-await .ensures .1)
+
+  -- return run_seq(table, i, state, numbers, atoms);
+  run-seq-requires : Of lts.Need-run-seq-requires
+  run-seq-requires c κs =
+      let start = c .before .before .before .before .before .before .before in
+      let if4 = c .before .before .before .if4 in
+      (lower-rank _ turn-rank form-rank (lit< tt) (start .pre .0), to-kind (start .pre .1 .1) (if4 .taken) (start .pre .1 .0))
+
+  returns-4 : Of lts.Need-returns-4
+  returns-4 c =
+      let start = c .before .before .before .before .before .before .before .before in
+      let if4 = c .before .before .before .before .if4 in
+      let run-seq = c .run-seq in
+      (by-kind (start .pre .1 .1) (if4 .taken) (run-seq .ensures .0), run-seq .ensures .1)
+
+  -- run_other(table, i, state, numbers, atoms)
+  run-other-requires : Of lts.Need-run-other-requires
+  run-other-requires c κs =
+      let start = c .before .before .before .before .before .before .before in
+      let if2 = c .before .before .before .before .before .if2 in
+      let if3 = c .before .before .before .before .if3 in
+      let if4 = c .before .before .before .if4 in
+      (lower-rank _ turn-rank other-rank (lit< tt) (start .pre .0), to-others (start .pre .1 .1) (if2 .left) (if3 .left) (if4 .left) (start .pre .1 .0))
+
+  -- fn run_turn
+  returns-5 : Of lts.Need-returns-5
+  returns-5 c =
+      let start = c .before .before .before .before .before .before .before .before in
+      let if2 = c .before .before .before .before .before .before .if2 in
+      let if3 = c .before .before .before .before .before .if3 in
+      let if4 = c .before .before .before .before .if4 in
+      let run-other = c .run-other in
+      (by-others (start .pre .1 .1) (if2 .left) (if3 .left) (if4 .left) (run-other .ensures .0), run-other .ensures .1)
+
+  pub closed : {M : Type 1} → lts.Closed given (exactly lts.ps μ-run-turn Pre t) Post M
+  closed = lts.spec given (exactly lts.ps μ-run-turn Pre t) Post
+      run-nothing-requires
+      returns
+      (λ c κs. let p = c .before .before .before .before .before .pre in (lower-rank _ turn-rank child-rank (lit< tt) (p .0), p .1 .0))  -- run-child-requires
+      (λ c. (c .run-child .ensures .0, c .run-child .ensures .1))  -- returns-2
+      run-await-requires
+      returns-3
+      run-seq-requires
+      returns-4
+      run-other-requires
+      returns-5
