@@ -1,6 +1,6 @@
 -- Every configuration of the table that is made from a program in form is good but for its height.
 use Prim.Native.Nat.{ℕ, _+_, _*_, _/_, _%_, _≤_, _<_}
-use mathlib.Core.Bool.{true, false, cond}
+use mathlib.Core.Bool.{true, false}
 use mathlib.Core.Path.{_≡_, refl}
 use mathlib.Core.List.{List, [], _++_}
 use native.Mathlib.Omega.{arith}

@@ -1,5 +1,5 @@
 -- What stops can't end in its instant: so a Loop's body that stops never answers TERM in the pass that begins it.
-use mathlib.Core.Bool.{Bool, true, false, not, _&&_, _||_, and-eq-true-iff, false≢true, or-true}
+use mathlib.Core.Bool.{Bool, true, false, _&&_, _||_, and-eq-true-iff, false≢true, or-true}
 use mathlib.Core.Path.{_≡_, refl, ap, ap₂, sym, _∙_, subst}
 use mathlib.Core.Logic.{_≢_}
 use mathlib.Core.List.{List}
@@ -8,7 +8,7 @@ use lib.Dec.{leb}
 use Rattle.junior.specs.declared.Flag.{Flag}
 use Rattle.junior.specs.declared.Flag.the-variants.{SUSP, STOP, TERM}
 use Rattle.junior.specs.Flags.{γ, δ₁, δ₂}
-use Rattle.junior.specs.Configuration.{Env, early-true, early-false}
+use Rattle.junior.specs.Configuration.{Env, early-true}
 use Rattle.junior.specs.Program.{Program, Nothing, Stop, Atom, Seq, Par, Loop, Repeat, Generate, Await, When}
 use Rattle.junior.specs.Program.{Until, Control, Local, If}
 use Rattle.junior.specs.Values.{Times, surely}

@@ -1,13 +1,12 @@
 -- What a term comes to in an instant whose finished events are X, as a function in which no branch comes first: every test is read in X at
 -- once, as before the end. What still waits then waits for the end; the term that it leaves is the one that the pass after the end leaves.
 use Prim.Native.Nat.{ℕ, zero, suc, _+_}
-use mathlib.Core.Bool.{Bool, true, false, cond, _&&_, _||_, and-eq-true-iff, false≢true}
+use mathlib.Core.Bool.{Bool, true, false, cond, _||_, and-eq-true-iff, false≢true}
 use mathlib.Core.Path.{_≡_, refl, ap, _∙_, fun-ext, sym}
 use mathlib.Core.Logic.{_≢_}
 use mathlib.Core.List.{[], _∷_}
 use mathlib.Core.Option.{Option, none, some}
 use native.Mathlib.Omega.{arith}
-use lib.Dec.{leb}
 use Rattle.events.specs.Events.{Events, none as no-event, put}
 use Rattle.junior.specs.declared.Flag.{Flag}
 use Rattle.junior.specs.declared.Flag.the-variants.{SUSP, STOP, TERM}

@@ -1,6 +1,6 @@
 -- An instant reports no event at or above V but what was handed in: a table's program generates listed events only. By the law of figures, with own
 -- weights that count the generations of one event.
-use Prim.Native.Nat.{ℕ, _+_, _*_, _≤_, _<_}
+use Prim.Native.Nat.{ℕ, _+_, _≤_, _<_}
 use mathlib.Core.Bool.{Bool, true, false, cond, _||_}
 use mathlib.Core.Path.{_≡_, refl, ap}
 use mathlib.Core.List.{List, [], _∷_}
@@ -23,7 +23,7 @@ use Rattle.junior.proofs.Grows.{among, only-generated-in-all}
 use Rattle.table.specs.declared.Checked.the-variants.{Accepted}
 use Rattle.table.specs.Records.{nodes, events, kindAt, argumentAt, secondAt}
 use Rattle.table.specs.Good.{children}
-use Rattle.table.specs.Spells.{Heads, Spells, treeOf}
+use Rattle.table.specs.Spells.{Spells, treeOf}
 use Rattle.table.specs.Verdict.{verdictOf}
 use Rattle.table.specs.Inside.{Loaded}
 use Rattle.table.proofs.Grown.{fine}

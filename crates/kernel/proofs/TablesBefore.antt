@@ -1,7 +1,7 @@
 -- Tables of today read as they did: a table accepted under the limits before L10 is accepted now, with the same tree and the same figures.
-use Prim.Native.Nat.{ℕ, zero, suc, _+_, _*_, _≤_, _<_}
-use mathlib.Core.Bool.{Bool, true, false, cond, _&&_}
-use mathlib.Core.Path.{_≡_, refl, ap, sym, _∙_}
+use Prim.Native.Nat.{ℕ, zero, suc, _+_, _≤_, _<_}
+use mathlib.Core.Bool.{Bool, true}
+use mathlib.Core.Path.{_≡_, refl, ap, _∙_}
 use mathlib.Core.List.{List}
 use native.Mathlib.Omega.{arith}
 use lib.Dec.{leb}
@@ -11,7 +11,7 @@ use Rattle.junior.specs.Configuration.{Config, Event, Not, And, Or}
 use Rattle.junior.specs.Program.{Program, Argument, no-argument, number, event, configuration, value, capped, argument}
 use Rattle.junior.specs.Program.{Parts, no-part, one-part, two-parts, parts}
 use Rattle.table.specs.declared.Checked.the-variants.{Accepted}
-use Rattle.table.specs.Records.{byte, nodes, configurations, events, configurationAt, kindByte, partKind, partEvent, partSize}
+use Rattle.table.specs.Records.{byte, nodes, configurations, events, configurationAt, kindByte, partKind, partEvent}
 use Rattle.table.specs.Good.{parts as part-count, goodButHeight, ofParts, heightAtMost, goodConfiguration}
 use Rattle.table.specs.Spells.{Configured, Argues, SpellsParts, Spells, treeOf}
 use Rattle.table.specs.Verdict.{countsGood, programVerdict, verdictOf}

@@ -1,5 +1,5 @@
 -- Request L10, sentence by sentence: the limits, what a configuration's record may be, and that tables of today read and answer as they did.
-use Prim.Native.Nat.{ℕ, zero, suc, _+_, _/_, _≤_, _<_}
+use Prim.Native.Nat.{ℕ, zero, suc, _+_, _/_, _<_}
 use mathlib.Core.Bool.{Bool, true, false, cond, _&&_}
 use mathlib.Core.Path.{_≡_, refl, sym, ap, _∙_}
 use mathlib.Core.Logic.{_≢_, _⊎_, inl, inr}
@@ -18,8 +18,8 @@ use Rattle.junior.specs.Waited.{Wait, waited}
 use Rattle.table.specs.declared.Checked.the-variants.{Accepted}
 use Rattle.table.specs.Records.{nodes, configurations, events, configurationAt, kindByte, partKind, partEvent}
 use Rattle.table.specs.Good.{laidOut, children, argumentLimit, goodNode, parts, goodButHeight, heightAtMost, goodConfiguration}
-use Rattle.table.specs.Spells.{configurationOf, form, programOf, treeOf}
-use Rattle.table.specs.Verdict.{numberOf, preorder, firstSuch, light, programVerdict, nodesVerdict, recordsVerdict, verdictOf}
+use Rattle.table.specs.Spells.{configurationOf, form, programOf}
+use Rattle.table.specs.Verdict.{preorder, firstSuch, light, programVerdict, nodesVerdict, recordsVerdict, verdictOf}
 use Rattle.table.specs.Verdict.{lengthGood, countsGood, distancesGood}
 use Rattle.table.specs.Inside.{Loaded}
 use Rattle.table.proofs.Accepted.{accepted}
@@ -28,10 +28,10 @@ use Rattle.state.specs.Resting.{blamed}
 use Rattle.kernel.specs.declared.Outcome.{Outcome}
 use Rattle.kernel.specs.declared.Outcome.the-variants.{Ran, StateRoom, NotAtRest, UnlistedEvent}
 use Rattle.kernel.specs.declared.Answer.{Answer}
-use Rattle.kernel.specs.Answer.{hasRoom, instantOutcome, eventOf, Run, Answered}
+use Rattle.kernel.specs.Answer.{hasRoom, instantOutcome, eventOf, Answered}
 use Rattle.kernel.specs.TablesBefore.{places-before, HandedBefore, AcceptedBefore, outcomeBefore, eventBefore}
 use Rattle.kernel.specs.TablesBefore.{AnswerBefore, AnsweredBefore}
-use Rattle.kernel.specs.ThousandEvents.{SomeEvent, PartedRecord, ButForNone, SameAnswer, await-1023, ThousandEvents}
+use Rattle.kernel.specs.ThousandEvents.{SomeEvent, PartedRecord, ButForNone, SameAnswer, ThousandEvents}
 use Rattle.kernel.proofs.Listed.{reports-listed}
 use Rattle.kernel.proofs.OneAnswer.{ran-or-not}
 use Rattle.kernel.proofs.TablesBefore.{read-as-before}

@@ -1,5 +1,5 @@
 -- Verdicts as ranks: of an event, a not, an and, an or, and what a rank is read as; how many records a configuration has.
-use Prim.Native.Nat.{ℕ, _+_, _-_, _*_, _/_, _≤_, _<_, min, max}
+use Prim.Native.Nat.{ℕ, _+_, _-_, _/_, _≤_, _<_, min, max}
 use mathlib.Core.Bool.{Bool, true, false, cond, _||_}
 use mathlib.Core.Path.{_≡_, refl, sym, ap, _∙_}
 use mathlib.Core.List.{List}

@@ -5,7 +5,7 @@ use mathlib.Core.Path.{_≡_, refl, sym, ap, _∙_}
 use mathlib.Core.List.{List}
 use native.Mathlib.Omega.{arith}
 use lib.ListN.{length}
-use lib.Dec.{eqb, leb, ltb, eqb·suc-zero}
+use lib.Dec.{eqb, leb, ltb}
 use borrow.Author.Tests.{lt-ltb, le-ltb, lt-leb, le-leb, ne-eqb, ltb-true, ltb-false}
 use Rattle.table.specs.Records.{byte, word, configurations, events, configurationAt, kindByte, partKind, partEvent, partSize}
 use Rattle.table.specs.Good.{laidOut, parts, goodButHeight}

@@ -6,7 +6,7 @@ use native.Mathlib.Nat.{zero-mul, suc-mul, mul-le-mul}
 use native.Mathlib.Omega.{arith}
 use lib.Bits.{bitAnd, bitOr}
 use lib.Dec.{eqb}
-use borrow.Author.Tests.{eq-eqb, ne-eqb, le-leb}
+use borrow.Author.Tests.{ne-eqb, le-leb}
 use Rattle.junior.specs.Program.{Program, kind, Leaf, One, Two}
 use Rattle.junior.specs.Figures.{stops, figure, times}
 use Rattle.table.specs.declared.weights.Weight.{Weight}

@@ -1,7 +1,6 @@
 -- `kind_of_form` meets its contract.
 use Rattle.form.proofs.names.kind_of_form.Statement.{statement}
 use Rattle.form.proofs.names.kind_of_form.Tie as tie
-use native.Mathlib.Omega.{arith}
 use native.Mathlib.Numerals.{add-one}
 use borrow.Author.Needs.{needs}
 use borrow.Author.Tests.{lt-ltb, le-ltb}

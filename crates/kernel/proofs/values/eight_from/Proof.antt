@@ -2,11 +2,11 @@
 use Rattle.kernel.proofs.values.eight_from.Statement.{statement}
 use Rattle.kernel.proofs.values.eight_from.Tie as tie
 use borrow.Author.Needs.{needs}
-use Prim.Native.Nat.{ℕ, suc, _+_, _-_, _*_, _^_, _≤_, _<_}
-use mathlib.Core.Path.{_≡_, refl, ap, sym, _∙_}
+use Prim.Native.Nat.{suc, _+_, _-_, _*_, _^_, _≤_, _<_}
+use mathlib.Core.Path.{_≡_, ap, _∙_}
 use native.Mathlib.Omega.{arith}
 use native.Mathlib.Nat.{le-refl}
-use lib.ListN.{length, getD}
+use lib.ListN.{getD}
 use Rattle.kernel.proofs.ValueWords.{SoFar, Small, one-more, smaller, fits}
 
 abbrev Inv-loop : tie.InvT-loop

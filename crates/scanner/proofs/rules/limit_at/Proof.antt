@@ -1,7 +1,7 @@
 -- `limit_at` meets its contract.
 use Rattle.scanner.proofs.rules.limit_at.Statement.{statement}
 use Rattle.scanner.proofs.rules.limit_at.Tie as tie
-use Prim.Native.Nat.{_-_, _<_, _≤_}
+use Prim.Native.Nat.{_-_}
 use mathlib.Core.Path.{sym, _∙_}
 use borrow.Author.Needs.{needs}
 use borrow.Author.Tests.{lt-ltb, le-ltb, eq-eqb, ne-eqb}

@@ -1,7 +1,7 @@
 -- The count's test, case by case.
 use mathlib.Core.Bool.{and-false}
 use borrow.Author.Needs.{needs}
-use borrow.Author.Tests.{eq-eqb, ne-eqb}
+use borrow.Author.Tests.{ne-eqb}
 use Rattle.state.specs.Resting.{countRests}
 use Rattle.state.proofs.resting.count_rests.Statement.{statement}
 use Rattle.state.proofs.resting.count_rests.Tie as tie
