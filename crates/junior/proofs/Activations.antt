@@ -25,7 +25,8 @@ use Rattle.junior.specs.Instant.{Instant, r47, r48, r49}
 use Rattle.junior.specs.Course.{_⊆_}
 use Rattle.junior.specs.Activations.{UntilAround, Answers, Silent, Next, Activations}
 use Rattle.junior.proofs.Little.{TERM≢SUSP}
-use Rattle.junior.proofs.Kept.{prog-fresh, prog-again, kept}
+use Rattle.junior.proofs.Fresh.{prog-fresh}
+use Rattle.junior.proofs.Kept.{prog-again, kept}
 use Rattle.junior.proofs.Verdicts.{lasts, as-it-is, present}
 use Rattle.junior.proofs.Grows.{grows}
 use Rattle.junior.proofs.Going.{put-grows, signed}

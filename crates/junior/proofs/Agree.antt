@@ -21,7 +21,8 @@ use Rattle.junior.specs.Rules.{r31-on, r32, r33, r34, r35-39, if-true, i
 use Rattle.junior.specs.Figures.{LoopsStop}
 use Rattle.junior.specs.Order.{often, decides}
 use Rattle.junior.proofs.Little.{STOP≢SUSP, TERM≢SUSP, put-at}
-use Rattle.junior.proofs.Kept.{kept, prog-fresh, prog-again}
+use Rattle.junior.proofs.Fresh.{prog-fresh}
+use Rattle.junior.proofs.Kept.{kept, prog-again}
 use Rattle.junior.proofs.Verdicts.{test-event, present}
 use Rattle.junior.proofs.Grows.{grows, end-kept}
 use Rattle.junior.proofs.Held.{begun}

@@ -4,7 +4,7 @@ use Prim.Native.Nat.{ℕ, zero, suc, _-_}
 use native.Mathlib.Numerals.{sub-one}
 use native.Mathlib.Omega.{arith}
 use mathlib.Core.Bool.{Bool, true, false}
-use mathlib.Core.Path.{_≡_, refl, ap, ap₂, _∙_, subst⁻¹}
+use mathlib.Core.Path.{_≡_, refl, ap, _∙_, subst⁻¹}
 use mathlib.Core.Logic.{_≢_, inl, inr}
 use mathlib.Core.List.{List, [], _∷_, _++_, append-nil}
 use Rattle.junior.specs.declared.Flag.{Flag}
@@ -13,14 +13,14 @@ use Rattle.junior.specs.declared.Verdict.the-variants.{Unknown}
 use Rattle.junior.specs.Configuration.{Env, with-event, verdict}
 use Rattle.junior.specs.Program.{Program}
 use Rattle.junior.specs.Values.{Values, Times, exactly, asked, runs-of}
-use Rattle.junior.specs.Term.{Term, local, prog, fresh, leave}
+use Rattle.junior.specs.Term.{Term, local, prog, leave}
 use Rattle.junior.specs.Trace.{Place, Act, did-atom, did-generate, decided, waits, scope-answered}
 use Rattle.junior.specs.Rules.{left-first, Result, again, sign, Rewrites, r1, r1-on, r2, r3, r4, r4-on, r5, r8, r10, r11}
 use Rattle.junior.specs.Rules.{r12, r13, r4-loop, r5-loop, r14, r15, r4-repeat, r5-repeat, r16, r17, r17-on}
 use Rattle.junior.specs.Rules.{r18, r19, r19-on, r20, r21, r22, r23, r24, r25, r26, r27, r28, r29, r30, r31}
 use Rattle.junior.specs.Rules.{r31-on, r32, r33, r34, r35-39, if-true, if-true-on, if-false, if-false-on}
 use Rattle.junior.specs.Instant.{Instant, r47, r48, r49}
-use Rattle.junior.specs.Printed.{Abstract, Seq, Par, Repeat, repetition, Until, Control, Local-, leaves, tr, reads, Deed}
+use Rattle.junior.specs.Printed.{Abstract, Seq, Repeat, repetition, leaves, tr, reads, Deed}
 use Rattle.junior.specs.Printed.{does, generates, finds, deeds}
 use Rattle.junior.specs.Printed.{_⊢_∣_—[_doing_]→_∣_, _⊢_∣_—[_doing_]—_passes→_∣_, rule1, rule2, rule3, rule4, rule5, rule8}
 use Rattle.junior.specs.Printed.{rule10, rule11, rule12, rule13, rule14, rule15, rule16, rule17, rule18, rule19}
@@ -28,24 +28,8 @@ use Rattle.junior.specs.Printed.{rule20, rule21, rule22, rule23, rule24,
 use Rattle.junior.specs.Printed.{rule30, rule31, rule32, rule33, rule34, rule35, rule36, rule37, rule38, rule39}
 use Rattle.junior.specs.Printed.{rule47, rule48, rule49}
 use Rattle.junior.specs.Printed.{if-true as if-true-printed, if-false as if-false-printed, repeat-ext}
-use Rattle.junior.proofs.Kept.{prog-fresh, kept}
-
-pub reads-fresh : (p : Program) → reads (fresh p) ≡ tr p
-unfolding reads fresh tr
-reads-fresh Program.Nothing = refl
-reads-fresh Program.Stop = refl
-reads-fresh (Program.Atom a) = refl
-reads-fresh (Program.Seq p q) = ap (λ t. Seq t (tr q)) (reads-fresh p)
-reads-fresh (Program.Par p q) = ap₂ (Par SUSP SUSP) (reads-fresh p) (reads-fresh q)
-reads-fresh (Program.Loop p) = refl
-reads-fresh (Program.Repeat n p) = refl
-reads-fresh (Program.Generate s) = refl
-reads-fresh (Program.Await c) = refl
-reads-fresh (Program.When c p q) = refl
-reads-fresh (Program.Until c p q) = ap (λ t. Until c t (tr q)) (reads-fresh p)
-reads-fresh (Program.Control s p) = ap (Control s) (reads-fresh p)
-reads-fresh (Program.Local s p) = ap (Local- s) (reads-fresh p)
-reads-fresh (Program.If v p q) = refl
+use Rattle.junior.proofs.Fresh.{prog-fresh, reads-fresh}
+use Rattle.junior.proofs.Kept.{kept}
 
 pub reads-leave : (α : Flag) (t : Term) → reads (leave α t) ≡ leaves α (reads t)
 unfolding reads leave leaves

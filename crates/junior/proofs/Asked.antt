@@ -14,7 +14,8 @@ use Rattle.junior.specs.Rules.{r32, r33, r34, r35-39, if-true, if-true-o
 use Rattle.junior.specs.Instant.{Instant, r47, r48, r49}
 use Rattle.junior.specs.Waited.{before-the-end}
 use Rattle.junior.specs.Asked.{asked-by, asks, asks-in-all, Each, EachNamed, AlsoWith, Asked}
-use Rattle.junior.proofs.Kept.{prog-fresh, prog-again, kept}
+use Rattle.junior.proofs.Fresh.{prog-fresh}
+use Rattle.junior.proofs.Kept.{prog-again, kept}
 
 -- lists of values
 module _ (so : ℕ → Type 0) where

@@ -25,7 +25,7 @@ use Rattle.junior.specs.Rules.{r31-on, r32, r33, r34, r35-39, if-true, i
 use Rattle.junior.specs.Figures.{stops, LoopsStop}
 use Rattle.junior.specs.Inside.{Going, Controlled}
 use Rattle.junior.proofs.Little.{STOP≢SUSP, TERM≢SUSP, TERM≢STOP}
-use Rattle.junior.proofs.Kept.{prog-fresh}
+use Rattle.junior.proofs.Fresh.{prog-fresh}
 use Rattle.junior.proofs.Grows.{grows}
 use Rattle.junior.proofs.Verdicts.{lasts, as-it-is}
 use Rattle.junior.proofs.Going.{going-more}

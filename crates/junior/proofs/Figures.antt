@@ -31,9 +31,10 @@ use Rattle.junior.specs.Figures.{stops, LoopsStop, times, figure, per, G
 use Rattle.junior.specs.AtRest.{AtRest}
 use Rattle.junior.specs.Inside.{RemainsIf, Controlled, Going, live, held, rest, due, pot}
 use Rattle.junior.proofs.Times.{below-most}
-use Rattle.junior.proofs.Kept.{prog-fresh, prog-again, kept}
+use Rattle.junior.proofs.Fresh.{prog-fresh, held-fresh}
+use Rattle.junior.proofs.Kept.{prog-again, kept}
 use Rattle.junior.proofs.Going.{rest-going, fresh-going}
-use Rattle.junior.proofs.Held.{held-fresh, stays-held, begun, ends-unheld}
+use Rattle.junior.proofs.Held.{stays-held, begun, ends-unheld}
 
 -- how `rest` goes with the shapes of the rules' answers
 rest-within : (α : Flag) (w x c y : ℕ) → rest α x + c ≤ y → rest α (w + x) + c ≤ w + y

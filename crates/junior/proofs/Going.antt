@@ -11,8 +11,7 @@ use Rattle.junior.specs.declared.Flag.{Flag}
 use Rattle.junior.specs.declared.Flag.the-variants.{SUSP, STOP, TERM}
 use Rattle.junior.specs.Flags.{γ, δ₁, δ₂}
 use Rattle.junior.specs.Configuration.{Env}
-use Rattle.junior.specs.Program.{Program, Nothing, Stop, Atom, Seq, Par, Loop, Repeat, Generate, Await, When}
-use Rattle.junior.specs.Program.{Until, Control, Local, If}
+use Rattle.junior.specs.Program.{Program, Nothing, Atom, Repeat, Generate, Await}
 use Rattle.junior.specs.Values.{Times, most}
 use Rattle.junior.specs.Term.{Term, done, nothing, stop, atom, generate, await, seq0, seq2, par, loop0, loop1}
 use Rattle.junior.specs.Term.{repeat0, repeat1, when0, when1, when2, until0, until*, until2, control, local, if0, if1, if2}
@@ -26,27 +25,11 @@ use Rattle.junior.specs.Instant.{Instant, r47, r48, r49}
 use Rattle.junior.specs.Course.{_⊆_}
 use Rattle.junior.specs.AtRest.{AtRest, Waiting, Over}
 use Rattle.junior.specs.Inside.{Suspended, RemainsIf, Remains, Controlled, Going}
+use Rattle.junior.proofs.Fresh.{fresh-at-rest}
 use Rattle.junior.proofs.Kept.{kept}
 use Rattle.junior.proofs.Verdicts.{present, absent}
 use Rattle.junior.proofs.Grows.{grows}
 use Rattle.junior.proofs.Times.{below-most}
-
-pub fresh-at-rest : (p : Program) → AtRest (fresh p)
-unfolding fresh AtRest
-fresh-at-rest Nothing = tt
-fresh-at-rest Stop = tt
-fresh-at-rest (Atom a) = tt
-fresh-at-rest (Seq p q) = fresh-at-rest p
-fresh-at-rest (Par p q) = (tt, tt, tt, fresh-at-rest p, fresh-at-rest q)
-fresh-at-rest (Loop p) = tt
-fresh-at-rest (Repeat n p) = tt
-fresh-at-rest (Generate s) = tt
-fresh-at-rest (Await c) = tt
-fresh-at-rest (When c p q) = tt
-fresh-at-rest (Until c p q) = fresh-at-rest p
-fresh-at-rest (Control s p) = fresh-at-rest p
-fresh-at-rest (Local s p) = (refl, fresh-at-rest p)
-fresh-at-rest (If v p q) = tt
 
 par-going : (X : Events) (α β : Flag) (t u : Term) → Waiting α β → Over α t → Over β u → Going X t → Going X u
     → Suspended α β × Remains α X t × Remains β X u

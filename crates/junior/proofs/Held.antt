@@ -1,6 +1,6 @@
 -- What stops can't end in its instant: so a Loop's body that stops never answers TERM in the pass that begins it.
 use mathlib.Core.Bool.{Bool, true, false, _&&_, _||_, and-eq-true-iff, false≢true, or-true}
-use mathlib.Core.Path.{_≡_, refl, ap, ap₂, sym, _∙_, subst}
+use mathlib.Core.Path.{_≡_, refl, ap, sym, _∙_, subst}
 use mathlib.Core.Logic.{_≢_}
 use mathlib.Core.List.{List}
 use Prim.Native.Nat.{ℕ, zero, suc}
@@ -9,8 +9,7 @@ use Rattle.junior.specs.declared.Flag.{Flag}
 use Rattle.junior.specs.declared.Flag.the-variants.{SUSP, STOP, TERM}
 use Rattle.junior.specs.Flags.{γ, δ₁, δ₂}
 use Rattle.junior.specs.Configuration.{Env, early-true}
-use Rattle.junior.specs.Program.{Program, Nothing, Stop, Atom, Seq, Par, Loop, Repeat, Generate, Await, When}
-use Rattle.junior.specs.Program.{Until, Control, Local, If}
+use Rattle.junior.specs.Program.{Program}
 use Rattle.junior.specs.Values.{Times, surely}
 use Rattle.junior.specs.Term.{Term, repeat1, prog, fresh, leave}
 use Rattle.junior.specs.Trace.{Place, Act}
@@ -23,25 +22,9 @@ use Rattle.junior.specs.Instant.{Instant, r47, r48, r49}
 use Rattle.junior.specs.Figures.{only-if, stops}
 use Rattle.junior.specs.Inside.{live, held}
 use Rattle.junior.proofs.Times.{unsure}
+use Rattle.junior.proofs.Fresh.{held-fresh}
 use Rattle.junior.proofs.Kept.{kept}
 use Rattle.junior.proofs.Verdicts.{sat-early, unsat-early}
-
-pub held-fresh : (p : Program) → held (fresh p) ≡ stops p
-unfolding held fresh stops
-held-fresh Nothing = refl
-held-fresh Stop = refl
-held-fresh (Atom a) = refl
-held-fresh (Seq p q) = ap (λ x. x || stops q) (held-fresh p)
-held-fresh (Par p q) = ap₂ _||_ (held-fresh p) (held-fresh q)
-held-fresh (Loop p) = refl
-held-fresh (Repeat n p) = refl
-held-fresh (Generate s) = refl
-held-fresh (Await c) = refl
-held-fresh (When c p q) = refl
-held-fresh (Until c p q) = ap (λ x. x && only-if (early-true c) (stops q)) (held-fresh p)
-held-fresh (Control s p) = held-fresh p
-held-fresh (Local s p) = held-fresh p
-held-fresh (If v p q) = refl
 
 -- an either-or, part by part
 pub either : (a b : Bool) {c d : Bool}

@@ -4,32 +4,16 @@ use Rattle.junior.specs.declared.Flag.{Flag}
 use Rattle.junior.specs.declared.Flag.the-variants.{SUSP, STOP, TERM}
 use Prim.Native.Nat.{ℕ, zero, suc}
 use Rattle.junior.specs.Configuration.{Env}
-use Rattle.junior.specs.Program.{Program, Nothing, Stop, Atom, Seq, Par, Loop, Repeat, Generate, Await, When}
+use Rattle.junior.specs.Program.{Program, Seq, Par, Loop, Repeat, When}
 use Rattle.junior.specs.Program.{Until, Control, Local, If}
 use Rattle.junior.specs.Values.{Times}
-use Rattle.junior.specs.Term.{Term, prog, fresh, leave}
+use Rattle.junior.specs.Term.{Term, prog, leave}
 use Rattle.junior.specs.Trace.{Place}
 use Rattle.junior.specs.Rules.{Allowed, Result, again, Rewrites, r1, r1-on, r2, r3, r4, r4-on, r5, r8, r9, r10, r11, r12}
 use Rattle.junior.specs.Rules.{r13, r4-loop, r5-loop, r14, r15, r4-repeat, r5-repeat, r16, r17, r17-on, r18}
 use Rattle.junior.specs.Rules.{r19, r19-on, r20, r21, r22, r23, r24, r25, r26, r27, r28, r29, r30, r31, r31-on}
 use Rattle.junior.specs.Rules.{r32, r33, r34, r35-39, if-true, if-true-on, if-false, if-false-on}
-
-pub prog-fresh : (p : Program) → prog (fresh p) ≡ p
-unfolding prog fresh
-prog-fresh Nothing = refl
-prog-fresh Stop = refl
-prog-fresh (Atom a) = refl
-prog-fresh (Seq p q) = ap (λ x. Seq x q) (prog-fresh p)
-prog-fresh (Par p q) = ap₂ Par (prog-fresh p) (prog-fresh q)
-prog-fresh (Loop p) = refl
-prog-fresh (Repeat n p) = refl
-prog-fresh (Generate s) = refl
-prog-fresh (Await c) = refl
-prog-fresh (When c p q) = refl
-prog-fresh (Until c p q) = ap (λ x. Until c x q) (prog-fresh p)
-prog-fresh (Control s p) = ap (Control s) (prog-fresh p)
-prog-fresh (Local s p) = ap (Local s) (prog-fresh p)
-prog-fresh (If v p q) = refl
+use Rattle.junior.proofs.Fresh.{prog-fresh}
 
 pub prog-leave : (α : Flag) (t : Term) → prog (leave α t) ≡ prog t
 unfolding prog leave

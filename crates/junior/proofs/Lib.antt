@@ -2,6 +2,7 @@
 pub mod Little
 pub mod Parts
 pub mod Times
+pub mod Fresh
 pub mod Kept
 pub mod Deterministic
 pub mod Verdicts

@@ -25,7 +25,8 @@ use Rattle.junior.specs.Flags.{γ, δ₁, δ₂}
 use Rattle.junior.specs.Inside.{Remains}
 use Rattle.junior.proofs.Little.{put-at}
 use Rattle.junior.proofs.Going.{over-rest}
-use Rattle.junior.proofs.Kept.{prog-fresh, prog-again, kept}
+use Rattle.junior.proofs.Fresh.{prog-fresh}
+use Rattle.junior.proofs.Kept.{prog-again, kept}
 
 -- an answer of the Local at n, as a status
 pub status-own : (α : Flag) (n : ℕ) (b : Bool) (σ : ℕ → Bool) → α ≢ SUSP → last-status α n b σ n ≡ b

@@ -27,7 +27,7 @@ use Rattle.junior.specs.Waited.{lacks, Wait, waits-for}
 use Rattle.junior.specs.Order.{often, tells}
 use Rattle.junior.proofs.Little.{SUSP≢TERM, STOP≢TERM}
 use Rattle.junior.proofs.Times.{unsure}
-use Rattle.junior.proofs.Kept.{prog-fresh}
+use Rattle.junior.proofs.Fresh.{prog-fresh}
 use Rattle.junior.proofs.Verdicts.{sat-early, unsat-early}
 use Rattle.junior.proofs.Held.{needed}
 use Rattle.junior.proofs.WayDown.{branch-that-waits, or-else}

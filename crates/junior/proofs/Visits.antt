@@ -22,7 +22,8 @@ use Rattle.junior.specs.AtRest.{AtRest}
 use Rattle.junior.specs.Visits.{below, visits, visits-by-pass, EachAtMost, sum}
 use Rattle.junior.specs.Inside.{Going, pot}
 use Rattle.junior.proofs.Times.{below-most}
-use Rattle.junior.proofs.Kept.{prog-fresh, prog-again, kept}
+use Rattle.junior.proofs.Fresh.{prog-fresh}
+use Rattle.junior.proofs.Kept.{prog-again, kept}
 use Rattle.junior.proofs.Going.{rest-going}
 use Rattle.junior.proofs.Held.{begun, ends-unheld}
 use Rattle.junior.proofs.Figures.{due-times, loops-fresh, pot-going, pot-fresh, repeat-fresh, pot-again}

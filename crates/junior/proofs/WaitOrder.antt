@@ -21,7 +21,8 @@ use Rattle.junior.specs.Rules.{r19, r19-on, r20, r21, r22, r23, r24, r25
 use Rattle.junior.specs.Rules.{r32, r33, r34, r35-39, if-true, if-true-on, if-false, if-false-on}
 use Rattle.junior.specs.Waited.{lacks, Wait, waits-for, first-wait}
 use Rattle.junior.proofs.Little.{STOP≢SUSP, TERM≢SUSP, collect-++, collect-last}
-use Rattle.junior.proofs.Kept.{prog-fresh, prog-again, kept}
+use Rattle.junior.proofs.Fresh.{prog-fresh}
+use Rattle.junior.proofs.Kept.{prog-again, kept}
 use Rattle.junior.proofs.Waits.{earlier}
 use Rattle.junior.proofs.WayDown.{Within, within-none, within-own, widen, or-else, met-in-order}
 

@@ -18,8 +18,8 @@ use Rattle.junior.specs.Rules.{left-first}
 use Rattle.junior.specs.Figures.{stops, LoopsStop, figure}
 use Rattle.junior.specs.AtRest.{AtRest}
 use Rattle.junior.specs.Waited.{waited, first-wait, before-the-end, lacks}
-use Rattle.junior.proofs.Going.{fresh-at-rest, leaves-rest, program-kept}
-use Rattle.junior.proofs.Kept.{prog-fresh}
+use Rattle.junior.proofs.Fresh.{fresh-at-rest, prog-fresh}
+use Rattle.junior.proofs.Going.{leaves-rest, program-kept}
 use Rattle.junior.proofs.Exists.{goes-by, begins, seq0-runs, loop0-runs, loop1-runs, repeat0-runs, again-runs}
 use Rattle.junior.proofs.Exists.{repeat1-runs, await-runs, when0-runs, if0-runs, until*-runs, until0-runs, control-runs}
 use Rattle.junior.proofs.Exists.{pass-exists}

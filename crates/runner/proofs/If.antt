@@ -15,8 +15,8 @@ use Rattle.junior.specs.Trace.{Place}
 use Rattle.junior.specs.Rules.{left-first, Result, Rewrites, if-true, if-true-on, if-false, if-false-on}
 use Rattle.junior.specs.Figures.{per}
 use Rattle.junior.specs.Inside.{Going, pot}
-use Rattle.junior.proofs.Kept.{prog-fresh}
-use Rattle.junior.proofs.Going.{rest-going, fresh-at-rest}
+use Rattle.junior.proofs.Fresh.{prog-fresh, fresh-at-rest}
+use Rattle.junior.proofs.Going.{rest-going}
 use Rattle.junior.proofs.Figures.{pot-fresh}
 use Rattle.table.specs.Records.{argumentAt}
 use Rattle.table.specs.Spells.{Spells}

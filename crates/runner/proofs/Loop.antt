@@ -15,10 +15,10 @@ use Rattle.junior.specs.Trace.{Place, first}
 use Rattle.junior.specs.Rules.{r12, r4-loop, r5-loop}
 use Rattle.junior.specs.Figures.{LoopsStop, stops, per}
 use Rattle.junior.specs.Inside.{Going, pot}
-use Rattle.junior.proofs.Kept.{prog-fresh}
-use Rattle.junior.proofs.Held.{held-fresh, ends-unheld}
+use Rattle.junior.proofs.Fresh.{prog-fresh, held-fresh, fresh-at-rest}
+use Rattle.junior.proofs.Held.{ends-unheld}
 use Rattle.junior.proofs.NeverRoundTwice.{never-round-twice}
-use Rattle.junior.proofs.Going.{rest-going, fresh-at-rest}
+use Rattle.junior.proofs.Going.{rest-going}
 use Rattle.junior.proofs.Figures.{pot-fresh}
 use Rattle.state.specs.Kinds.{loop-kind}
 use Rattle.state.specs.StateBytes.{below}

@@ -18,9 +18,9 @@ use Rattle.junior.specs.Figures.{LoopsStop, figure, per}
 use Rattle.junior.specs.AtRest.{AtRest}
 use Rattle.junior.specs.Inside.{Going, pot}
 use Rattle.junior.proofs.Times.{below-most}
-use Rattle.junior.proofs.Kept.{prog-fresh}
+use Rattle.junior.proofs.Fresh.{prog-fresh, fresh-at-rest}
 use Rattle.junior.proofs.Held.{ends-unheld}
-use Rattle.junior.proofs.Going.{rest-going, fresh-at-rest}
+use Rattle.junior.proofs.Going.{rest-going}
 use Rattle.junior.proofs.Figures.{pot-at-rest, pot-again}
 use Rattle.table.specs.Records.{word, argumentAt}
 use Rattle.table.specs.Spells.{valueIn, capIn, Spells}

@@ -17,8 +17,8 @@ use Rattle.junior.specs.Trace.{Place, Act, first, second}
 use Rattle.junior.specs.Rules.{left-first, Result, answers, under, after, Rewrites, r4, r4-on, r5, r19-on, r31-on, if-false-on}
 use Rattle.junior.specs.Figures.{LoopsStop, per}
 use Rattle.junior.specs.Inside.{Going, pot}
-use Rattle.junior.proofs.Kept.{prog-fresh}
-use Rattle.junior.proofs.Going.{rest-going, fresh-at-rest}
+use Rattle.junior.proofs.Fresh.{prog-fresh, fresh-at-rest}
+use Rattle.junior.proofs.Going.{rest-going}
 use Rattle.junior.proofs.Figures.{pot-fresh}
 use Rattle.table.specs.Records.{sizeAt}
 use Rattle.table.specs.Spells.{Spells}

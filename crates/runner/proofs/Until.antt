@@ -20,8 +20,9 @@ use Rattle.junior.specs.Trace.{Place, decided, first, collect}
 use Rattle.junior.specs.Rules.{left-first, Result, after, Rewrites, r29, r30, r31, r31-on, r32, r33, r34}
 use Rattle.junior.specs.Figures.{LoopsStop, per}
 use Rattle.junior.specs.Inside.{Going, pot}
-use Rattle.junior.proofs.Kept.{prog-fresh, kept}
-use Rattle.junior.proofs.Going.{rest-going, fresh-at-rest, stands}
+use Rattle.junior.proofs.Fresh.{prog-fresh, fresh-at-rest}
+use Rattle.junior.proofs.Kept.{kept}
+use Rattle.junior.proofs.Going.{rest-going, stands}
 use Rattle.junior.proofs.Figures.{pot-fresh}
 use Rattle.table.specs.Records.{sizeAt}
 use Rattle.table.specs.Spells.{Spells}

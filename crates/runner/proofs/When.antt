@@ -21,8 +21,8 @@ use Rattle.junior.specs.Trace.{Place, decided, first, collect}
 use Rattle.junior.specs.Rules.{left-first, Result, under, after, Rewrites, r17, r17-on, r18, r19, r19-on, r20, r21, if-true-on}
 use Rattle.junior.specs.Figures.{per}
 use Rattle.junior.specs.Inside.{Going, pot}
-use Rattle.junior.proofs.Kept.{prog-fresh}
-use Rattle.junior.proofs.Going.{rest-going, fresh-at-rest}
+use Rattle.junior.proofs.Fresh.{prog-fresh, fresh-at-rest}
+use Rattle.junior.proofs.Going.{rest-going}
 use Rattle.junior.proofs.Figures.{pot-fresh}
 use Rattle.table.specs.Records.{sizeAt}
 use Rattle.table.specs.Spells.{Spells}

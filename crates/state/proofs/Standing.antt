@@ -16,8 +16,7 @@ use Rattle.junior.specs.Program.{control, local, Two, seq, par, when, until, if
 use Rattle.junior.specs.Term.{Term, done, prog, fresh}
 use Rattle.junior.specs.Term
 use Rattle.junior.specs.AtRest.{AtRest, Over}
-use Rattle.junior.proofs.Kept.{prog-fresh}
-use Rattle.junior.proofs.Going.{fresh-at-rest}
+use Rattle.junior.proofs.Fresh.{prog-fresh, fresh-at-rest}
 use Rattle.table.specs.Records.{byte, nodes, kindAt, argumentAt, secondAt}
 use Rattle.table.specs.Spells.{Spells, treeOf}
 use Rattle.table.specs.Inside.{Placed}
