@@ -1,2 +1,3 @@
+-- The laws, each file named after its subject.
 pub mod Words
 pub mod Pairs

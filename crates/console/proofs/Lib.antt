@@ -1,1 +1,2 @@
+-- The law of what is moved to the front.
 pub mod MovedToFront

@@ -1,3 +1,4 @@
+-- The laws, each file named after its subject.
 pub mod Lines
 pub mod Lists
 pub mod Once

@@ -1,3 +1,4 @@
+-- The laws, each file named after its subject.
 pub mod Named
 pub mod WaitLine
 pub mod StandsUnder

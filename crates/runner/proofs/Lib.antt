@@ -1,3 +1,4 @@
+-- The laws, each file named after its subject.
 pub mod Falling
 pub mod Seq
 pub mod Par

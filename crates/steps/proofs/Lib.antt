@@ -1,3 +1,4 @@
+-- The laws, each file named after its subject.
 pub mod FlagTables
 pub mod Children
 pub mod Done

@@ -1,1 +1,2 @@
+-- The law of the program that prints.
 pub mod Printing

@@ -1,1 +1,2 @@
+-- The law of the program that reads.
 pub mod Expecting

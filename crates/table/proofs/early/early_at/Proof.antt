@@ -1,3 +1,4 @@
+-- `table::early::early_at` meets its contract: an event is only early true, a negation turns its part's, the others join theirs.
 use Rattle.table.proofs.early.early_at.Statement.{statement}
 use Rattle.table.proofs.early.early_at.Tie as tie
 use borrow.Author.Needs.{needs}

@@ -1,3 +1,4 @@
+-- `table::early::early_of` meets its contract: the row's entry at the node's argument, 0 behind the row.
 use Rattle.table.proofs.early.early_of.Statement.{statement}
 use Rattle.table.proofs.early.early_of.Tie as tie
 use borrow.Author.Needs.{needs}

@@ -1,3 +1,4 @@
+-- `table::early::find_early` meets its contract: from configuration j on the row has when each can be decided early.
 use Rattle.table.proofs.early.find_early.Statement.{statement}
 use Rattle.table.proofs.early.find_early.Tie as tie
 use borrow.Author.Needs.{needs}

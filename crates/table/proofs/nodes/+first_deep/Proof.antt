@@ -1,3 +1,4 @@
+-- `table::nodes::first_deep` meets its contract, by the measure of its calls of itself.
 mod Measures
 mod FirstDeep
 use Rattle.table.proofs.nodes.+first_deep.{statement}

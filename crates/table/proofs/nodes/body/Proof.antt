@@ -1,3 +1,4 @@
+-- `table::nodes::body` meets its contract: a node of one part takes that part's place, with its weight, if its record is good.
 use Rattle.table.proofs.nodes.body.Statement.{statement}
 use Rattle.table.proofs.nodes.body.Tie as tie
 use borrow.Author.Needs.{needs}

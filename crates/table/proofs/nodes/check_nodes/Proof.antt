@@ -1,3 +1,4 @@
+-- `table::nodes::check_nodes` meets its contract: refusals 5 to 8 in their order; record 0 of another size than N is bad.
 use Rattle.table.proofs.nodes.check_nodes.Statement.{statement}
 use Rattle.table.proofs.nodes.check_nodes.Tie as tie
 use mathlib.Core.Path.{sym, _∙_}

@@ -1,3 +1,4 @@
+-- `table::nodes::check_tests_known` meets its contract: from the last node to i all are good and wait; then height, Loops, figures.
 use Rattle.table.proofs.nodes.check_tests_known.Statement.{statement}
 use Rattle.table.proofs.nodes.check_tests_known.Tie as tie
 use borrow.Author.Needs.{needs}

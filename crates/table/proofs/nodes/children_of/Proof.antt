@@ -1,3 +1,4 @@
+-- `table::nodes::children_of` meets its contract: the row of numbers is the definition's, and a kind behind it has none.
 use borrow.Author.Needs.{needs}
 use Rattle.table.specs.Good.{children}
 use Rattle.table.proofs.Judged.{no-children}

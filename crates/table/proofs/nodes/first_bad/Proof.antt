@@ -1,3 +1,4 @@
+-- `table::nodes::first_bad` meets its contract: all records before i are good.
 use Rattle.table.proofs.nodes.first_bad.Statement.{statement}
 use Rattle.table.proofs.nodes.first_bad.Tie as tie
 use borrow.Author.Needs.{needs}

@@ -1,3 +1,4 @@
+-- `table::nodes::good_as` meets its contract: what is asked of a node of a known kind, one thing after the other.
 use Rattle.table.proofs.nodes.good_as.Statement.{statement}
 use Rattle.table.proofs.nodes.good_as.Tie as tie
 use borrow.Author.Needs.{needs}

@@ -1,3 +1,4 @@
+-- `table::nodes::keep_endless` meets its contract: the place behind the weights has i if it is a Loop whose body doesn't stop.
 use borrow.Author.Needs.{needs}
 use borrow.Author.Tests.{eq-eqb, ne-eqb}
 use Rattle.table.proofs.nodes.keep_endless.Statement.{statement}

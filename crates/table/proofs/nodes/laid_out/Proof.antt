@@ -1,3 +1,4 @@
+-- `table::nodes::laid_out` meets its contract: the sizes of the parts, which stand within the table, add up.
 use Rattle.table.proofs.nodes.laid_out.Statement.{statement}
 use Rattle.table.proofs.nodes.laid_out.Tie as tie
 use borrow.Author.Needs.{needs}

@@ -1,3 +1,4 @@
+-- `table::nodes::leaf` meets its contract: a node without parts waits on top of the others, if there is a place and its record is good.
 use Rattle.table.proofs.nodes.leaf.Statement.{statement}
 use Rattle.table.proofs.nodes.leaf.Tie as tie
 use borrow.Author.Needs.{needs}

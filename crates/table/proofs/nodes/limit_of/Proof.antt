@@ -1,3 +1,4 @@
+-- `table::nodes::limit_of` meets its contract: the limits of all kinds, in a row, are those of the definition.
 use borrow.Author.Needs.{needs}
 use Rattle.table.proofs.Judged.{limit-by, no-argument}
 use Rattle.table.proofs.nodes.limit_of.Statement.{statement}

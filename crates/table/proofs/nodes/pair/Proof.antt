@@ -1,3 +1,4 @@
+-- `table::nodes::pair` meets its contract: a node of two parts takes their two places, with what they weigh together, if its record is good.
 use Rattle.table.proofs.nodes.pair.Statement.{statement}
 use Rattle.table.proofs.nodes.pair.Tie as tie
 use borrow.Author.Needs.{needs}

@@ -1,3 +1,4 @@
+-- `table::nodes::place` meets its contract, kind by kind: a good record takes up its parts and waits, any other answers 0.
 use mathlib.Core.Bool.{false≢true}
 use mathlib.Core.Path.{refl, sym, _∙_}
 use native.Mathlib.Omega.{arith}

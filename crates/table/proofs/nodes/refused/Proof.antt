@@ -1,3 +1,4 @@
+-- `table::nodes::refused` meets its contract: the lowest record that isn't good, or where all are, the first node that is too deep.
 use Rattle.table.proofs.nodes.refused.Statement.{statement}
 use Rattle.table.proofs.nodes.refused.Tie as tie
 use borrow.Author.Needs.{needs}

@@ -1,3 +1,4 @@
+-- `table::nodes::weighed` meets its contract: refused where a figure is above its most, and else accepted with the three.
 use borrow.Author.Needs.{needs}
 use borrow.Author.Tests.{le-leb, lt-leb}
 use Rattle.table.proofs.nodes.weighed.Statement.{statement}

@@ -1,3 +1,4 @@
+-- `table::weights::count_times` meets its contract: the product of two capped numbers doesn't run over, and is capped again.
 use Rattle.table.proofs.weights.count_times.Statement.{statement}
 use Rattle.table.proofs.weights.count_times.Tie as tie
 use borrow.Author.Needs.{needs}

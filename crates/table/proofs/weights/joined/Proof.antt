@@ -1,3 +1,4 @@
+-- `table::weights::joined` meets its contract: When and If weigh as the heavier part, the others as both; and when each stops.
 use Rattle.table.proofs.weights.joined.Statement.{statement}
 use Rattle.table.proofs.weights.joined.Tie as tie
 use borrow.Author.Needs.{needs}

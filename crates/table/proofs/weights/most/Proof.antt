@@ -1,3 +1,4 @@
+-- `table::weights::most` meets its contract: the larger of the two parts' figures, and the node itself.
 use borrow.Author.Needs.{needs}
 use Rattle.table.proofs.weights.most.Statement.{statement}
 use Rattle.table.proofs.weights.most.Tie as tie

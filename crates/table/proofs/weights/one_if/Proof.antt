@@ -1,3 +1,4 @@
+-- `table::weights::one_if` meets its contract: 1 where the two are the same, else 0.
 use Rattle.table.proofs.weights.one_if.Statement.{statement}
 use Rattle.table.proofs.weights.one_if.Tie as tie
 use borrow.Author.Tests.{eq-eqb, ne-eqb}

@@ -1,3 +1,4 @@
+-- `table::weights::put_weight` meets its contract: the five numbers, each in its row of 64.
 use borrow.Author.Needs.{needs}
 use Rattle.table.specs.Inside.Weighing.{put}
 use Rattle.table.proofs.weights.put_weight.Statement.{statement}

@@ -1,3 +1,4 @@
+-- `table::weights::repeated` meets its contract: each figure c times, the node itself and its level one more.
 use borrow.Author.Needs.{needs}
 use Rattle.table.proofs.weights.repeated.Statement.{statement}
 use Rattle.table.proofs.weights.repeated.Tie as tie

@@ -1,3 +1,4 @@
+-- `table::weights::single` meets its contract: a Generate has one generation, an Atom one atom, and each is one node of height 1.
 use Rattle.table.proofs.Weighed.{single-weighs}
 use borrow.Author.Needs.{needs}
 use Rattle.table.proofs.weights.single.Statement.{statement}

@@ -1,3 +1,4 @@
+-- `table::weights::stops_alone` meets its contract: a Stop stops, and an Await that can't be early true.
 use Rattle.table.proofs.Weighed.{single-stops}
 use borrow.Author.Needs.{needs}
 use mathlib.Core.Path.{_∙_}

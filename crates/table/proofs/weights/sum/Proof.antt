@@ -1,3 +1,4 @@
+-- `table::weights::sum` meets its contract: the two parts' figures together, and the node itself.
 use borrow.Author.Needs.{needs}
 use Rattle.table.proofs.weights.sum.Statement.{statement}
 use Rattle.table.proofs.weights.sum.Tie as tie

@@ -1,3 +1,4 @@
+-- `table::weights::times_of` meets its contract: a body that stops counts at most twice, and none counts 65,536 times.
 use native.Mathlib.Omega.{arith}
 use borrow.Author.Tests.{eq-eqb, ne-eqb}
 use borrow.Author.Needs.{needs}

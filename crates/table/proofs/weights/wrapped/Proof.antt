@@ -1,3 +1,4 @@
+-- `table::weights::wrapped` meets its contract: a Loop, a Repeat and a RepeatExt count their part as often as their figure does, any other once.
 use mathlib.Core.Path.{sym, _∙_}
 use Rattle.table.proofs.Weighed.{loop-weighs, never-weighs, repeat-weighs, capped-weighs, under-weighs}
 use borrow.Author.Needs.{needs}

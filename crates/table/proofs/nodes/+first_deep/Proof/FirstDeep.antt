@@ -1,3 +1,4 @@
+-- `first_deep` meets its contract: the first node deeper than 64 in preorder, its own part first, then the second one's.
 use Rattle.table.proofs as proofs
 use proofs.nodes.+first_deep.Lts-first_deep as lts
 use proofs.nodes.first_deep.Reads.{Pre, Post}
