@@ -33,7 +33,6 @@ closed-requires c κs =
 -- return true;
 returns : tie.Need-returns Inv-loop μ-loop
 returns c j b =
-    let start = c .before .before .before .before .before .before in
     let loop = c .before .before .before .before .loop in
     let parts-good = c .before .before .before .parts-good in
     let if1 = c .before .before .if1 in
@@ -72,7 +71,6 @@ loop-less c =
 
 loop-again : tie.Need-loop-again Inv-loop μ-loop
 loop-again c j b =
-    let start = c .before .before .before .before .before .before .before in
     let loop = c .before .before .before .before .before .loop in
     let parts-good = c .before .before .before .before .parts-good in
     let if1 = c .before .before .before .if1 in

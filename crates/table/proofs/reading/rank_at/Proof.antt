@@ -81,12 +81,9 @@ returns-2 c =
 -- loop {
 loop-less : tie.Need-loop-less Inv-loop μ-loop
 loop-less c =
-    let start = c .before .before .before .before .before .before .before .before .before .before .before in
     let loop = c .before .before .before .before .before .before .before .loop in
     let part-kind2 = c .before .before .before .before .before .before .part-kind2 in
     let if2 = c .before .before .before .before .before .if2 in
-    let part-event2 = c .before .before .before .before .part-event2 in
-    let event-rank2 = c .before .before .before .event-rank2 in
     let after-part = c .before .before .after-part in
     let if3 = c .if3 in
     let kind = sym (part-kind2 .ensures .0) ∙ if2 .taken in
