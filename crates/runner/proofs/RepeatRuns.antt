@@ -294,8 +294,10 @@ module _ {table : List ℕ} {i : ℕ} {state m row : List ℕ} (on : getD state 
     module _ (some : turns ≢ 0) where
       pub repeat-turn : CanRun 0 (OfKind repeat-kind) (lent table state m row) i
           → CanRun 4 (Times (turns - 1)) (lent table state m row) i × (getD state (4 * i + 1) 0 ≡ 0)
-      repeat-turn (before, part, behind, o) =
-          ((before, part, behind, turn-stands (inl refl) on (λ p t w h z. repeat-begins w h z) o is some), turn-no-flags (inl refl) on (λ p t w h z. repeat-begins w h z) o is some)
+      repeat-turn (before, part, behind, o) = (
+        (before, part, behind, turn-stands (inl refl) on (λ p t w h z. repeat-begins w h z) o is some),
+        turn-no-flags (inl refl) on (λ p t w h z. repeat-begins w h z) o is some,
+      )
 
       pub repeat-by : {L′ : Lent} {r : ℕ} → HasRun 4 (Times (turns - 1)) (lent table state m row) i L′ r
           → HasRun 0 (OfKind repeat-kind) (lent table state m row) i L′ r
@@ -308,8 +310,10 @@ module _ {table : List ℕ} {i : ℕ} {state m row : List ℕ} (on : getD state 
     module _ (some : turns ≢ 0) where
       pub ext-turn : CanRun 0 (OfKind repeat-ext-kind) (lent table state m row) i
           → CanRun 4 (Times (turns - 1)) (lent table state m row) i × (getD state (4 * i + 1) 0 ≡ 0)
-      ext-turn (before, part, behind, o) =
-          ((before, part, behind, turn-stands (inr refl) on (λ p t w h z. ext-begins w h z) o is some), turn-no-flags (inr refl) on (λ p t w h z. ext-begins w h z) o is some)
+      ext-turn (before, part, behind, o) = (
+        (before, part, behind, turn-stands (inr refl) on (λ p t w h z. ext-begins w h z) o is some),
+        turn-no-flags (inr refl) on (λ p t w h z. ext-begins w h z) o is some,
+      )
 
       pub ext-by : {L′ : Lent} {r : ℕ} → HasRun 4 (Times (turns - 1)) (lent table state m row) i L′ r
           → HasRun 0 (OfKind repeat-ext-kind) (lent table state m row) i L′ r

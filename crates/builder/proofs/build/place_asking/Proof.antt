@@ -10,15 +10,19 @@ use Rattle.builder.proofs.PlacedByFunctions.{asking-capped, asking-bran
 place-capped-requires : tie.Need-place-capped-requires
 place-capped-requires c κs =
     let start = c .before .before .before .before in
-    let if1 = c .before .if1 in
-    (start .pre .0, ready-in (λ n m s h. asking-capped (start .args .behind) (start .args .kind) (drop (start .args .i) (start .args .text .now)) s (if1 .taken)) (start .pre .1))
+    let if1 = c .before .if1 in (
+      start .pre .0,
+      ready-in (λ n m s h. asking-capped (start .args .behind) (start .args .kind) (drop (start .args .i) (start .args .text .now)) s (if1 .taken))
+          (start .pre .1),
+    )
 
 returns : tie.Need-returns
 returns c =
     let start = c .before .before .before .before .before .before .before in
     let if1 = c .before .before .before .before .if1 in
     let place-capped = c .before .before .place-capped in
-    places-in (λ n m s h. asking-capped (start .args .behind) (start .args .kind) (drop (start .args .i) (start .args .text .now)) s (if1 .taken)) (place-capped .ensures)
+    places-in (λ n m s h. asking-capped (start .args .behind) (start .args .kind) (drop (start .args .i) (start .args .text .now)) s (if1 .taken))
+    (place-capped .ensures)
 
 -- place_branches(kind, argument, table, front)
 place-branches-requires : tie.Need-place-branches-requires
@@ -26,7 +30,8 @@ place-branches-requires c κs =
     let start = c .before .before .before .before .before in
     let if1 = c .before .before .if1 in
     let number-at = c .before .number-at in
-    ready-in (λ n m s h. asking-branches (start .args .behind) (start .args .kind) (drop (start .args .i) (start .args .text .now)) s (number-at .result) (if1 .left) (number-at .ensures)) (start .pre .1)
+    ready-in (λ n m s h. asking-branches (start .args .behind) (start .args .kind) (drop (start .args .i) (start .args .text .now)) s
+    (number-at .result) (if1 .left) (number-at .ensures)) (start .pre .1)
 
 -- fn place_asking
 returns-2 : tie.Need-returns-2
@@ -35,7 +40,8 @@ returns-2 c =
     let if1 = c .before .before .before .before .before .if1 in
     let number-at = c .before .before .before .before .number-at in
     let place-branches = c .before .before .place-branches in
-    places-in (λ n m s h. asking-branches (start .args .behind) (start .args .kind) (drop (start .args .i) (start .args .text .now)) s (number-at .result) (if1 .left) (number-at .ensures)) (place-branches .ensures)
+    places-in (λ n m s h. asking-branches (start .args .behind) (start .args .kind) (drop (start .args .i) (start .args .text .now)) s
+    (number-at .result) (if1 .left) (number-at .ensures)) (place-branches .ensures)
 
 pub place-asking-spec : {M : Type 1} → statement M
 place-asking-spec =

@@ -108,7 +108,8 @@ returns-4 c =
     let code5 = c .before .before .before .before .code5 in
     let place-asking = c .before .before .place-asking in
     places-in (λ m n s h. form-asking (start .args .kind) (start .args .end) (start .pre .1 .0 .0) (drop (start .args .i) (start .args .text .now)) s
-    (λ e. if1 .left (code .ensures ∙ e)) (λ e. if2 .left (code2 .ensures ∙ e)) (sym (code4 .ensures) ∙ if4 .taken) (code5 .result) (code5 .ensures)) (place-asking .ensures)
+    (λ e. if1 .left (code .ensures ∙ e)) (λ e. if2 .left (code2 .ensures ∙ e)) (sym (code4 .ensures) ∙ if4 .taken) (code5 .result) (code5 .ensures))
+    (place-asking .ensures)
 
 -- place_single(names, kind, end, text, i, table, front)
 place-single-requires : tie.Need-place-single-requires

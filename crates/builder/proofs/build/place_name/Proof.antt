@@ -33,7 +33,13 @@ place-form-requires c κs =
       start .pre .0,
       (
         (rw (kind-of-form .ensures .0, form-of-kind (form-named .result)) (e .0), e .1),
-        (omega (arith, e .1), ready-in (λ n m s h. name-here (start .args .text .now) (form-named .result) (kind-of-form .result) (2 + (name-end .result - 20 * (6 + form-named .result))) s (form-named .ensures .0) (kind-of-form .ensures .0) (behind-is (form-named .result) (name-end .result) (name-end .ensures .0))) (start .pre .1)),
+        (
+          omega (arith, e .1),
+          ready-in (λ n m s h. name-here (start .args .text .now) (form-named .result) (kind-of-form .result)
+              (2 + (name-end .result - 20 * (6 + form-named .result))) s
+              (form-named .ensures .0) (kind-of-form .ensures .0) (behind-is (form-named .result) (name-end .result) (name-end .ensures .0)))
+              (start .pre .1),
+        ),
       ),
     )
 
@@ -45,7 +51,8 @@ returns c =
     let name-end = c .before .before .before .before .before .name-end in
     let kind-of-form = c .before .before .before .before .kind-of-form in
     let place-form = c .before .before .place-form in
-    places-in (λ n m s h. name-here (start .args .text .now) (form-named .result) (kind-of-form .result) (2 + (name-end .result - 20 * (6 + form-named .result))) s
+    places-in (λ n m s h. name-here (start .args .text .now) (form-named .result) (kind-of-form .result)
+    (2 + (name-end .result - 20 * (6 + form-named .result))) s
     (form-named .ensures .0) (kind-of-form .ensures .0) (behind-is (form-named .result) (name-end .result) (name-end .ensures .0))) (place-form .ensures)
 
 pub place-name-spec : {M : Type 1} → statement M

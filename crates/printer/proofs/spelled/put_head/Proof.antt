@@ -100,7 +100,8 @@ element-copy-out-put-link-2 c =
 
 put-link-requires : tie.Need-put-link-requires
 put-link-requires c κs =
-    let start = c .before .before .before .before .before .before .before .before .before .before .before .before .before .before .before .before .before .before in
+    let start = c .before .before .before .before .before .before .before .before .before .before .before .before .before
+    .before .before .before .before .before in
     let kind-at = c .before .before .before .before .before .before .before .before .before .before .before .before .before .before .before .kind-at in
     let form-of-kind = c .before .before .before .before .before .before .before .before .before .before .before .before .before .before .form-of-kind in
     let name-end = c .before .before .before .before .before .before .before .before .before .before .before .before .before .name-end in
@@ -114,10 +115,14 @@ put-link-requires c κs =
 -- fn put_head
 returns : tie.Need-returns
 returns c =
-    let start = c .before .before .before .before .before .before .before .before .before .before .before .before .before .before .before .before .before .before .before .before .before in
-    let kind-at = c .before .before .before .before .before .before .before .before .before .before .before .before .before .before .before .before .before .before .kind-at in
-    let form-of-kind = c .before .before .before .before .before .before .before .before .before .before .before .before .before .before .before .before .before .form-of-kind in
-    let name-end = c .before .before .before .before .before .before .before .before .before .before .before .before .before .before .before .before .name-end in
+    let start = c .before .before .before .before .before .before .before .before .before .before .before .before .before
+    .before .before .before .before .before .before .before .before in
+    let kind-at = c .before .before .before .before .before .before .before .before .before .before .before .before
+    .before .before .before .before .before .before .kind-at in
+    let form-of-kind = c .before .before .before .before .before .before .before .before .before .before .before .before
+    .before .before .before .before .before .form-of-kind in
+    let name-end = c .before .before .before .before .before .before .before .before .before .before .before .before
+    .before .before .before .before .name-end in
     let put-opening = c .before .before .before .before .before .before .before .before .before .before .before .before .before .before .put-opening in
     let put-argument = c .before .before .before .before .before .before .before .before .put-argument in
     let put-link = c .before .before .put-link in

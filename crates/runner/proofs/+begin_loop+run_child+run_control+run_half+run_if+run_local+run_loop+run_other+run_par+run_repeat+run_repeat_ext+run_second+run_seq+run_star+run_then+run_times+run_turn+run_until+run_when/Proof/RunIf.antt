@@ -13,6 +13,7 @@ use mathlib.Core.Path.{refl}
 use lib.Dec.{lit<}
 use Rattle.steps.proofs.Ended.{done-run}
 use Rattle.steps.proofs.Dispatch.{argument-reads, kind-reads, phase-reads, to-kind, by-kind}
+use proofs.Indices.{own-fits}
 use Rattle.runner.proofs.Falling.{lower-rank, lighter, form-rank, last-rank}
 use proofs.SeqRuns.{to-second, by-second}
 use proofs.WhenRuns.{then-first, then-below, then-writes-in, then-done}
@@ -84,7 +85,7 @@ module _ (t : ℕ) where
       let if3 = c .before .before .before .before .before .if3 in
       let run-if = c .before .run-if in
       let phase-after = c .phase-after in
-      (by-first (if2 .taken) (then-done (by-kind (kind-at .ensures .0) (if3 .taken) (run-if .ensures .0)) (phase-after .ensures)), search needs)
+      (by-first (if2 .taken) (then-done (by-kind (kind-at .ensures .0) (if3 .taken) (run-if .ensures .0)) (phase-after .ensures)), run-if .ensures .1)
 
   -- return run_then(table, i, state, numbers, atoms);
   run-then-requires : Of lts.Need-run-then-requires
@@ -144,8 +145,10 @@ module _ (t : ℕ) where
       let argument-at = c .before .before .before .before .before .before .argument-at in
       let value-of = c .before .before .before .before .before .value-of in
       let if5 = c .before .before .before .before .if5 in
-      let run-second2 = c .run-second2 in
-      (if-second (if1 .left) (if2 .left) (if4 .left) (argument-at .ensures .0) (value-of .ensures) (if5 .taken) (run-second2 .ensures .0), run-second2 .ensures .1)
+      let run-second2 = c .run-second2 in (
+        if-second (if1 .left) (if2 .left) (if4 .left) (argument-at .ensures .0) (value-of .ensures) (if5 .taken) (run-second2 .ensures .0),
+        run-second2 .ensures .1,
+      )
 
   -- run_then(table, i, state, numbers, atoms)
   run-then-requires-2 : Of lts.Need-run-then-requires-2
@@ -170,9 +173,9 @@ module _ (t : ℕ) where
 
   pub closed : {M : Type 1} → lts.Closed given (exactly lts.ps μ-run-if Pre t) Post M
   closed = lts.spec given (exactly lts.ps μ-run-if Pre t) Post
-      (λ c. search needs)  -- mul-phase: let phase = state[4 * i];
+      (λ c. own-fits (c .pre .1))  -- mul-phase: let phase = state[4 * i];
       (λ c. phase-reads (c .pre .1))  -- index-1-phase
-      (λ c. search needs)  -- mul-state: state[4 * i] = 0;
+      (λ c. own-fits (c .before .before .pre .1))  -- mul-state: state[4 * i] = 0;
       (λ c. phase-reads (c .before .before .pre .1))  -- index-1-state
       (λ c. (done-run (c .if1 .taken), (refl, refl)))  -- returns: return TERM;
       (λ c. search needs)  -- add-kind-at: if kind_at(*table, i + 1) == kinds::IF {

@@ -3,7 +3,8 @@ use Rattle.runner.proofs as proofs
 use proofs.+begin_loop+run_child+run_control+run_half+run_if+run_local+run_loop+run_other+run_par+run_repeat+run_repeat_ext+run_second+run_seq+run_star+run_then+run_times+run_turn+run_until+run_when as cycle
 use cycle.Lts-run_other as lts
 use proofs.run_other.Reads.{Pre, Post}
-use cycle.Proof.Measures.{exactly, smaller, μ-run-control, μ-run-if, μ-run-local, μ-run-loop, μ-run-other, μ-run-repeat, μ-run-repeat-ext, μ-run-until, μ-run-when}
+use cycle.Proof.Measures.{exactly, smaller, μ-run-control, μ-run-if, μ-run-local, μ-run-loop, μ-run-other}
+use cycle.Proof.Measures.{μ-run-repeat, μ-run-repeat-ext, μ-run-until, μ-run-when}
 use Rattle.table.proofs.records.kind_at.Reads as kind-at-reads
 use borrow.Fn.Kinds.{In, Out}
 use Prim.Native.Nat.{ℕ}
