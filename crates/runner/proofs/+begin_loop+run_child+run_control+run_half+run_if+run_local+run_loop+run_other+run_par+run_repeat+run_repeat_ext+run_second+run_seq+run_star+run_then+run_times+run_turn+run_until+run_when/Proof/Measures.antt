@@ -1,16 +1,9 @@
 -- What falls with each call of the cycle: the nodes of the subtree, then the rank of the function.
 use Rattle.runner.proofs as proofs
-use borrow.Fn.Kinds.{In, PK}
-use borrow.Fn.PlainCycle.{Measures, is, falls, and}
-use mathlib.Core.List.{List}
-use Prim.Native.Nat.{ℕ, _<_}
+use borrow.Fn.PlainCycle.{Measures}
+pub use Rattle.events.proofs.Measured.{exactly, smaller}
+use Prim.Native.Nat.{ℕ}
 use Rattle.runner.proofs.Falling.{weigh, turn-rank, child-rank, other-rank, form-rank, stage-rank, last-rank}
-
-abbrev pub exactly : {n : ℕ} (ps : List (PK n)) → Measures n ps ℕ → In n ps → ℕ → In n ps
-exactly {n} ps μ Pre t = and n ps (is n ps μ t) Pre
-
-abbrev pub smaller : {n : ℕ} (ps : List (PK n)) → Measures n ps ℕ → In n ps → ℕ → In n ps
-smaller {n} ps μ Pre t = and n ps (falls n ps _<_ μ t) Pre
 
 abbrev pub μ-begin-loop : Measures 7 proofs.begin_loop.Kinds.ps ℕ
 μ-begin-loop κs a = weigh (a .0 .now .now) (a .1 .0) last-rank

@@ -1,14 +1,8 @@
+-- What falls with each call of `first_deep` in itself: the levels that are left down to depth 65.
 use Rattle.table.proofs as proofs
-use borrow.Fn.Kinds.{In, PK}
-use borrow.Fn.PlainCycle.{Measures, is, falls, and}
-use mathlib.Core.List.{List}
-use Prim.Native.Nat.{ℕ, _<_, _-_}
-
-abbrev pub exactly : {n : ℕ} (ps : List (PK n)) → Measures n ps ℕ → In n ps → ℕ → In n ps
-exactly {n} ps μ Pre t = and n ps (is n ps μ t) Pre
-
-abbrev pub smaller : {n : ℕ} (ps : List (PK n)) → Measures n ps ℕ → In n ps → ℕ → In n ps
-smaller {n} ps μ Pre t = and n ps (falls n ps _<_ μ t) Pre
+use borrow.Fn.PlainCycle.{Measures}
+pub use Rattle.events.proofs.Measured.{exactly, smaller}
+use Prim.Native.Nat.{ℕ, _-_}
 
 abbrev pub μ-first-deep : Measures 1 proofs.nodes.first_deep.Kinds.ps ℕ
 μ-first-deep κs a = 65 - a .1 .1 .0
