@@ -21,50 +21,14 @@ use Rattle.table.proofs.Laid.{both, Laid, none, one, two, laid}
 use Rattle.table.proofs.Parts.{of-none, of-one, of-two}
 
 -- the kinds that there are
-pub data Kind : ℕ → Type 0 where
-  k0 : Kind 0
-  k1 : Kind 1
-  k2 : Kind 2
-  k3 : Kind 3
-  k4 : Kind 4
-  k5 : Kind 5
-  k6 : Kind 6
-  k7 : Kind 7
-  k8 : Kind 8
-  k9 : Kind 9
-  k10 : Kind 10
-  k11 : Kind 11
-  k12 : Kind 12
-  k14 : Kind 14
-  k15 : Kind 15
-
-pub kind-below : (k : ℕ) → k ≤ 15 → k ≢ 13 → Kind k
-kind-below zero h n = k0
-kind-below (suc zero) h n = k1
-kind-below (suc (suc zero)) h n = k2
-kind-below (suc (suc (suc zero))) h n = k3
-kind-below (suc (suc (suc (suc zero)))) h n = k4
-kind-below (suc (suc (suc (suc (suc zero))))) h n = k5
-kind-below (suc (suc (suc (suc (suc (suc zero)))))) h n = k6
-kind-below (suc (suc (suc (suc (suc (suc (suc zero))))))) h n = k7
-kind-below (suc (suc (suc (suc (suc (suc (suc (suc zero)))))))) h n = k8
-kind-below (suc (suc (suc (suc (suc (suc (suc (suc (suc zero))))))))) h n = k9
-kind-below (suc (suc (suc (suc (suc (suc (suc (suc (suc (suc zero)))))))))) h n = k10
-kind-below (suc (suc (suc (suc (suc (suc (suc (suc (suc (suc (suc zero))))))))))) h n = k11
-kind-below (suc (suc (suc (suc (suc (suc (suc (suc (suc (suc (suc (suc zero)))))))))))) h n = k12
-kind-below (suc (suc (suc (suc (suc (suc (suc (suc (suc (suc (suc (suc (suc zero))))))))))))) h n = absurd (n refl)
-kind-below (suc (suc (suc (suc (suc (suc (suc (suc (suc (suc (suc (suc (suc (suc zero)))))))))))))) h n = k14
-kind-below (suc (suc (suc (suc (suc (suc (suc (suc (suc (suc (suc (suc (suc (suc (suc zero))))))))))))))) h n = k15
-kind-below (suc (suc (suc (suc (suc (suc (suc (suc (suc (suc (suc (suc (suc (suc (suc (suc k)))))))))))))))) h n = absurd (omega arith)
-
-known-kind : (k : ℕ) → known k ≡ true → Kind k
-known-kind k h =
+known-low : (k : ℕ) → known k ≡ true → (k ≤ 15) × (k ≢ 13)
+known-low k h =
     let (below, other) = both {a = leb k 15} {b = not (eqb k 13)} h in
-    kind-below k (leb-true k 15 below) (λ e. false≢true (rw (eq-eqb k 13 e) at other))
+    (leb-true k 15 below, λ e. false≢true (rw (eq-eqb k 13 e) at other))
 
 -- what a good record says
 pub record Fine (t : List ℕ) (i k : ℕ) : Type 0 where
-  pub known : Kind k
+  pub known-kind : known k ≡ true
   pub argument-below : argumentAt t i < argumentLimit t k
   pub laid-out : Laid (sizeAt t) (nodes t) i (children k)
   pub root : (ltb 0 i || eqb (sizeAt t i) (nodes t)) ≡ true
@@ -79,7 +43,7 @@ fine t i k e g =
     rw
     (← e)
     (record {
-      known = known-kind _ (h .0);
+      known-kind = h .0;
       argument-below = ltb-true _ _ (a .0);
       laid-out = laid _ _ _ _ (l .0);
       root = l .1;
@@ -106,30 +70,39 @@ module _ (t : List ℕ)
     (spelled : (j : ℕ) → j < configurations t
     → Configured t (configurationAt t j) (configurationOf t 16 (configurationAt t j)))
   where
-    formed : (i : ℕ) (p q : Program) (k : ℕ) → Kind k
+    formed : (i : ℕ) (p q : Program) (k : ℕ) → k ≤ 15 → k ≢ 13
         → Formed t i p q k (form k (argumentAt t i) (configurationOf t 16 (tested t i)) p q)
     unfolding form kind children argumentLimit
-    formed i p q k k0 = record { of-kind = refl; shape = leaf-form nothing; argued = λ h. tt }
-    formed i p q k k1 = record { of-kind = refl; shape = leaf-form stop; argued = λ h. tt }
-    formed i p q k k2 = record { of-kind = refl; shape = leaf-form (atom _); argued = λ h. refl }
-    formed i p q k k3 = record { of-kind = refl; shape = two-form (seq p q); argued = λ h. tt }
-    formed i p q k k4 = record { of-kind = refl; shape = two-form (par p q); argued = λ h. tt }
-    formed i p q k k5 = record { of-kind = refl; shape = one-form (loop p); argued = λ h. tt }
-    formed i p q k k6 = record { of-kind = refl; shape = one-form (repeat _ p); argued = λ h. refl }
-    formed i p q k k7 = record { of-kind = refl; shape = leaf-form (generate _); argued = λ h. refl }
-    formed i p q k k8 = record { of-kind = refl; shape = leaf-form (await _); argued = spelled _ }
-    formed i p q k k9 = record { of-kind = refl; shape = two-form (when _ p q); argued = spelled _ }
-    formed i p q k k10 = record { of-kind = refl; shape = two-form (until _ p q); argued = spelled _ }
-    formed i p q k k11 = record { of-kind = refl; shape = one-form (control _ p); argued = λ h. refl }
-    formed i p q k k12 = record { of-kind = refl; shape = one-form (local _ p); argued = λ h. refl }
-    formed i p q k k14 = record { of-kind = refl; shape = two-form (if _ p q); argued = λ h. refl }
-    formed i p q k k15 = record { of-kind = refl; shape = one-form (repeat _ p); argued = λ h. (refl, refl) }
+    formed i p q zero h n = record { of-kind = refl; shape = leaf-form nothing; argued = λ h. tt }
+    formed i p q (suc zero) h n = record { of-kind = refl; shape = leaf-form stop; argued = λ h. tt }
+    formed i p q (suc (suc zero)) h n = record { of-kind = refl; shape = leaf-form (atom _); argued = λ h. refl }
+    formed i p q (suc (suc (suc zero))) h n = record { of-kind = refl; shape = two-form (seq p q); argued = λ h. tt }
+    formed i p q (suc (suc (suc (suc zero)))) h n = record { of-kind = refl; shape = two-form (par p q); argued = λ h. tt }
+    formed i p q (suc (suc (suc (suc (suc zero))))) h n = record { of-kind = refl; shape = one-form (loop p); argued = λ h. tt }
+    formed i p q (suc (suc (suc (suc (suc (suc zero)))))) h n = record { of-kind = refl; shape = one-form (repeat _ p); argued = λ h. refl }
+    formed i p q (suc (suc (suc (suc (suc (suc (suc zero))))))) h n = record { of-kind = refl; shape = leaf-form (generate _); argued = λ h. refl }
+    formed i p q (suc (suc (suc (suc (suc (suc (suc (suc zero)))))))) h n = record { of-kind = refl; shape = leaf-form (await _); argued = spelled _ }
+    formed i p q (suc (suc (suc (suc (suc (suc (suc (suc (suc zero))))))))) h n = record { of-kind = refl; shape = two-form (when _ p q); argued = spelled _ }
+    formed i p q (suc (suc (suc (suc (suc (suc (suc (suc (suc (suc zero)))))))))) h n =
+        record { of-kind = refl; shape = two-form (until _ p q); argued = spelled _ }
+    formed i p q (suc (suc (suc (suc (suc (suc (suc (suc (suc (suc (suc zero))))))))))) h n =
+        record { of-kind = refl; shape = one-form (control _ p); argued = λ h. refl }
+    formed i p q (suc (suc (suc (suc (suc (suc (suc (suc (suc (suc (suc (suc zero)))))))))))) h n =
+        record { of-kind = refl; shape = one-form (local _ p); argued = λ h. refl }
+    formed i p q (suc (suc (suc (suc (suc (suc (suc (suc (suc (suc (suc (suc (suc zero))))))))))))) h n = absurd (n refl)
+    formed i p q (suc (suc (suc (suc (suc (suc (suc (suc (suc (suc (suc (suc (suc (suc zero)))))))))))))) h n =
+        record { of-kind = refl; shape = two-form (if _ p q); argued = λ h. refl }
+    formed i p q (suc (suc (suc (suc (suc (suc (suc (suc (suc (suc (suc (suc (suc (suc (suc zero))))))))))))))) h n =
+        record { of-kind = refl; shape = one-form (repeat _ p); argued = λ h. (refl, refl) }
+    formed i p q (suc (suc (suc (suc (suc (suc (suc (suc (suc (suc (suc (suc (suc (suc (suc (suc k)))))))))))))))) h n =
+        absurd (omega arith)
 
     grown-at : (f i : ℕ) → ((j : ℕ) → i < j → j < nodes t → Grown t j (programOf t f j)) → i < nodes t → (k : ℕ)
         → kindAt t i ≡ k → Fine t i k → Grown t i (programOf t (suc f) i)
     unfolding programOf Spells
     grown-at f i below l k e g =
-        let o = formed i (programOf t f (i + 1)) (programOf t f (secondAt t i)) k (g .known) in
+        let n = known-low k (g .known-kind) in
+        let o = formed i (programOf t f (i + 1)) (programOf t f (secondAt t i)) k (n .0) (n .1) in
         rw e (go (e ∙ sym (o .of-kind)) (o .argued (g .argument-below)) (o .shape) (g .laid-out))
       where
         go : {c : ℕ} {F : Program} → kindAt t i ≡ kind F → Argues t i (argument F)

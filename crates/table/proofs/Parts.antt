@@ -7,12 +7,12 @@ use native.Mathlib.Omega.{arith}
 use lib.Dec.{eqb, leb, eqb·suc-zero}
 use borrow.Author.Tests.{le-leb}
 use Rattle.junior.specs.Configuration.{Config, early-true, early-false}
-use Rattle.junior.specs.Program.{Program, Nothing, Stop, Atom, Seq, Par, Loop, Repeat, Generate, Await, When, Until}
-use Rattle.junior.specs.Program.{Control, Local, If, Argument, no-argument, number, event, configuration, value, capped, argument, kind}
+use Rattle.junior.specs.Program.{Program, Loop}
+use Rattle.junior.specs.Program.{Argument, no-argument, number, event, configuration, value, capped, argument, kind}
 use Rattle.junior.specs.Values.{exactly, asked}
 use Rattle.junior.specs.Program.{Leaf, nothing, stop, atom, generate, await, One, loop, repeat, control, local}
 use Rattle.junior.specs.Program.{Two, seq, par, when, until, if, Parts, no-part, one-part, two-parts, parts, sizeOf, size}
-use Rattle.junior.specs.Figures.{only-if, stops, figure, times, per}
+use Rattle.junior.specs.Figures.{only-if, stops, LoopsStop, figure, times, per}
 use Rattle.junior.proofs.Parts.{parts-none, parts-one, parts-two, only-parts}
 use Rattle.table.specs.Records.{configurations, events}
 use Rattle.table.specs.Good.{known, children, argumentLimit}
@@ -40,27 +40,6 @@ pub record ByKind (p : Program) : Type 0 where
   pub known-kind : known (kind p) ≡ true
   pub count-is : children (kind p) ≡ partCount (parts p)
   pub limit-is : (t : List ℕ) → argumentLimit t (kind p) ≡ limitOf t (argument p)
-
-pub by-kind : (p : Program) → ByKind p
-unfolding kind children argumentLimit
-by-kind Nothing = record { known-kind = refl; count-is = refl; limit-is = λ t. refl }
-by-kind Stop = record { known-kind = refl; count-is = refl; limit-is = λ t. refl }
-by-kind (Atom a) = record { known-kind = refl; count-is = refl; limit-is = λ t. refl }
-by-kind (Seq p q) = record { known-kind = refl; count-is = refl; limit-is = λ t. refl }
-by-kind (Par p q) = record { known-kind = refl; count-is = refl; limit-is = λ t. refl }
-by-kind (Loop p) = record { known-kind = refl; count-is = refl; limit-is = λ t. refl }
-by-kind (Repeat (exactly n) p) = record { known-kind = refl; count-is = refl; limit-is = λ t. refl }
-by-kind (Repeat (asked v cap) p) = record { known-kind = refl; count-is = refl; limit-is = λ t. refl }
-by-kind (Generate s) = record { known-kind = refl; count-is = refl; limit-is = λ t. refl }
-by-kind (Await c) = record { known-kind = refl; count-is = refl; limit-is = λ t. refl }
-by-kind (When c p q) = record { known-kind = refl; count-is = refl; limit-is = λ t. refl }
-by-kind (Until c p q) = record { known-kind = refl; count-is = refl; limit-is = λ t. refl }
-by-kind (Control s p) = record { known-kind = refl; count-is = refl; limit-is = λ t. refl }
-by-kind (Local s p) = record { known-kind = refl; count-is = refl; limit-is = λ t. refl }
-by-kind (If v p q) = record { known-kind = refl; count-is = refl; limit-is = λ t. refl }
-
-pub children-are : {p : Program} (v : Parts p) → children (kind p) ≡ partCount v
-children-are {p} v = by-kind p .count-is ∙ ap partCount (only-parts v)
 
 abbrev node : ℕ → Program → Node
 node d p = record { depth = d; part = p }
@@ -119,43 +98,190 @@ then-spared {e} s h = rw (h .true-is, never-true e) (spared (eqb e 0) s)
 else-spared : {e : ℕ} {c : Config} (s : Bool) → Earliness e c → only-if (early-false c) s ≡ (s || eqb e 2)
 else-spared {e} s h = rw (h .false-is, never-false e (h .most)) (spared (eqb e 2) s)
 
+-- all that is said of each form, by its parts: what its kind says, its figures, that its Loops stop, and that it weighs nothing
+record NoneForm (p : Program) : Type 0 where
+  its-kind : ByKind p
+  figures : (e : ℕ) → FiguresOfNone e p
+  loops : LoopsStop p
+
+record OneForm (p q : Program) : Type 0 where
+  its-kind : ByKind p
+  figures : (a : ℕ) → Counts a p → FiguresOfOne a p q
+  loop-is : kind p ≡ 5 → p ≡ Loop q
+  loops : (kind p ≡ 5 → stops q ≡ true) → LoopsStop q → LoopsStop p
+  weightless : (k : Program → ℕ) → k p ≡ 0 → figure k q ≡ 0 → figure k p ≡ 0
+
+record TwoForm (p q r : Program) : Type 0 where
+  its-kind : ByKind p
+  figures : (e : ℕ) → FiguresOfTwo e p q r
+  loops : LoopsStop q → LoopsStop r → LoopsStop p
+  weightless : (k : Program → ℕ) → k p ≡ 0 → figure k q ≡ 0 → figure k r ≡ 0 → figure k p ≡ 0
+
+none-form : {p : Program} → Leaf p → NoneForm p
+unfolding figure stops kind children argumentLimit LoopsStop
+none-form nothing =
+    record {
+      its-kind = record { known-kind = refl; count-is = refl; limit-is = λ t. refl };
+      figures = λ e. record { figure-is = λ k. refl; stops-is = λ h. refl };
+      loops = tt;
+    }
+none-form stop =
+    record {
+      its-kind = record { known-kind = refl; count-is = refl; limit-is = λ t. refl };
+      figures = λ e. record { figure-is = λ k. refl; stops-is = λ h. refl };
+      loops = tt;
+    }
+none-form (atom a) =
+    record {
+      its-kind = record { known-kind = refl; count-is = refl; limit-is = λ t. refl };
+      figures = λ e. record { figure-is = λ k. refl; stops-is = λ h. refl };
+      loops = tt;
+    }
+none-form (generate s) =
+    record {
+      its-kind = record { known-kind = refl; count-is = refl; limit-is = λ t. refl };
+      figures = λ e. record { figure-is = λ k. refl; stops-is = λ h. refl };
+      loops = tt;
+    }
+none-form (await c) =
+    record {
+      its-kind = record { known-kind = refl; count-is = refl; limit-is = λ t. refl };
+      figures =
+          λ e. record { figure-is = λ k. refl; stops-is = λ h. rw (h .early (omega arith) (omega arith) c refl .true-is) (never-true e) };
+      loops = tt;
+    }
+
+one-form : {p q : Program} → One p q → OneForm p q
+unfolding figure stops kind children argumentLimit LoopsStop
+one-form (loop p) =
+    record {
+      its-kind = record { known-kind = refl; count-is = refl; limit-is = λ t. refl };
+      figures = λ a e. record { figure-is = λ k. refl; stops-is = refl; no-generation = refl; no-atom = refl };
+      loop-is = λ e. refl;
+      loops = λ s l. (s refl, l);
+      weightless = λ k o z. rw (o, z) (omega arith);
+    }
+one-form (repeat (exactly n) p) =
+    record {
+      its-kind = record { known-kind = refl; count-is = refl; limit-is = λ t. refl };
+      figures = λ a e. rw (e .same n refl) (record { figure-is = λ k. refl; stops-is = refl; no-generation = refl; no-atom = refl });
+      loop-is = λ e. absurd (omega arith);
+      loops = λ s l. l;
+      weightless = λ k o z. rw (o, z) (omega arith);
+    }
+one-form (repeat (asked v m) p) =
+    record {
+      its-kind = record { known-kind = refl; count-is = refl; limit-is = λ t. refl };
+      figures = λ a e. rw (← e .cap-is v m refl) (record { figure-is = λ k. refl; stops-is = refl; no-generation = refl; no-atom = refl });
+      loop-is = λ e. absurd (omega arith);
+      loops = λ s l. l;
+      weightless = λ k o z. rw (o, z) (omega arith);
+    }
+one-form (control s p) =
+    record {
+      its-kind = record { known-kind = refl; count-is = refl; limit-is = λ t. refl };
+      figures = λ a e. record { figure-is = λ k. omega arith; stops-is = refl; no-generation = refl; no-atom = refl };
+      loop-is = λ e. absurd (omega arith);
+      loops = λ s l. l;
+      weightless = λ k o z. rw (o, z) (omega arith);
+    }
+one-form (local s p) =
+    record {
+      its-kind = record { known-kind = refl; count-is = refl; limit-is = λ t. refl };
+      figures = λ a e. record { figure-is = λ k. omega arith; stops-is = refl; no-generation = refl; no-atom = refl };
+      loop-is = λ e. absurd (omega arith);
+      loops = λ s l. l;
+      weightless = λ k o z. rw (o, z) (omega arith);
+    }
+
+two-form : {p q r : Program} → Two p q r → TwoForm p q r
+unfolding figure stops kind children argumentLimit LoopsStop
+two-form (seq p q) =
+    record {
+      its-kind = record { known-kind = refl; count-is = refl; limit-is = λ t. refl };
+      figures = λ e. record { figure-is = λ k. refl; stops-is = λ h. refl; no-generation = refl; no-atom = refl };
+      loops = λ l m. (l, m);
+      weightless = λ k o y z. rw (o, y, z) (omega arith);
+    }
+two-form (par p q) =
+    record {
+      its-kind = record { known-kind = refl; count-is = refl; limit-is = λ t. refl };
+      figures = λ e. record { figure-is = λ k. refl; stops-is = λ h. refl; no-generation = refl; no-atom = refl };
+      loops = λ l m. (l, m);
+      weightless = λ k o y z. rw (o, y, z) (omega arith);
+    }
+two-form (if v p q) =
+    record {
+      its-kind = record { known-kind = refl; count-is = refl; limit-is = λ t. refl };
+      figures = λ e. record { figure-is = λ k. refl; stops-is = λ h. refl; no-generation = refl; no-atom = refl };
+      loops = λ l m. (l, m);
+      weightless = λ k o y z. rw (o, y, z) (omega arith);
+    }
+two-form (when c p q) =
+    record {
+      its-kind = record { known-kind = refl; count-is = refl; limit-is = λ t. refl };
+      figures = λ e. record {
+        figure-is = λ k. refl;
+        stops-is = λ h. let w = h .early (omega arith) (omega arith) c refl in rw (then-spared (stops p) w, else-spared (stops q) w);
+        no-generation = refl;
+        no-atom = refl;
+      };
+      loops = λ l m. (l, m);
+      weightless = λ k o y z. rw (o, y, z) (omega arith);
+    }
+two-form (until c p q) =
+    record {
+      its-kind = record { known-kind = refl; count-is = refl; limit-is = λ t. refl };
+      figures = λ e. record {
+        figure-is = λ k. refl;
+        stops-is = λ h. let w = h .early (omega arith) (omega arith) c refl in rw (then-spared (stops q) w);
+        no-generation = refl;
+        no-atom = refl;
+      };
+      loops = λ l m. (l, m);
+      weightless = λ k o y z. rw (o, y, z) (omega arith);
+    }
+
+kind-of : {p : Program} → Parts p → ByKind p
+kind-of (no-part f) = none-form f .its-kind
+kind-of (one-part f v) = one-form f .its-kind
+kind-of (two-parts f v w) = two-form f .its-kind
+
+pub by-kind : (p : Program) → ByKind p
+by-kind p = kind-of (parts p)
+
+pub children-are : {p : Program} (v : Parts p) → children (kind p) ≡ partCount v
+children-are {p} v = by-kind p .count-is ∙ ap partCount (only-parts v)
+
 pub figures-of-none : {e : ℕ} {p : Program} → Leaf p → FiguresOfNone e p
-unfolding figure stops kind
-figures-of-none nothing = record { figure-is = λ k. refl; stops-is = λ h. refl }
-figures-of-none stop = record { figure-is = λ k. refl; stops-is = λ h. refl }
-figures-of-none (atom a) = record { figure-is = λ k. refl; stops-is = λ h. refl }
-figures-of-none (generate s) = record { figure-is = λ k. refl; stops-is = λ h. refl }
-figures-of-none {e = e} (await c) =
-    record { figure-is = λ k. refl; stops-is = λ h. rw (h .early (omega arith) (omega arith) c refl .true-is) (never-true e) }
+figures-of-none {e} f = none-form f .figures e
 
 pub figures-of-one : {a : ℕ} {p q : Program} → One p q → Counts a p → FiguresOfOne a p q
-unfolding figure stops kind
-figures-of-one (loop p) e = record { figure-is = λ k. refl; stops-is = refl; no-generation = refl; no-atom = refl }
-figures-of-one (repeat (exactly n) p) e = rw (e .same n refl) (record { figure-is = λ k. refl; stops-is = refl; no-generation = refl; no-atom = refl })
-figures-of-one (repeat (asked v m) p) e =
-    rw (← e .cap-is v m refl) (record { figure-is = λ k. refl; stops-is = refl; no-generation = refl; no-atom = refl })
-figures-of-one (control s p) e = record { figure-is = λ k. omega arith; stops-is = refl; no-generation = refl; no-atom = refl }
-figures-of-one (local s p) e = record { figure-is = λ k. omega arith; stops-is = refl; no-generation = refl; no-atom = refl }
+figures-of-one {a} f e = one-form f .figures a e
 
 pub figures-of-two : {e : ℕ} {p q r : Program} → Two p q r → FiguresOfTwo e p q r
-unfolding figure stops kind
-figures-of-two (seq p q) = record { figure-is = λ k. refl; stops-is = λ h. refl; no-generation = refl; no-atom = refl }
-figures-of-two (par p q) = record { figure-is = λ k. refl; stops-is = λ h. refl; no-generation = refl; no-atom = refl }
-figures-of-two (when c p q) =
-    record {
-      figure-is = λ k. refl;
-      stops-is = λ h. let w = h .early (omega arith) (omega arith) c refl in rw (then-spared (stops p) w, else-spared (stops q) w);
-      no-generation = refl;
-      no-atom = refl;
-    }
-figures-of-two (until c p q) =
-    record {
-      figure-is = λ k. refl;
-      stops-is = λ h. let w = h .early (omega arith) (omega arith) c refl in rw (then-spared (stops q) w);
-      no-generation = refl;
-      no-atom = refl;
-    }
-figures-of-two (if v p q) = record { figure-is = λ k. refl; stops-is = λ h. refl; no-generation = refl; no-atom = refl }
+figures-of-two {e} f = two-form f .figures e
+
+-- a program of kind 5 is a Loop
+pub loop-of-kind : {p q : Program} → One p q → kind p ≡ 5 → p ≡ Loop q
+loop-of-kind f = one-form f .loop-is
+
+-- every Loop's body stops, if those of the parts do, and if it is a Loop its own
+pub loops-of-none : {p : Program} → Leaf p → LoopsStop p
+loops-of-none f = none-form f .loops
+
+pub loops-of-one : {p q : Program} → One p q → (kind p ≡ 5 → stops q ≡ true) → LoopsStop q → LoopsStop p
+loops-of-one f = one-form f .loops
+
+pub loops-of-two : {p q r : Program} → Two p q r → LoopsStop q → LoopsStop r → LoopsStop p
+loops-of-two f = two-form f .loops
+
+-- it weighs nothing, if its node and its parts don't
+pub weightless-one : {p q : Program} → One p q → (k : Program → ℕ) → k p ≡ 0 → figure k q ≡ 0 → figure k p ≡ 0
+weightless-one f = one-form f .weightless
+
+pub weightless-two : {p q r : Program} → Two p q r → (k : Program → ℕ) → k p ≡ 0 → figure k q ≡ 0 → figure k r ≡ 0 → figure k p ≡ 0
+weightless-two f = two-form f .weightless
 
 -- what goes by the parts alone
 pub record OfNone (p : Program) : Type 0 where
