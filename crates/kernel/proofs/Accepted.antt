@@ -1,14 +1,12 @@
 -- What an accepted table is known to have.
 use Prim.Native.Nat.{ℕ, suc, _+_, _≤_}
-use mathlib.Core.Bool.{Bool, true, false, cond, not}
+use mathlib.Core.Bool.{Bool, true, false, cond, not, _&&_}
 use mathlib.Core.Path.{_≡_, refl, ap, sym, _∙_}
 use mathlib.Core.List.{List, [], _++_, append-assoc, append-nil}
 use native.Mathlib.Omega.{arith}
-use lib.Dec.{ltb, leb}
-use borrow.Author.Tests.{leb-true, ltb-false}
-use Rattle.junior.specs.Values.{exactly, asked}
-use Rattle.junior.specs.Program.{Program, Nothing, Stop, Atom, Seq, Par, Loop, Repeat, Generate, Await, When, Until}
-use Rattle.junior.specs.Program.{Control, Local, If, size, kind}
+use lib.Dec.{eqb, ltb, leb}
+use borrow.Author.Tests.{eq-eqb, leb-true, ltb-false, not-false}
+use Rattle.junior.specs.Program.{Program, One, Parts, no-part, one-part, two-parts, parts, size, kind}
 use Rattle.junior.specs.Figures.{stops, LoopsStop, G, A, W}
 use Rattle.table.specs.declared.Checked.{Checked}
 use Rattle.table.specs.declared.Checked.the-variants.{TooDeep, EndlessLoop, TooHeavy, Accepted}
@@ -17,6 +15,7 @@ use Rattle.table.specs.Spells.{treeOf}
 use Rattle.table.specs.Verdict.{Node, preorder, firstSuch, deep, endless, light, programVerdict, verdictOf, numberOf}
 use Rattle.table.specs.Inside.{Loaded, Placed}
 use Rattle.table.proofs.Laid.{both}
+use Rattle.table.proofs.Parts.{of-none, of-one, of-two, loops-of-none, loops-of-one, loops-of-two}
 use Rattle.table.proofs.Loaded.{whole-placed, all-nodes}
 use Rattle.table.proofs.Accepted.{chosen, passed, accepted}
 
@@ -36,30 +35,28 @@ clean-two d p q f g k m h =
     let (b, y) = g k m x in
     ((a, b), y)
 
-loops-stop : (p : Program) (d : ℕ) → Clean d p
-unfolding size kind preorder firstSuch LoopsStop
-loops-stop Nothing d k m h = (tt, omega arith)
-loops-stop Stop d k m h = (tt, omega arith)
-loops-stop (Atom a) d k m h = (tt, omega arith)
-loops-stop (Seq p q) d k m h = clean-two (suc d) p q (loops-stop p (suc d)) (loops-stop q (suc d)) k m h
-loops-stop (Par p q) d k m h = clean-two (suc d) p q (loops-stop p (suc d)) (loops-stop q (suc d)) k m h
-loops-stop (Loop p) d k m h = go (stops p) refl (loops-stop p (suc d) k m) h
-  where
-    go : (b : Bool) → stops p ≡ b
-        → (size p + k ≤ firstSuch endless (preorder (suc d) p ++ m) → LoopsStop p × (k ≤ firstSuch endless m))
-        → 1 + size p + k ≤ cond (not b) 0 (suc (firstSuch endless (preorder (suc d) p ++ m)))
-        → ((stops p ≡ true) × LoopsStop p) × (k ≤ firstSuch endless m)
-    go true e f h = let (a, x) = f (omega arith) in ((e, a), x)
-    go false e f h = absurd (omega arith)
-loops-stop (Repeat (exactly n) p) d k m h = loops-stop p (suc d) k m (omega arith)
-loops-stop (Repeat (asked v cap) p) d k m h = loops-stop p (suc d) k m (omega arith)
-loops-stop (Generate s) d k m h = (tt, omega arith)
-loops-stop (Await c) d k m h = (tt, omega arith)
-loops-stop (When c p q) d k m h = clean-two (suc d) p q (loops-stop p (suc d)) (loops-stop q (suc d)) k m h
-loops-stop (Until c p q) d k m h = clean-two (suc d) p q (loops-stop p (suc d)) (loops-stop q (suc d)) k m h
-loops-stop (Control s p) d k m h = loops-stop p (suc d) k m (omega arith)
-loops-stop (Local s p) d k m h = loops-stop p (suc d) k m (omega arith)
-loops-stop (If v p q) d k m h = clean-two (suc d) p q (loops-stop p (suc d)) (loops-stop q (suc d)) k m h
+clean-one : {p q : Program} → One p q → (d : ℕ) → Clean d q → (k : ℕ) (m : List Node) (b : Bool) → (eqb (kind p) 5 && not (stops q)) ≡ b
+    → 1 + size q + k ≤ cond b 0 (suc (firstSuch endless (preorder d q ++ m)))
+    → LoopsStop p × (k ≤ firstSuch endless m)
+clean-one f d g k m true e h = absurd (omega arith)
+clean-one {q = q} f d g k m false e h =
+    let (a, x) = g k m (omega arith) in
+    (loops-of-one f (λ is. not-false (stops q) (rw (eq-eqb _ 5 is) at e)) a, x)
+
+loops-stop : {p : Program} (v : Parts p) (d : ℕ) → Clean d p
+unfolding firstSuch
+loops-stop (no-part f) d k m h =
+    let o = of-none f in
+    let h′ = rw (o .nodes-are d, o .size-is, o .endless-is) at h in
+    (loops-of-none f, omega arith)
+loops-stop (one-part f v) d k m h =
+    let o = of-one f in
+    clean-one f (suc d) (loops-stop v (suc d)) k m _ refl (rw (o .nodes-are d, o .size-is, o .endless-is) at h)
+loops-stop (two-parts {q = q} {r = r} f v w) d k m h =
+    let o = of-two f in
+    let h′ = rw (o .nodes-are d, o .size-is, o .endless-is) at h in
+    let ((a, b), x) = clean-two (suc d) q r (loops-stop v (suc d)) (loops-stop w (suc d)) k m h′ in
+    (loops-of-two f a b, x)
 
 -- what the program of an accepted table has
 record Allowed (p : Program) (g a w : ℕ) : Type 0 where
@@ -85,7 +82,7 @@ allowed p {g} {a} {w} h =
     let few-A = both {a = leb (A p) 4096} (few-G .1) in
     let past = ltb-false (firstSuch endless (preorder 1 p)) (size p) (loop-one .0) in
     record {
-      loops = loops-stop p 1 0 [] (rw (append-nil (preorder 1 p)) (omega arith)) .0;
+      loops = loops-stop (parts p) 1 0 [] (rw (append-nil (preorder 1 p)) (omega arith)) .0;
       G-is = cc;
       A-is = cc;
       W-is = cc;

@@ -8,13 +8,12 @@ use native.Mathlib.Nat.{le-of-lt}
 use native.Mathlib.Omega.{arith}
 use lib.Dec.{eqb, ltb, leb}
 use lib.ListN.{length}
-use borrow.Author.Tests.{leb-true, leb-false, ltb-true, le-leb, lt-leb, lt-ltb, eqb-false, ne-eqb, not-true}
+use borrow.Author.Tests.{leb-true, leb-false, ltb-true, le-leb, lt-leb, lt-ltb, eqb-true, eqb-false, ne-eqb, not-true}
 use borrow.Author.Tests.{not-false}
 use Rattle.events.specs.Events.{Events, lowest}
 use Rattle.events.specs.Members.{places}
 use Rattle.events.proofs.Events.{before-lowest, at-lowest, lowest-is}
-use Rattle.junior.specs.Values.{exactly, asked}
-use Rattle.junior.specs.Program.{Program, Loop, loop, repeat, control, local, Parts, no-part, one-part, two-parts, parts, size, kind}
+use Rattle.junior.specs.Program.{Program, Loop, Parts, no-part, one-part, two-parts, parts, size, kind}
 use Rattle.junior.specs.Figures.{stops, G, A, W}
 use Rattle.table.specs.declared.Checked.the-variants.{BadLength, BadCounts, BadDistances, BadConfiguration, BadNode}
 use Rattle.table.specs.declared.Checked.the-variants.{TooDeep, EndlessLoop, TooHeavy}
@@ -24,6 +23,7 @@ use Rattle.table.specs.Spells.{treeOf}
 use Rattle.table.specs.Verdict.{lengthGood, countsGood, distancesGood, Node, preorder, firstSuch, deep, endlessParts}
 use Rattle.table.specs.Verdict.{endless, light, numberOf, indexOf}
 use Rattle.table.proofs.Laid.{both}
+use Rattle.table.proofs.Parts.{loop-of-kind}
 use Rattle.table.proofs.Order.{length-preorder}
 use Rattle.state.specs.Resting.{rests, blamed}
 use Rattle.kernel.specs.declared.Outcome.{Outcome}
@@ -187,13 +187,10 @@ deep-test : Tests (λ x. 64 < x .depth) deep
 deep-test = record { sound = λ x e. ltb-true 64 (x .depth) e; whole = λ x h. lt-ltb 64 (x .depth) h }
 
 endless-so : {p : Program} (v : Parts p) → endlessParts v ≡ true → (q : Program) × (p ≡ Loop q) × (stops q ≡ false)
-unfolding kind
 endless-so (no-part f) e = absurd (false≢true e)
-endless-so (one-part (loop q) v) e = (q, refl, not-true (stops q) e)
-endless-so (one-part (repeat (exactly n) q) v) e = absurd (false≢true e)
-endless-so (one-part (repeat (asked n cap) q) v) e = absurd (false≢true e)
-endless-so (one-part (control s q) v) e = absurd (false≢true e)
-endless-so (one-part (local s q) v) e = absurd (false≢true e)
+endless-so {p} (one-part {q = q} f v) e =
+    let so = both {a = eqb (kind p) 5} e in
+    (q, loop-of-kind f (eqb-true (kind p) 5 (so .0)), not-true (stops q) (so .1))
 endless-so (two-parts f v w) e = absurd (false≢true e)
 
 endless-test : Tests Endless endless
