@@ -12,6 +12,8 @@ pub mod When
 pub mod Until
 pub mod If
 pub mod GoesOn
+pub mod Names
+pub mod Indices
 pub mod WhenRuns
 pub mod UntilRuns
 pub mod IfRuns

@@ -38,4 +38,4 @@ module _ (t : ℕ) where
       run-child-requires
       (λ c. search needs)  -- mul-state: state[4 * i] = BEGUN;
       index-1-state
-      (λ c. (loop-begun (c .run-child .ensures .0), search needs))  -- returns: f
+      (λ c. (loop-begun (c .run-child .ensures .0), c .run-child .ensures .1))  -- returns: f

@@ -13,6 +13,7 @@ use lib.Dec.{lit<}
 use Rattle.steps.proofs.Tested.{both-zero, not-both-zero}
 use Rattle.steps.proofs.Dispatch.{kind-reads, phase-reads, own-reads, to-kind, by-kind, to-both, by-both, to-half, by-half, to-others, by-others}
 use Rattle.steps.proofs.Awaits.{await-tests}
+use proofs.Indices.{own-fits}
 use Rattle.runner.proofs.Falling.{lower-rank, child-rank, other-rank, form-rank}
 
 module _ (t : ℕ) where
@@ -161,9 +162,9 @@ module _ (t : ℕ) where
   pub closed : {M : Type 1} → lts.Closed given (exactly lts.ps μ-run-child Pre t) Post M
   closed = lts.spec given (exactly lts.ps μ-run-child Pre t) Post
       (λ c κs. kind-reads (c .before .pre .1))  -- kind-at-requires: let kind = kind_at(*table, i);
-      (λ c. search needs)  -- mul-both-suspended: if both_suspended(state[4 * i], state[4 * i + FLAG..
+      (λ c. own-fits (c .before .before .before .pre .1))  -- mul-both-suspended: if both_suspended(state[4 * i], state[4 * i + FLAG..
       (λ c. phase-reads (c .before .before .before .pre .1))  -- index-1-both-suspended
-      (λ c. search needs)  -- mul-both-suspended-2
+      (λ c. own-fits (c .before .before .before .before .pre .1))  -- mul-both-suspended-2
       (λ c. search needs)  -- add-both-suspended
       (λ c. own-reads (c .before .before .before .before .pre .1) 1 (lit< tt))  -- index-1-both-suspended-2
       (λ c κs. tt)  -- both-suspended-requires
@@ -171,7 +172,7 @@ module _ (t : ℕ) where
       returns
       run-half-requires
       returns-2
-      (λ c. search needs)  -- mul-lone-event: if lone_event(*table, i, state[4 * i], numbers) {
+      (λ c. own-fits (c .before .before .before .before .before .pre .1))  -- mul-lone-event: if lone_event(*table, i, state[4 * i], numbers) {
       (λ c. phase-reads (c .before .before .before .before .before .pre .1))  -- index-1-lone-event
       lone-event-requires
       run-lone-requires

@@ -13,6 +13,7 @@ use borrow.Author.Needs.{needs}
 use mathlib.Core.Path.{refl, sym, _∙_}
 use Rattle.steps.proofs.Ended.{done-run}
 use Rattle.steps.proofs.Dispatch.{phase-reads, argument-reads, kind-reads, by-kind}
+use proofs.Indices.{own-fits}
 use proofs.ControlRuns.{control-body, control-nested, control-run, control-idle}
 
 module _ (t : ℕ) where
@@ -73,7 +74,7 @@ module _ (t : ℕ) where
       let run-control = c .run-control in
       let here = sym (marked .ensures) ∙ if2 .taken in
       let body = by-kind (kind-at .ensures .0) (if3 .taken) (run-control .ensures .0) in
-      (control-run (if1 .left) (argument-at .ensures .0) here body, search needs)
+      (control-run (if1 .left) (argument-at .ensures .0) here body, run-control .ensures .1)
 
   -- return run_child(table, i + 1, state, numbers, atoms);
   run-child-requires : Of lts.Need-run-child-requires
@@ -92,7 +93,7 @@ module _ (t : ℕ) where
       let marked = c .before .before .before .before .before .before .before .before .marked in
       let if2 = c .before .before .before .before .before .before .before .if2 in
       let run-child = c .run-child in
-      (control-run (if1 .left) (argument-at .ensures .0) (sym (marked .ensures) ∙ if2 .taken) (run-child .ensures .0), search needs)
+      (control-run (if1 .left) (argument-at .ensures .0) (sym (marked .ensures) ∙ if2 .taken) (run-child .ensures .0), run-child .ensures .1)
 
   -- fn run_control
   returns-4 : Of lts.Need-returns-4
@@ -105,9 +106,9 @@ module _ (t : ℕ) where
 
   pub closed : {M : Type 1} → lts.Closed given (exactly lts.ps μ-run-control Pre t) Post M
   closed = lts.spec given (exactly lts.ps μ-run-control Pre t) Post
-      (λ c. search needs)  -- mul-if1: if state[4 * i] == GONE {
+      (λ c. own-fits (c .pre .1))  -- mul-if1: if state[4 * i] == GONE {
       (λ c. phase-reads (c .pre .1))  -- index-1-if1
-      (λ c. search needs)  -- mul-state: state[4 * i] = 0;
+      (λ c. own-fits (c .before .before .pre .1))  -- mul-state: state[4 * i] = 0;
       (λ c. phase-reads (c .before .before .pre .1))  -- index-1-state
       (λ c. (done-run (c .if1 .taken), (refl, refl)))  -- returns: return TERM;
       argument-at-requires

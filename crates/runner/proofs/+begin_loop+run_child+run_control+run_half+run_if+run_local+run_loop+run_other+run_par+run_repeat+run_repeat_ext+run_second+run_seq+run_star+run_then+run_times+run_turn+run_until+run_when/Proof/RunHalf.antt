@@ -14,7 +14,8 @@ use lib.Dec.{lit<}
 use native.Mathlib.Omega.{arith}
 use Rattle.steps.proofs.Tested.{half-pair}
 use Rattle.steps.proofs.Ended.{done-run}
-use Rattle.steps.proofs.Dispatch.{few-nodes, kind-reads, phase-reads, own-reads, to-half, by-half}
+use Rattle.steps.proofs.Dispatch.{kind-reads, phase-reads, own-reads, to-half, by-half}
+use proofs.Indices.{own-fits, byte-fits}
 use Rattle.runner.proofs.Falling.{lighter, child-rank, form-rank}
 use proofs.HalfRuns.{half-second-in, half-left, half-left-joins, half-left-keeps, half-left-done}
 use proofs.HalfRuns.{half-right, half-right-joins, half-right-done, half-second-few}
@@ -67,21 +68,27 @@ module _ (t : ℕ) where
   first-ran-requires : Of lts.Need-first-ran-requires
   first-ran-requires c κs =
       let start = c .before .before .before .before .before .before .before .before .before .before .before in
+      let A = start .args in
       let if1 = c .before .before .before .before .before .before .before .before .before .if1 in
       let second-at = c .before .before .before .before .before .before .second-at in
       let if2 = c .before .before .before .before .before .if2 in
       let run-child = c .before .run-child in
-      let joins = half-left-joins (if1 .left) (if2 .taken) (second-at .ensures) (run-child .ensures .0) (start .pre .1) in
-      (joins, half-left-keeps (if1 .left) (if2 .taken) (second-at .ensures) (run-child .ensures .0) (start .pre .1))
+      let joins = half-left-joins {table = A .table .now .now} {i = A .i} {state = A .state .now .now} {m = A .numbers .now} {row = A .atoms .now .now}
+      (if1 .left) (if2 .taken) (second-at .ensures) (run-child .ensures .0) (start .pre .1) in
+      (joins, half-left-keeps {table = A .table .now .now} {i = A .i} {state = A .state .now .now} {m = A .numbers .now} {row = A .atoms .now .now}
+      (if1 .left) (if2 .taken) (second-at .ensures) (run-child .ensures .0) (start .pre .1))
 
   returns-2 : Of lts.Need-returns-2
   returns-2 c =
+      let start = c .before .before .before .before .before .before .before .before .before .before .before .before in
+      let A = start .args in
       let if1 = c .before .before .before .before .before .before .before .before .before .before .if1 in
       let second-at = c .before .before .before .before .before .before .before .second-at in
       let if2 = c .before .before .before .before .before .before .if2 in
       let run-child = c .before .before .run-child in
       let first-ran = c .first-ran in
-      (half-left-done (if1 .left) (if2 .taken) (second-at .ensures) (run-child .ensures .0) (first-ran .ensures), search needs)
+      (half-left-done {table = A .table .now .now} {i = A .i} {state = A .state .now .now} {m = A .numbers .now} {row = A .atoms .now .now}
+      (if1 .left) (if2 .taken) (second-at .ensures) (run-child .ensures .0) (first-ran .ensures), run-child .ensures .1)
 
   -- kind_at(*table, second),
   kind-at-requires : Of lts.Need-kind-at-requires
@@ -99,7 +106,7 @@ module _ (t : ℕ) where
       let if1 = c .before .before .before .before .before .before .if1 in
       let second-at = c .before .before .before .second-at in
       let if2 = c .before .before .if2 in
-      omega (arith, few-nodes (half-right (if1 .left) (if2 .left) (second-at .ensures) (start .pre .1) .1))
+      own-fits (half-right (if1 .left) (if2 .left) (second-at .ensures) (start .pre .1) .1)
 
   index-1-half-par : Of lts.Need-index-1-half-par
   index-1-half-par c =
@@ -116,7 +123,7 @@ module _ (t : ℕ) where
       let if1 = c .before .before .before .before .before .before .before .if1 in
       let second-at = c .before .before .before .before .second-at in
       let if2 = c .before .before .before .if2 in
-      omega (arith, few-nodes (half-right (if1 .left) (if2 .left) (second-at .ensures) (start .pre .1) .1))
+      own-fits (half-right (if1 .left) (if2 .left) (second-at .ensures) (start .pre .1) .1)
 
   add-half-par : Of lts.Need-add-half-par
   add-half-par c =
@@ -124,7 +131,7 @@ module _ (t : ℕ) where
       let if1 = c .before .before .before .before .before .before .before .if1 in
       let second-at = c .before .before .before .before .second-at in
       let if2 = c .before .before .before .if2 in
-      omega (arith, few-nodes (half-right (if1 .left) (if2 .left) (second-at .ensures) (start .pre .1) .1))
+      byte-fits (half-right (if1 .left) (if2 .left) (second-at .ensures) (start .pre .1) .1) 1 (lit< tt)
 
   index-1-half-par-2 : Of lts.Need-index-1-half-par-2
   index-1-half-par-2 c =
@@ -155,11 +162,12 @@ module _ (t : ℕ) where
       let if1 = c .before .before .before .before .before .before .before .before .before .before .before .before .before .before .before .if1 in
       let second-at = c .before .before .before .before .before .before .before .before .before .before .before .before .second-at in
       let if2 = c .before .before .before .before .before .before .before .before .before .before .before .if2 in
-      omega (arith, few-nodes (half-right (if1 .left) (if2 .left) (second-at .ensures) (start .pre .1) .1))
+      own-fits (half-right (if1 .left) (if2 .left) (second-at .ensures) (start .pre .1) .1)
 
   par-end-requires : Of lts.Need-par-end-requires
   par-end-requires c κs =
       let start = c .before .before .before .before .before .before .before .before .before .before .before .before .before .before .before .before .before in
+      let A = start .args in
       let if1 = c .before .before .before .before .before .before .before .before .before .before .before .before .before .before .before .if1 in
       let second-at = c .before .before .before .before .before .before .before .before .before .before .before .before .second-at in
       let if2 = c .before .before .before .before .before .before .before .before .before .before .before .if2 in
@@ -169,10 +177,15 @@ module _ (t : ℕ) where
       let run-half = c .before .run-half in
       let (k, z) = half-pair _ _ _ (sym (half-par .ensures) ∙ if3 .taken) in
       let second = by-half (kind-at .ensures .0) k z (run-half .ensures .0) in
-      half-right-joins (if1 .left) (if2 .left) (second-at .ensures) second (start .pre .1)
+      half-right-joins {table = A .table .now .now} {i = A .i} {state = A .state .now .now} {m = A .numbers .now} {row = A .atoms .now .now}
+      (if1 .left) (if2 .left) (second-at .ensures) second (start .pre .1)
 
   returns-3 : Of lts.Need-returns-3
   returns-3 c =
+      let c8 = c .before .before .before .before .before .before .before .before in
+      let c16 = c8 .before .before .before .before .before .before .before .before in
+      let start = c16 .before .before in
+      let A = start .args in
       let if1 = c .before .before .before .before .before .before .before .before .before .before .before .before .before .before .before .before .if1 in
       let second-at = c .before .before .before .before .before .before .before .before .before .before .before .before .before .second-at in
       let if2 = c .before .before .before .before .before .before .before .before .before .before .before .before .if2 in
@@ -183,7 +196,8 @@ module _ (t : ℕ) where
       let par-end = c .par-end in
       let (k, z) = half-pair _ _ _ (sym (half-par .ensures) ∙ if3 .taken) in
       let second = by-half (kind-at .ensures .0) k z (run-half .ensures .0) in
-      (half-right-done (if1 .left) (if2 .left) (second-at .ensures) second (par-end .ensures), search needs)
+      (half-right-done {table = A .table .now .now} {i = A .i} {state = A .state .now .now} {m = A .numbers .now} {row = A .atoms .now .now}
+      (if1 .left) (if2 .left) (second-at .ensures) second (par-end .ensures), run-half .ensures .1)
 
   -- let g = run_child(table, second, state, numbers, atoms);
   run-child-requires-2 : Of lts.Need-run-child-requires-2
@@ -202,36 +216,43 @@ module _ (t : ℕ) where
       let if1 = c .before .before .before .before .before .before .before .before .before .before .before .before .before .before .before .if1 in
       let second-at = c .before .before .before .before .before .before .before .before .before .before .before .before .second-at in
       let if2 = c .before .before .before .before .before .before .before .before .before .before .before .if2 in
-      omega (arith, few-nodes (half-right (if1 .left) (if2 .left) (second-at .ensures) (start .pre .1) .1))
+      own-fits (half-right (if1 .left) (if2 .left) (second-at .ensures) (start .pre .1) .1)
 
   par-end-requires-2 : Of lts.Need-par-end-requires-2
   par-end-requires-2 c κs =
       let start = c .before .before .before .before .before .before .before .before .before .before .before .before .before .before .before .before .before in
+      let A = start .args in
       let if1 = c .before .before .before .before .before .before .before .before .before .before .before .before .before .before .before .if1 in
       let second-at = c .before .before .before .before .before .before .before .before .before .before .before .before .second-at in
       let if2 = c .before .before .before .before .before .before .before .before .before .before .before .if2 in
       let run-child2 = c .before .run-child2 in
-      half-right-joins (if1 .left) (if2 .left) (second-at .ensures) (run-child2 .ensures .0) (start .pre .1)
+      half-right-joins {table = A .table .now .now} {i = A .i} {state = A .state .now .now} {m = A .numbers .now} {row = A .atoms .now .now}
+      (if1 .left) (if2 .left) (second-at .ensures) (run-child2 .ensures .0) (start .pre .1)
 
   -- fn run_half
   returns-4 : Of lts.Need-returns-4
   returns-4 c =
+      let c8 = c .before .before .before .before .before .before .before .before in
+      let c16 = c8 .before .before .before .before .before .before .before .before in
+      let start = c16 .before .before in
+      let A = start .args in
       let if1 = c .before .before .before .before .before .before .before .before .before .before .before .before .before .before .before .before .if1 in
       let second-at = c .before .before .before .before .before .before .before .before .before .before .before .before .before .second-at in
       let if2 = c .before .before .before .before .before .before .before .before .before .before .before .before .if2 in
       let run-child2 = c .before .before .run-child2 in
       let par-end2 = c .par-end2 in
-      (half-right-done (if1 .left) (if2 .left) (second-at .ensures) (run-child2 .ensures .0) (par-end2 .ensures), search needs)
+      (half-right-done {table = A .table .now .now} {i = A .i} {state = A .state .now .now} {m = A .numbers .now} {row = A .atoms .now .now}
+      (if1 .left) (if2 .left) (second-at .ensures) (run-child2 .ensures .0) (par-end2 .ensures), run-child2 .ensures .1)
 
   pub closed : {M : Type 1} → lts.Closed given (exactly lts.ps μ-run-half Pre t) Post M
   closed = lts.spec given (exactly lts.ps μ-run-half Pre t) Post
-      (λ c. search needs)  -- mul-if1: if state[4 * i] == GONE {
+      (λ c. own-fits (c .pre .1))  -- mul-if1: if state[4 * i] == GONE {
       (λ c. phase-reads (c .pre .1))  -- index-1-if1
-      (λ c. search needs)  -- mul-state: state[4 * i] = 0;
+      (λ c. own-fits (c .before .before .pre .1))  -- mul-state: state[4 * i] = 0;
       (λ c. phase-reads (c .before .before .pre .1))  -- index-1-state
       (λ c. (done-run (c .if1 .taken), (refl, refl)))  -- returns: return TERM;
-      (λ c. search needs)  -- mul-flags: let flags = state[4 * i + FLAGS];
-      (λ c. search needs)  -- add-flags
+      (λ c. own-fits (c .before .before .pre .1))  -- mul-flags: let flags = state[4 * i + FLAGS];
+      (λ c. byte-fits (c .before .before .pre .1) 1 (lit< tt))  -- add-flags
       (λ c. own-reads (c .before .before .pre .1) 1 (lit< tt))  -- index-1-flags
       second-at-requires
       (λ c. search needs)  -- add-run-child: let f = run_child(table, i + 1, state, numbers, atoms);

@@ -11,9 +11,9 @@ use Prim.Native.Nat.{ℕ}
 use borrow.Author.Needs.{needs}
 use mathlib.Core.Path.{refl}
 use lib.Dec.{lit<}
-use native.Mathlib.Omega.{arith}
 use Rattle.steps.proofs.Ended.{done-run}
-use Rattle.steps.proofs.Dispatch.{few-nodes, kind-reads, argument-reads, phase-reads, to-kind, by-kind}
+use Rattle.steps.proofs.Dispatch.{kind-reads, argument-reads, phase-reads, to-kind, by-kind}
+use proofs.Indices.{own-fits}
 use Rattle.runner.proofs.Falling.{lighter, child-rank, form-rank}
 use proofs.LocalRuns.{local-enters, local-body, local-leaves, local-flag, local-writes-in, local-done}
 
@@ -95,7 +95,7 @@ module _ (t : ℕ) where
   mul-state-2 : Of lts.Need-mul-state-2
   mul-state-2 c =
       let start = c .before .before .before .before .before .before .before .before .before .before .before .before .before .before .before .before in
-      omega (arith, few-nodes (start .pre .1))
+      own-fits (start .pre .1)
 
   index-1-state-2 : Of lts.Need-index-1-state-2
   index-1-state-2 c =
@@ -122,7 +122,7 @@ module _ (t : ℕ) where
       let sign-after = c .sign-after in
       let body = by-kind (kind-at .ensures .0) (if2 .taken) (run-local .ensures .0) in
       let (was, marked) = exchange-event .ensures in
-      (local-done (if1 .left) (argument-at .ensures .0) marked body was (exchange-event2 .ensures) (sign-after .ensures), search needs)
+      (local-done (if1 .left) (argument-at .ensures .0) marked body was (exchange-event2 .ensures) (sign-after .ensures), run-local .ensures .1)
 
   -- let f = run_child(table, i + 1, state, numbers, atoms);
   run-child-requires : Of lts.Need-run-child-requires
@@ -159,7 +159,7 @@ module _ (t : ℕ) where
   mul-state-3 : Of lts.Need-mul-state-3
   mul-state-3 c =
       let start = c .before .before .before .before .before .before .before .before .before .before .before .before .before .before .before .before in
-      omega (arith, few-nodes (start .pre .1))
+      own-fits (start .pre .1)
 
   index-1-state-3 : Of lts.Need-index-1-state-3
   index-1-state-3 c =
@@ -182,13 +182,13 @@ module _ (t : ℕ) where
       let sign-after2 = c .sign-after2 in
       let body = run-child .ensures .0 in
       let (was, marked) = exchange-event .ensures in
-      (local-done (if1 .left) (argument-at .ensures .0) marked body was (exchange-event3 .ensures) (sign-after2 .ensures), search needs)
+      (local-done (if1 .left) (argument-at .ensures .0) marked body was (exchange-event3 .ensures) (sign-after2 .ensures), run-child .ensures .1)
 
   pub closed : {M : Type 1} → lts.Closed given (exactly lts.ps μ-run-local Pre t) Post M
   closed = lts.spec given (exactly lts.ps μ-run-local Pre t) Post
-      (λ c. search needs)  -- mul-phase: let phase = state[4 * i];
+      (λ c. own-fits (c .pre .1))  -- mul-phase: let phase = state[4 * i];
       (λ c. phase-reads (c .pre .1))  -- index-1-phase
-      (λ c. search needs)  -- mul-state: state[4 * i] = 0;
+      (λ c. own-fits (c .before .before .pre .1))  -- mul-state: state[4 * i] = 0;
       (λ c. phase-reads (c .before .before .pre .1))  -- index-1-state
       (λ c. (done-run (c .if1 .taken), (refl, refl)))  -- returns: return TERM;
       (λ c κs. argument-reads (c .before .before .before .pre .1))  -- argument-at-requires: let eve..

@@ -11,6 +11,8 @@ use borrow.Author.Needs.{needs}
 use mathlib.Core.Path.{refl}
 use Rattle.steps.proofs.Ended.{done-run}
 use Rattle.steps.proofs.Dispatch.{phase-reads, kind-reads, by-kind}
+use proofs.Indices.{own-fits}
+use proofs.Names.{named-then}
 use proofs.LoopRuns.{to-begin, by-begin, loop-body, loop-nested, loop-stays, loop-anew, loop-goes-on}
 
 module _ (t : ℕ) where
@@ -42,7 +44,7 @@ module _ (t : ℕ) where
       let if1 = c .before .before .before .before .before .if1 in
       let if2 = c .before .before .before .before .if2 in
       let begin-loop = c .begin-loop in
-      (by-begin (if1 .left) (if2 .taken) (begin-loop .ensures .0), search needs)
+      (by-begin (if1 .left) (if2 .taken) (begin-loop .ensures .0), begin-loop .ensures .1)
 
   -- if kind_at(*table, i + 1) == kinds::LOOP {
   kind-at-requires : Of lts.Need-kind-at-requires
@@ -68,7 +70,7 @@ module _ (t : ℕ) where
       let if3 = c .before .before .before .before .before .if3 in
       let run-loop = c .before .run-loop in
       let if4 = c .if4 in
-      (loop-stays (if2 .left) (by-kind (kind-at .ensures .0) (if3 .taken) (run-loop .ensures .0)) (if4 .taken), search needs)
+      (loop-stays (if2 .left) (by-kind (kind-at .ensures .0) (if3 .taken) (run-loop .ensures .0)) (if4 .taken), run-loop .ensures .1)
 
   -- return begin_loop(table, i, state, numbers, atoms);
   begin-loop-requires-2 : Of lts.Need-begin-loop-requires-2
@@ -89,7 +91,8 @@ module _ (t : ℕ) where
       let run-loop = c .before .before .before .before .before .run-loop in
       let if4 = c .before .before .before .before .if4 in
       let begin-loop2 = c .begin-loop2 in
-      (loop-goes-on (if2 .left) (by-kind (kind-at .ensures .0) (if3 .taken) (run-loop .ensures .0)) (if4 .left) (begin-loop2 .ensures .0), search needs)
+      (loop-goes-on (if2 .left) (by-kind (kind-at .ensures .0) (if3 .taken) (run-loop .ensures .0)) (if4 .left) (begin-loop2 .ensures .0),
+      named-then (run-loop .ensures .1) (begin-loop2 .ensures .1))
 
   -- let f = run_child(table, i + 1, state, numbers, atoms);
   run-child-requires : Of lts.Need-run-child-requires
@@ -104,7 +107,7 @@ module _ (t : ℕ) where
       let if2 = c .before .before .before .before .before .before .before .before .if2 in
       let run-child = c .before .run-child in
       let if5 = c .if5 in
-      (loop-stays (if2 .left) (run-child .ensures .0) (if5 .taken), search needs)
+      (loop-stays (if2 .left) (run-child .ensures .0) (if5 .taken), run-child .ensures .1)
 
   -- begin_loop(table, i, state, numbers, atoms)
   begin-loop-requires-3 : Of lts.Need-begin-loop-requires-3
@@ -122,13 +125,13 @@ module _ (t : ℕ) where
       let run-child = c .before .before .before .before .before .run-child in
       let if5 = c .before .before .before .before .if5 in
       let begin-loop3 = c .begin-loop3 in
-      (loop-goes-on (if2 .left) (run-child .ensures .0) (if5 .left) (begin-loop3 .ensures .0), search needs)
+      (loop-goes-on (if2 .left) (run-child .ensures .0) (if5 .left) (begin-loop3 .ensures .0), named-then (run-child .ensures .1) (begin-loop3 .ensures .1))
 
   pub closed : {M : Type 1} → lts.Closed given (exactly lts.ps μ-run-loop Pre t) Post M
   closed = lts.spec given (exactly lts.ps μ-run-loop Pre t) Post
-      (λ c. search needs)  -- mul-phase: let phase = state[4 * i];
+      (λ c. own-fits (c .pre .1))  -- mul-phase: let phase = state[4 * i];
       (λ c. phase-reads (c .pre .1))  -- index-1-phase
-      (λ c. search needs)  -- mul-state: state[4 * i] = 0;
+      (λ c. own-fits (c .before .before .pre .1))  -- mul-state: state[4 * i] = 0;
       (λ c. phase-reads (c .before .before .pre .1))  -- index-1-state
       (λ c. (done-run (c .if1 .taken), (refl, refl)))  -- returns: return TERM;
       begin-loop-requires

@@ -11,9 +11,10 @@ use Prim.Native.Nat.{ℕ}
 use borrow.Author.Needs.{needs}
 use mathlib.Core.Path.{sym, _∙_}
 use lib.Dec.{lit<}
-use native.Mathlib.Omega.{arith}
 use Rattle.steps.proofs.Tested.{fresh-pair}
-use Rattle.steps.proofs.Dispatch.{few-nodes, kind-reads, phase-reads, own-reads, to-both, by-both}
+use Rattle.steps.proofs.Dispatch.{kind-reads, phase-reads, own-reads, to-both, by-both}
+use proofs.Indices.{own-fits, byte-fits}
+use proofs.Names.{named-then}
 use Rattle.runner.proofs.Falling.{lighter, child-rank, form-rank}
 use proofs.ParRuns.{par-first, par-second-in, par-second, par-joins, par-done}
 
@@ -57,7 +58,7 @@ module _ (t : ℕ) where
       let start = c .before .before .before .before .before .before .before .before in
       let run-child = c .before .before .before .before .run-child in
       let second-at = c .before .before .second-at in
-      omega (arith, few-nodes (par-second (run-child .ensures .0) (second-at .ensures) (start .pre .1) .1))
+      own-fits (par-second (run-child .ensures .0) (second-at .ensures) (start .pre .1) .1)
 
   index-1-fresh-par : Of lts.Need-index-1-fresh-par
   index-1-fresh-par c =
@@ -72,14 +73,14 @@ module _ (t : ℕ) where
       let start = c .before .before .before .before .before .before .before .before .before in
       let run-child = c .before .before .before .before .before .run-child in
       let second-at = c .before .before .before .second-at in
-      omega (arith, few-nodes (par-second (run-child .ensures .0) (second-at .ensures) (start .pre .1) .1))
+      own-fits (par-second (run-child .ensures .0) (second-at .ensures) (start .pre .1) .1)
 
   add-fresh-par : Of lts.Need-add-fresh-par
   add-fresh-par c =
       let start = c .before .before .before .before .before .before .before .before .before in
       let run-child = c .before .before .before .before .before .run-child in
       let second-at = c .before .before .before .second-at in
-      omega (arith, few-nodes (par-second (run-child .ensures .0) (second-at .ensures) (start .pre .1) .1))
+      byte-fits (par-second (run-child .ensures .0) (second-at .ensures) (start .pre .1) .1) 1 (lit< tt)
 
   index-1-fresh-par-2 : Of lts.Need-index-1-fresh-par-2
   index-1-fresh-par-2 c =
@@ -105,14 +106,14 @@ module _ (t : ℕ) where
   mul-both-ran : Of lts.Need-mul-both-ran
   mul-both-ran c =
       let start = c .before .before .before .before .before .before .before .before .before .before .before .before .before .before .before .before .before in
-      omega (arith, few-nodes (start .pre .1))
+      own-fits (start .pre .1)
 
   mul-both-ran-2 : Of lts.Need-mul-both-ran-2
   mul-both-ran-2 c =
       let start = c .before .before .before .before .before .before .before .before .before .before .before .before .before .before .before .before .before in
       let run-child = c .before .before .before .before .before .before .before .before .before .before .before .before .before .run-child in
       let second-at = c .before .before .before .before .before .before .before .before .before .before .before .second-at in
-      omega (arith, few-nodes (par-second (run-child .ensures .0) (second-at .ensures) (start .pre .1) .1))
+      own-fits (par-second (run-child .ensures .0) (second-at .ensures) (start .pre .1) .1)
 
   both-ran-requires : Of lts.Need-both-ran-requires
   both-ran-requires c κs =
@@ -138,7 +139,7 @@ module _ (t : ℕ) where
       let both-ran = c .both-ran in
       let (k, z) = fresh-pair _ _ _ (sym (fresh-par .ensures) ∙ if1 .taken) in
       let second = by-both (kind-at .ensures .0) k z (run-par .ensures .0) in
-      (par-done (run-child .ensures .0) (second-at .ensures) second (both-ran .ensures), search needs)
+      (par-done (run-child .ensures .0) (second-at .ensures) second (both-ran .ensures), named-then (run-child .ensures .1) (run-par .ensures .1))
 
   -- let g = run_child(table, second, state, numbers, atoms);
   run-child-requires-2 : Of lts.Need-run-child-requires-2
@@ -153,14 +154,14 @@ module _ (t : ℕ) where
   mul-both-ran-3 : Of lts.Need-mul-both-ran-3
   mul-both-ran-3 c =
       let start = c .before .before .before .before .before .before .before .before .before .before .before .before .before .before .before .before .before in
-      omega (arith, few-nodes (start .pre .1))
+      own-fits (start .pre .1)
 
   mul-both-ran-4 : Of lts.Need-mul-both-ran-4
   mul-both-ran-4 c =
       let start = c .before .before .before .before .before .before .before .before .before .before .before .before .before .before .before .before .before in
       let run-child = c .before .before .before .before .before .before .before .before .before .before .before .before .before .run-child in
       let second-at = c .before .before .before .before .before .before .before .before .before .before .before .second-at in
-      omega (arith, few-nodes (par-second (run-child .ensures .0) (second-at .ensures) (start .pre .1) .1))
+      own-fits (par-second (run-child .ensures .0) (second-at .ensures) (start .pre .1) .1)
 
   both-ran-requires-2 : Of lts.Need-both-ran-requires-2
   both-ran-requires-2 c κs =
@@ -177,7 +178,8 @@ module _ (t : ℕ) where
       let second-at = c .before .before .before .before .before .before .before .before .before .before .before .before .second-at in
       let run-child2 = c .before .before .run-child2 in
       let both-ran2 = c .both-ran2 in
-      (par-done (run-child .ensures .0) (second-at .ensures) (run-child2 .ensures .0) (both-ran2 .ensures), search needs)
+      (par-done (run-child .ensures .0) (second-at .ensures) (run-child2 .ensures .0) (both-ran2 .ensures),
+      named-then (run-child .ensures .1) (run-child2 .ensures .1))
 
   pub closed : {M : Type 1} → lts.Closed given (exactly lts.ps μ-run-par Pre t) Post M
   closed = lts.spec given (exactly lts.ps μ-run-par Pre t) Post

@@ -14,6 +14,8 @@ use lib.Dec.{lit<}
 use native.Mathlib.Omega.{arith}
 use Rattle.steps.proofs.Ended.{done-run}
 use Rattle.steps.proofs.Dispatch.{kind-reads, argument-reads, phase-reads, own-reads, to-kind, by-kind}
+use proofs.Indices.{own-fits, byte-fits}
+use proofs.Names.{named-then}
 use Rattle.runner.proofs.Falling.{lower-rank, lighter, form-rank, last-rank}
 use proofs.RepeatRuns.{turns-are, repeat-none, repeat-turn, repeat-by, times-body, times-own, times-wait, times-end, times-next, times-then}
 
@@ -125,7 +127,7 @@ module _ (t : ℕ) where
       let is = turns-are (A .table .now .now) (A .i) (A .state .now .now) (argument-at .result) (argument-at .ensures .0) (turns-of .ensures) in
       let (o, z) = repeat-turn (if1 .left) is (if2 .left) (start .pre .1) in
       let body = by-kind (kind-at .ensures .0) (if3 .taken) (run-repeat .ensures .0) in
-      (repeat-by (if1 .left) is (if2 .left) (times-wait body z (if4 .taken) (begin-turn .ensures)), search needs)
+      (repeat-by (if1 .left) is (if2 .left) (times-wait body z (if4 .taken) (begin-turn .ensures)), run-repeat .ensures .1)
 
   -- end_turns(*state, 4 * i);
   end-turns-requires : Of lts.Need-end-turns-requires
@@ -166,7 +168,7 @@ module _ (t : ℕ) where
       let is = turns-are (A .table .now .now) (A .i) (A .state .now .now) (argument-at .result) (argument-at .ensures .0) (turns-of .ensures) in
       let (o, z) = repeat-turn (if1 .left) is (if2 .left) (start .pre .1) in
       let body = by-kind (kind-at .ensures .0) (if3 .taken) (run-repeat .ensures .0) in
-      (repeat-by (if1 .left) is (if2 .left) (times-end body z (if4 .left) (if5 .taken) (end-turns .ensures)), search needs)
+      (repeat-by (if1 .left) is (if2 .left) (times-end body z (if4 .left) (if5 .taken) (end-turns .ensures)), run-repeat .ensures .1)
 
   -- return run_times(table, i, state, numbers, atoms, left - 1);
   run-times-requires : Of lts.Need-run-times-requires
@@ -207,7 +209,8 @@ module _ (t : ℕ) where
       let A = start .args in
       let is = turns-are (A .table .now .now) (A .i) (A .state .now .now) (argument-at .result) (argument-at .ensures .0) (turns-of .ensures) in
       let body = by-kind (kind-at .ensures .0) (if3 .taken) (run-repeat .ensures .0) in
-      (repeat-by (if1 .left) is (if2 .left) (times-then body (if4 .left) (if5 .left) (run-times .ensures .0)), search needs)
+      (repeat-by (if1 .left) is (if2 .left) (times-then body (if4 .left) (if5 .left) (run-times .ensures .0)),
+      named-then (run-repeat .ensures .1) (run-times .ensures .1))
 
   -- run_times(table, i, state, numbers, atoms, left)
   run-times-requires-2 : Of lts.Need-run-times-requires-2
@@ -236,14 +239,14 @@ module _ (t : ℕ) where
 
   pub closed : {M : Type 1} → lts.Closed given (exactly lts.ps μ-run-repeat Pre t) Post M
   closed = lts.spec given (exactly lts.ps μ-run-repeat Pre t) Post
-      (λ c. search needs)  -- mul-phase: let phase = state[4 * i];
+      (λ c. own-fits (c .pre .1))  -- mul-phase: let phase = state[4 * i];
       (λ c. phase-reads (c .pre .1))  -- index-1-phase
-      (λ c. search needs)  -- mul-state: state[4 * i] = 0;
+      (λ c. own-fits (c .before .before .pre .1))  -- mul-state: state[4 * i] = 0;
       (λ c. phase-reads (c .before .before .pre .1))  -- index-1-state
       (λ c. (done-run (c .if1 .taken), (refl, refl)))  -- returns: return TERM;
       (λ c κs. argument-reads (c .before .before .before .pre .1))  -- argument-at-requires: argumen..
-      (λ c. search needs)  -- mul-turns-of: state[4 * i + COUNT],
-      (λ c. search needs)  -- add-turns-of
+      (λ c. own-fits (c .before .before .before .before .pre .1))  -- mul-turns-of: state[4 * i + COUNT],
+      (λ c. byte-fits (c .before .before .before .before .pre .1) 2 (lit< tt))  -- add-turns-of
       (λ c. own-reads (c .before .before .before .before .pre .1) 2 (lit< tt))  -- index-1-turns-of
       (λ c. search needs)  -- mul-turns-of-2: state[4 * i + COUNT + 1],
       (λ c. search needs)  -- add-turns-of-2

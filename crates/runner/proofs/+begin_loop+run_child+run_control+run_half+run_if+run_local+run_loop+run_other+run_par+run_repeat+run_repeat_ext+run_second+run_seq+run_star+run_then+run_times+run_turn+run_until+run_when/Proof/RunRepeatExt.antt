@@ -13,7 +13,9 @@ use mathlib.Core.Path.{refl}
 use lib.Dec.{lit<}
 use native.Mathlib.Omega.{arith}
 use Rattle.steps.proofs.Ended.{done-run}
-use Rattle.steps.proofs.Dispatch.{few-nodes, kind-reads, argument-reads, phase-reads, own-reads, to-kind, by-kind}
+use Rattle.steps.proofs.Dispatch.{kind-reads, argument-reads, phase-reads, own-reads, to-kind, by-kind}
+use proofs.Indices.{own-fits, byte-fits}
+use proofs.Names.{named-then}
 use Rattle.runner.proofs.Falling.{lower-rank, lighter, form-rank, last-rank}
 use proofs.RepeatRuns.{turns-asked, ext-none, ext-turn, ext-by, numbers-long, times-body, times-own, times-wait, times-end, times-next, times-then}
 
@@ -82,7 +84,7 @@ module _ (t : ℕ) where
       let is =
       turns-asked (A .table .now .now) (A .i) (A .state .now .now) (A .numbers .now) (argument-at .ensures .0) (times-asked .ensures)
       (turns-of .ensures) in
-      let (o, z) = ext-turn (if1 .left) is (if2 .left) (start .pre .1) in
+      let o = ext-turn (if1 .left) is (if2 .left) (start .pre .1) .0 in
       kind-reads (times-body o .1)
 
   -- let f = run_repeat_ext(table, i + 1, state, numbers, atoms);
@@ -100,7 +102,7 @@ module _ (t : ℕ) where
       let is =
       turns-asked (A .table .now .now) (A .i) (A .state .now .now) (A .numbers .now) (argument-at .ensures .0) (times-asked .ensures)
       (turns-of .ensures) in
-      let (o, z) = ext-turn (if1 .left) is (if2 .left) (start .pre .1) in
+      let o = ext-turn (if1 .left) is (if2 .left) (start .pre .1) .0 in
       let (l, s) = times-body o in
       (lighter form-rank form-rank (lit< tt) l (start .pre .0), to-kind (kind-at .ensures .0) (if3 .taken) s)
 
@@ -122,7 +124,7 @@ module _ (t : ℕ) where
       let is =
       turns-asked (A .table .now .now) (A .i) (A .state .now .now) (A .numbers .now) (argument-at .ensures .0) (times-asked .ensures)
       (turns-of .ensures) in
-      let (o, z) = ext-turn (if1 .left) is (if2 .left) (start .pre .1) in
+      let o = ext-turn (if1 .left) is (if2 .left) (start .pre .1) .0 in
       let body = by-kind (kind-at .ensures .0) (if3 .taken) (run-repeat-ext .ensures .0) in
       times-own body o
 
@@ -146,9 +148,9 @@ module _ (t : ℕ) where
       let is =
       turns-asked (A .table .now .now) (A .i) (A .state .now .now) (A .numbers .now) (argument-at .ensures .0) (times-asked .ensures)
       (turns-of .ensures) in
-      let (o, z) = ext-turn (if1 .left) is (if2 .left) (start .pre .1) in
+      let z = ext-turn (if1 .left) is (if2 .left) (start .pre .1) .1 in
       let body = by-kind (kind-at .ensures .0) (if3 .taken) (run-repeat-ext .ensures .0) in
-      (ext-by (if1 .left) is (if2 .left) (times-wait body z (if4 .taken) (begin-turn .ensures)), search needs)
+      (ext-by (if1 .left) is (if2 .left) (times-wait body z (if4 .taken) (begin-turn .ensures)), run-repeat-ext .ensures .1)
 
   -- end_turns(*state, 4 * i);
   mul-end-turns : Of lts.Need-mul-end-turns
@@ -156,7 +158,7 @@ module _ (t : ℕ) where
       let c8 = c .before .before .before .before .before .before .before .before in
       let c16 = c8 .before .before .before .before .before .before .before .before in
       let start = c16 .before .before .before .before in
-      omega (arith, few-nodes (start .pre .1))
+      own-fits (start .pre .1)
 
   end-turns-requires : Of lts.Need-end-turns-requires
   end-turns-requires c κs =
@@ -175,7 +177,7 @@ module _ (t : ℕ) where
       let is =
       turns-asked (A .table .now .now) (A .i) (A .state .now .now) (A .numbers .now) (argument-at .ensures .0) (times-asked .ensures)
       (turns-of .ensures) in
-      let (o, z) = ext-turn (if1 .left) is (if2 .left) (start .pre .1) in
+      let o = ext-turn (if1 .left) is (if2 .left) (start .pre .1) .0 in
       let body = by-kind (kind-at .ensures .0) (if3 .taken) (run-repeat-ext .ensures .0) in
       times-own body o .0
 
@@ -200,9 +202,9 @@ module _ (t : ℕ) where
       let is =
       turns-asked (A .table .now .now) (A .i) (A .state .now .now) (A .numbers .now) (argument-at .ensures .0) (times-asked .ensures)
       (turns-of .ensures) in
-      let (o, z) = ext-turn (if1 .left) is (if2 .left) (start .pre .1) in
+      let z = ext-turn (if1 .left) is (if2 .left) (start .pre .1) .1 in
       let body = by-kind (kind-at .ensures .0) (if3 .taken) (run-repeat-ext .ensures .0) in
-      (ext-by (if1 .left) is (if2 .left) (times-end body z (if4 .left) (if5 .taken) (end-turns .ensures)), search needs)
+      (ext-by (if1 .left) is (if2 .left) (times-end body z (if4 .left) (if5 .taken) (end-turns .ensures)), run-repeat-ext .ensures .1)
 
   -- return run_times(table, i, state, numbers, atoms, left - 1);
   run-times-requires : Of lts.Need-run-times-requires
@@ -248,8 +250,10 @@ module _ (t : ℕ) where
       let is =
       turns-asked (A .table .now .now) (A .i) (A .state .now .now) (A .numbers .now) (argument-at .ensures .0) (times-asked .ensures)
       (turns-of .ensures) in
-      let body = by-kind (kind-at .ensures .0) (if3 .taken) (run-repeat-ext .ensures .0) in
-      (ext-by (if1 .left) is (if2 .left) (times-then body (if4 .left) (if5 .left) (run-times .ensures .0)), search needs)
+      let body = by-kind (kind-at .ensures .0) (if3 .taken) (run-repeat-ext .ensures .0) in (
+        ext-by (if1 .left) is (if2 .left) (times-then body (if4 .left) (if5 .left) (run-times .ensures .0)),
+        named-then (run-repeat-ext .ensures .1) (run-times .ensures .1),
+      )
 
   -- run_times(table, i, state, numbers, atoms, left)
   run-times-requires-2 : Of lts.Need-run-times-requires-2
@@ -284,15 +288,15 @@ module _ (t : ℕ) where
 
   pub closed : {M : Type 1} → lts.Closed given (exactly lts.ps μ-run-repeat-ext Pre t) Post M
   closed = lts.spec given (exactly lts.ps μ-run-repeat-ext Pre t) Post
-      (λ c. search needs)  -- mul-phase: let phase = state[4 * i];
+      (λ c. own-fits (c .pre .1))  -- mul-phase: let phase = state[4 * i];
       (λ c. phase-reads (c .pre .1))  -- index-1-phase
-      (λ c. search needs)  -- mul-state: state[4 * i] = 0;
+      (λ c. own-fits (c .before .before .pre .1))  -- mul-state: state[4 * i] = 0;
       (λ c. phase-reads (c .before .before .pre .1))  -- index-1-state
       (λ c. (done-run (c .if1 .taken), (refl, refl)))  -- returns: return TERM;
       (λ c κs. argument-reads (c .before .before .before .before .pre .1))  -- argument-at-requires: times_asked(numbers, argument_at(*table, i)),
       times-asked-requires
-      (λ c. search needs)  -- mul-turns-of: state[4 * i + COUNT],
-      (λ c. search needs)  -- add-turns-of
+      (λ c. own-fits (c .before .before .before .before .before .before .pre .1))  -- mul-turns-of: state[4 * i + COUNT],
+      (λ c. byte-fits (c .before .before .before .before .before .before .pre .1) 2 (lit< tt))  -- add-turns-of
       (λ c. own-reads (c .before .before .before .before .before .before .pre .1) 2 (lit< tt))  -- index-1-turns-of
       (λ c. search needs)  -- mul-turns-of-2: state[4 * i + COUNT + 1],
       (λ c. search needs)  -- add-turns-of-2

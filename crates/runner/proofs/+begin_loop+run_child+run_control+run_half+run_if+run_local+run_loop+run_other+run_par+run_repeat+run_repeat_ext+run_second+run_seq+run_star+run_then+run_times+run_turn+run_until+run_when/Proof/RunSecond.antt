@@ -9,8 +9,8 @@ use borrow.Fn.Kinds.{In, Out}
 use Prim.Native.Nat.{ℕ}
 use borrow.Author.Needs.{needs}
 use lib.Dec.{lit<}
-use native.Mathlib.Omega.{arith}
-use Rattle.steps.proofs.Dispatch.{few-nodes, phase-reads}
+use Rattle.steps.proofs.Dispatch.{phase-reads}
+use proofs.Indices.{own-fits}
 use Rattle.runner.proofs.Falling.{lighter, child-rank, last-rank}
 use proofs.SeqRuns.{second-in, goes-into, second-writes-in, second-below, second-done, to-second, by-second}
 
@@ -35,7 +35,7 @@ module _ (t : ℕ) where
   mul-if1 c =
       let start = c .before .before in
       let second-at = c .second-at in
-      omega (arith, few-nodes (goes-into (second-at .ensures) (start .pre .1) .1))
+      own-fits (goes-into (second-at .ensures) (start .pre .1) .1)
 
   index-1-if1 : Of lts.Need-index-1-if1
   index-1-if1 c =
@@ -76,7 +76,7 @@ module _ (t : ℕ) where
       let if1 = c .before .before .before .before .before .if1 in
       let run-second = c .before .run-second in
       let phase-after = c .phase-after in
-      (second-done (second-at .ensures) (by-second (if1 .taken) (run-second .ensures .0)) (phase-after .ensures), search needs)
+      (second-done (second-at .ensures) (by-second (if1 .taken) (run-second .ensures .0)) (phase-after .ensures), run-second .ensures .1)
 
   -- let f = run_child(table, second, state, numbers, atoms);
   run-child-requires : Of lts.Need-run-child-requires
@@ -107,7 +107,7 @@ module _ (t : ℕ) where
       let second-at = c .before .before .before .before .before .before .before .second-at in
       let run-child = c .before .run-child in
       let phase-after2 = c .phase-after2 in
-      (second-done (second-at .ensures) (run-child .ensures .0) (phase-after2 .ensures), search needs)
+      (second-done (second-at .ensures) (run-child .ensures .0) (phase-after2 .ensures), run-child .ensures .1)
 
   pub closed : {M : Type 1} → lts.Closed given (exactly lts.ps μ-run-second Pre t) Post M
   closed = lts.spec given (exactly lts.ps μ-run-second Pre t) Post

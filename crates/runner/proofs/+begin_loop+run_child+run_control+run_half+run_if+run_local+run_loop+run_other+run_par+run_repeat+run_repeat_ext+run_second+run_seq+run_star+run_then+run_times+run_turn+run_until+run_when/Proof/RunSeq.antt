@@ -12,10 +12,11 @@ use borrow.Author.Needs.{needs}
 use mathlib.Core.Path.{refl}
 use lib.Dec.{lit<}
 use Rattle.steps.proofs.Ended.{done-run}
-use Rattle.steps.proofs.Dispatch.{kind-reads, phase-reads, to-kind, by-kind, few-nodes}
+use Rattle.steps.proofs.Dispatch.{kind-reads, phase-reads, to-kind, by-kind}
+use proofs.Indices.{own-fits}
+use proofs.Names.{named-then}
 use Rattle.runner.proofs.Falling.{lower-rank, lighter, child-rank, form-rank, last-rank}
 use proofs.SeqRuns.{goes-into, second-writes-in, second-below, second-done, to-second, by-second, seq-first, seq-second-in, seq-stays, seq-over, seq-goes-on}
-use native.Mathlib.Omega.{arith}
 
 module _ (t : ℕ) where
   abbrev given : lts.Claims
@@ -125,7 +126,7 @@ module _ (t : ℕ) where
   mul-state-2 c =
       let c8 = c .before .before .before .before .before .before .before .before in
       let start = c8 .before .before .before .before .before .before .before .before .before .before in
-      omega (arith, few-nodes (start .pre .1))
+      own-fits (start .pre .1)
 
   index-1-state-2 : Of lts.Need-index-1-state-2
   index-1-state-2 c =
@@ -159,7 +160,7 @@ module _ (t : ℕ) where
       let phase-after = c .phase-after in
       let second = by-kind (kind-at .ensures .0) (if4 .taken) (run-seq .ensures .0) in
       let then = second-done (second-at .ensures) second (phase-after .ensures) in
-      (seq-goes-on (if1 .left) (if2 .left) (run-child .ensures .0) (if3 .left) then, search needs)
+      (seq-goes-on (if1 .left) (if2 .left) (run-child .ensures .0) (if3 .left) then, named-then (run-child .ensures .1) (run-seq .ensures .1))
 
   -- let g = run_child(table, second, state, numbers, atoms);
   run-child-requires-2 : Of lts.Need-run-child-requires-2
@@ -194,7 +195,7 @@ module _ (t : ℕ) where
   mul-state-3 c =
       let c8 = c .before .before .before .before .before .before .before .before in
       let start = c8 .before .before .before .before .before .before .before .before .before .before in
-      omega (arith, few-nodes (start .pre .1))
+      own-fits (start .pre .1)
 
   index-1-state-3 : Of lts.Need-index-1-state-3
   index-1-state-3 c =
@@ -222,13 +223,13 @@ module _ (t : ℕ) where
       let run-child2 = c .before .run-child2 in
       let phase-after2 = c .phase-after2 in
       let then = second-done (second-at .ensures) (run-child2 .ensures .0) (phase-after2 .ensures) in
-      (seq-goes-on (if1 .left) (if2 .left) (run-child .ensures .0) (if3 .left) then, search needs)
+      (seq-goes-on (if1 .left) (if2 .left) (run-child .ensures .0) (if3 .left) then, named-then (run-child .ensures .1) (run-child2 .ensures .1))
 
   pub closed : {M : Type 1} → lts.Closed given (exactly lts.ps μ-run-seq Pre t) Post M
   closed = lts.spec given (exactly lts.ps μ-run-seq Pre t) Post
-      (λ c. search needs)  -- mul-phase: let phase = state[4 * i];
+      (λ c. own-fits (c .pre .1))  -- mul-phase: let phase = state[4 * i];
       (λ c. phase-reads (c .pre .1))  -- index-1-phase
-      (λ c. search needs)  -- mul-state: state[4 * i] = 0;
+      (λ c. own-fits (c .before .before .pre .1))  -- mul-state: state[4 * i] = 0;
       (λ c. phase-reads (c .before .before .pre .1))  -- index-1-state
       (λ c. (done-run (c .if1 .taken), (refl, refl)))  -- returns: return TERM;
       run-second-requires

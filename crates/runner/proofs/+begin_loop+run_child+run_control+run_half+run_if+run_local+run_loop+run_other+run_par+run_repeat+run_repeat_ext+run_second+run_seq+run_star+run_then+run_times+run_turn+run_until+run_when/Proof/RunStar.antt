@@ -8,9 +8,11 @@ use Rattle.table.proofs.records.second_at.Reads as second-at-reads
 use borrow.Fn.Kinds.{In, Out}
 use Prim.Native.Nat.{ℕ}
 use borrow.Author.Needs.{needs}
+use mathlib.Core.Path.{refl}
 use native.Mathlib.Omega.{arith}
 use lib.Dec.{lit<}
 use Rattle.steps.proofs.Dispatch.{phase-reads}
+use proofs.Indices.{own-fits}
 use Rattle.runner.proofs.Falling.{lower-rank, stage-rank, last-rank}
 use Rattle.steps.proofs.Awaits.{ranked-0, ranked-1, ranked-2}
 use proofs.UntilRuns.{star-tests, star-second-in, star-few, star-body, star-cleared, star-suspends, star-refused}
@@ -37,14 +39,14 @@ module _ (t : ℕ) where
   returns c =
       let test-rank = c .before .test-rank in
       let if1 = c .if1 in
-      (star-suspends (test-rank .ensures) (ranked-1 (if1 .taken)), search needs)
+      (star-suspends (test-rank .ensures) (ranked-1 (if1 .taken)), (refl, refl))
 
   -- return STOP;
   returns-2 : Of lts.Need-returns-2
   returns-2 c =
       let test-rank = c .before .before .test-rank in
       let if2 = c .if2 in
-      (star-refused (test-rank .ensures) (ranked-0 (if2 .taken)), search needs)
+      (star-refused (test-rank .ensures) (ranked-0 (if2 .taken)), (refl, refl))
 
   -- clear_part(*state, 4 * i + 4, 4 * second_at(*table, i));
   second-at-requires : Of lts.Need-second-at-requires
@@ -85,7 +87,7 @@ module _ (t : ℕ) where
       let if3 = c .before .before .before .before .if3 in
       let run-second = c .run-second in
       let cleared = star-cleared (second-at .ensures) (start .pre .1) (clear-part .ensures) in
-      (handler-begins (test-rank .ensures) cleared (ranked-2 (if1 .left) (if2 .left)) (if3 .taken) (run-second .ensures .0), search needs)
+      (handler-begins (test-rank .ensures) cleared (ranked-2 (if1 .left) (if2 .left)) (if3 .taken) (run-second .ensures .0), run-second .ensures .1)
 
   -- state[4 * i] = SECOND;
   index-1-state-3 : Of lts.Need-index-1-state-3
@@ -107,15 +109,15 @@ module _ (t : ℕ) where
       let clear-part = c .before .before .clear-part in
       let if3 = c .if3 in
       let cleared = star-cleared (second-at .ensures) (start .pre .1) (clear-part .ensures) in
-      (handler-next (test-rank .ensures) cleared (ranked-2 (if1 .left) (if2 .left)) (if3 .left), search needs)
+      (handler-next (test-rank .ensures) cleared (ranked-2 (if1 .left) (if2 .left)) (if3 .left), (refl, refl))
 
   pub closed : {M : Type 1} → lts.Closed given (exactly lts.ps μ-run-star Pre t) Post M
   closed = lts.spec given (exactly lts.ps μ-run-star Pre t) Post
       (λ c κs. star-tests (c .before .before .pre .1))  -- test-rank-requires: let rank = test_rank(..
-      (λ c. search needs)  -- mul-state: state[4 * i] = STARRED;
+      (λ c. own-fits (c .before .before .before .before .pre .1))  -- mul-state: state[4 * i] = STARRED;
       (λ c. phase-reads (c .before .before .before .before .pre .1))  -- index-1-state
       returns
-      (λ c. search needs)  -- mul-state-2: state[4 * i] = 0;
+      (λ c. own-fits (c .before .before .before .before .before .pre .1))  -- mul-state-2: state[4 * i] = 0;
       (λ c. phase-reads (c .before .before .before .before .before .pre .1))  -- index-1-state-2
       returns-2
       (λ c. search needs)  -- slice-aggregate-clear-part: clear_part(*state, 4 * i + 4, 4 * second_a..

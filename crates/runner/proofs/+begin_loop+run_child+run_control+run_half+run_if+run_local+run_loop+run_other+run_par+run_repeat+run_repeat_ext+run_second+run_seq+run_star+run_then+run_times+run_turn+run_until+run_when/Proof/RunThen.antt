@@ -48,7 +48,7 @@ module _ (t : ℕ) where
   returns c =
       let run-child = c .before .run-child in
       let phase-after = c .phase-after in
-      (then-done (run-child .ensures .0) (phase-after .ensures), search needs)
+      (then-done (run-child .ensures .0) (phase-after .ensures), run-child .ensures .1)
 
   pub closed : {M : Type 1} → lts.Closed given (exactly lts.ps μ-run-then Pre t) Post M
   closed = lts.spec given (exactly lts.ps μ-run-then Pre t) Post

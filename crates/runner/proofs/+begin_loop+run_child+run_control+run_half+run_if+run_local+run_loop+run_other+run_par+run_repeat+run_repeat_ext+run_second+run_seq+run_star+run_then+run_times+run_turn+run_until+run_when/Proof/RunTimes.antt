@@ -10,9 +10,10 @@ use Prim.Native.Nat.{ℕ}
 use borrow.Author.Needs.{needs}
 use mathlib.Core.Path.{refl}
 use lib.Dec.{lit<}
-use native.Mathlib.Omega.{arith}
 use Rattle.steps.specs.Lent.{lent, Named}
-use Rattle.steps.proofs.Dispatch.{few-nodes, kind-reads}
+use Rattle.steps.proofs.Dispatch.{kind-reads}
+use proofs.Indices.{own-fits}
+use proofs.Names.{named-then}
 use Rattle.runner.proofs.Falling.{lighter, turn-rank, last-rank}
 use proofs.RepeatRuns.{Turn, first-turn, next-turn, times-body, times-own, times-wait, times-end}
 
@@ -59,7 +60,7 @@ module _ (t : ℕ) where
   mul-begin-turn : Of lts.Need-mul-begin-turn
   mul-begin-turn c =
       let loop = c .before .before .before .before .before .before .loop in
-      omega (arith, few-nodes (loop .inv .0 .can))
+      own-fits (loop .inv .0 .can)
 
   begin-turn-requires : Of lts.Need-begin-turn-requires
   begin-turn-requires c κs =
@@ -74,13 +75,14 @@ module _ (t : ℕ) where
       let run-turn = c .before .before .before .run-turn in
       let if1 = c .before .before .if1 in
       let begin-turn = c .begin-turn in
-      (loop .inv .0 .goes-on (times-wait (run-turn .ensures .0) (loop .inv .0 .no-flags-yet) (if1 .taken) (begin-turn .ensures)), search needs)
+      (loop .inv .0 .goes-on (times-wait (run-turn .ensures .0) (loop .inv .0 .no-flags-yet) (if1 .taken) (begin-turn .ensures)),
+      named-then (loop .inv .1) (run-turn .ensures .1))
 
   -- end_turns(*state, 4 * i);
   mul-end-turns : Of lts.Need-mul-end-turns
   mul-end-turns c =
       let loop = c .before .before .before .before .before .before .before .loop in
-      omega (arith, few-nodes (loop .inv .0 .can))
+      own-fits (loop .inv .0 .can)
 
   end-turns-requires : Of lts.Need-end-turns-requires
   end-turns-requires c κs =
@@ -96,7 +98,8 @@ module _ (t : ℕ) where
       let if1 = c .before .before .before .if1 in
       let if2 = c .before .before .if2 in
       let end-turns = c .end-turns in
-      (loop .inv .0 .goes-on (times-end (run-turn .ensures .0) (loop .inv .0 .no-flags-yet) (if1 .left) (if2 .taken) (end-turns .ensures)), search needs)
+      (loop .inv .0 .goes-on (times-end (run-turn .ensures .0) (loop .inv .0 .no-flags-yet) (if1 .left) (if2 .taken) (end-turns .ensures)),
+      named-then (loop .inv .1) (run-turn .ensures .1))
 
   -- loop {
   loop-again : Of lts.Need-loop-again
@@ -105,7 +108,7 @@ module _ (t : ℕ) where
       let run-turn = c .before .before .run-turn in
       let if1 = c .before .if1 in
       let if2 = c .if2 in
-      (next-turn (loop .inv .0) (run-turn .ensures .0) (if1 .left) (if2 .left), search needs)
+      (next-turn (loop .inv .0) (run-turn .ensures .0) (if1 .left) (if2 .left), named-then (loop .inv .1) (run-turn .ensures .1))
 
   pub closed : {M : Type 1} → lts.Closed given (exactly lts.ps μ-run-times Pre t) Post M
   closed = lts.spec given (exactly lts.ps μ-run-times Pre t) Post Inv-loop μ-loop

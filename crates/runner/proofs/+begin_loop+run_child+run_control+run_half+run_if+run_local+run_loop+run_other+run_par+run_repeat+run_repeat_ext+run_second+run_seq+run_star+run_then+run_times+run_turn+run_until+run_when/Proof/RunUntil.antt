@@ -12,6 +12,8 @@ use mathlib.Core.Path.{refl}
 use lib.Dec.{lit<}
 use Rattle.steps.proofs.Ended.{done-run}
 use Rattle.steps.proofs.Dispatch.{kind-reads, phase-reads, to-kind, by-kind}
+use proofs.Indices.{own-fits}
+use proofs.Names.{named-then}
 use Rattle.runner.proofs.Falling.{lower-rank, lighter, child-rank, form-rank, stage-rank, last-rank}
 use proofs.SeqRuns.{to-second, by-second}
 use proofs.UntilRuns.{until-first, until-stays, until-starred, until-goes-on, to-star, by-star}
@@ -118,7 +120,7 @@ module _ (t : ℕ) where
       let if5 = c .before .before .before .before .if5 in
       let run-star2 = c .run-star2 in
       let body = by-kind (kind-at .ensures .0) (if4 .taken) (run-until .ensures .0) in
-      (until-goes-on (if1 .left) (if2 .left) (if3 .left) body (if5 .left) (run-star2 .ensures .0), search needs)
+      (until-goes-on (if1 .left) (if2 .left) (if3 .left) body (if5 .left) (run-star2 .ensures .0), named-then (run-until .ensures .1) (run-star2 .ensures .1))
 
   -- let f = run_child(table, i + 1, state, numbers, atoms);
   run-child-requires : Of lts.Need-run-child-requires
@@ -161,13 +163,14 @@ module _ (t : ℕ) where
       let run-child = c .before .before .before .before .before .run-child in
       let if6 = c .before .before .before .before .if6 in
       let run-star3 = c .run-star3 in
-      (until-goes-on (if1 .left) (if2 .left) (if3 .left) (run-child .ensures .0) (if6 .left) (run-star3 .ensures .0), search needs)
+      (until-goes-on (if1 .left) (if2 .left) (if3 .left) (run-child .ensures .0) (if6 .left) (run-star3 .ensures .0),
+      named-then (run-child .ensures .1) (run-star3 .ensures .1))
 
   pub closed : {M : Type 1} → lts.Closed given (exactly lts.ps μ-run-until Pre t) Post M
   closed = lts.spec given (exactly lts.ps μ-run-until Pre t) Post
-      (λ c. search needs)  -- mul-phase: let phase = state[4 * i];
+      (λ c. own-fits (c .pre .1))  -- mul-phase: let phase = state[4 * i];
       (λ c. phase-reads (c .pre .1))  -- index-1-phase
-      (λ c. search needs)  -- mul-state: state[4 * i] = 0;
+      (λ c. own-fits (c .before .before .pre .1))  -- mul-state: state[4 * i] = 0;
       (λ c. phase-reads (c .before .before .pre .1))  -- index-1-state
       (λ c. (done-run (c .if1 .taken), (refl, refl)))  -- returns: return TERM;
       run-star-requires

@@ -12,6 +12,7 @@ use mathlib.Core.Path.{refl}
 use lib.Dec.{lit<}
 use Rattle.steps.proofs.Ended.{done-run}
 use Rattle.steps.proofs.Dispatch.{kind-reads, phase-reads, to-kind, by-kind}
+use proofs.Indices.{own-fits}
 use Rattle.runner.proofs.Falling.{lower-rank, lighter, form-rank, last-rank}
 use Rattle.steps.proofs.Awaits.{ranked-0, ranked-1, ranked-2}
 use proofs.SeqRuns.{to-second, by-second}
@@ -82,7 +83,7 @@ module _ (t : ℕ) where
       let if3 = c .before .before .before .before .before .if3 in
       let run-when = c .before .run-when in
       let phase-after = c .phase-after in
-      (by-then (if2 .taken) (then-done (by-kind (kind-at .ensures .0) (if3 .taken) (run-when .ensures .0)) (phase-after .ensures)), search needs)
+      (by-then (if2 .taken) (then-done (by-kind (kind-at .ensures .0) (if3 .taken) (run-when .ensures .0)) (phase-after .ensures)), run-when .ensures .1)
 
   -- return run_then(table, i, state, numbers, atoms);
   run-then-requires : Of lts.Need-run-then-requires
@@ -127,7 +128,7 @@ module _ (t : ℕ) where
       let if4 = c .before .before .before .before .if4 in
       let test-rank = c .before .test-rank in
       let if5 = c .if5 in
-      (when-suspends (if1 .left) (if2 .left) (if4 .left) (test-rank .ensures) (ranked-1 (if5 .taken)), search needs)
+      (when-suspends (if1 .left) (if2 .left) (if4 .left) (test-rank .ensures) (ranked-1 (if5 .taken)), (refl, refl))
 
   -- return run_second(table, i, state, numbers, atoms);
   run-second-requires-2 : Of lts.Need-run-second-requires-2
@@ -147,7 +148,7 @@ module _ (t : ℕ) where
       let if6 = c .before .before .before .before .before .before .if6 in
       let if7 = c .before .before .before .before .if7 in
       let run-second2 = c .run-second2 in
-      (else-begins (if1 .left) (if2 .left) (if4 .left) (test-rank .ensures) (ranked-0 (if6 .taken)) (if7 .taken) (run-second2 .ensures .0), search needs)
+      (else-begins (if1 .left) (if2 .left) (if4 .left) (test-rank .ensures) (ranked-0 (if6 .taken)) (if7 .taken) (run-second2 .ensures .0), run-second2 .ensures .1)
 
   -- state[4 * i] = SECOND;
   index-1-state-3 : Of lts.Need-index-1-state-3
@@ -164,7 +165,7 @@ module _ (t : ℕ) where
       let test-rank = c .before .before .before .before .test-rank in
       let if6 = c .before .before .if6 in
       let if7 = c .if7 in
-      (else-next (if1 .left) (if2 .left) (if4 .left) (test-rank .ensures) (ranked-0 (if6 .taken)) (if7 .left), search needs)
+      (else-next (if1 .left) (if2 .left) (if4 .left) (test-rank .ensures) (ranked-0 (if6 .taken)) (if7 .left), (refl, refl))
 
   -- return run_then(table, i, state, numbers, atoms);
   run-then-requires-2 : Of lts.Need-run-then-requires-2
@@ -186,7 +187,7 @@ module _ (t : ℕ) where
       let if8 = c .before .before .before .before .if8 in
       let run-then2 = c .run-then2 in
       let sat = ranked-2 (if5 .left) (if6 .left) in
-      (then-begins (if1 .left) (if2 .left) (if4 .left) (test-rank .ensures) sat (if8 .taken) (run-then2 .ensures .0), search needs)
+      (then-begins (if1 .left) (if2 .left) (if4 .left) (test-rank .ensures) sat (if8 .taken) (run-then2 .ensures .0), run-then2 .ensures .1)
 
   -- state[4 * i] = THEN;
   index-1-state-4 : Of lts.Need-index-1-state-4
@@ -204,13 +205,13 @@ module _ (t : ℕ) where
       let if5 = c .before .before .before .if5 in
       let if6 = c .before .before .if6 in
       let if8 = c .if8 in
-      (then-next (if1 .left) (if2 .left) (if4 .left) (test-rank .ensures) (ranked-2 (if5 .left) (if6 .left)) (if8 .left), search needs)
+      (then-next (if1 .left) (if2 .left) (if4 .left) (test-rank .ensures) (ranked-2 (if5 .left) (if6 .left)) (if8 .left), (refl, refl))
 
   pub closed : {M : Type 1} → lts.Closed given (exactly lts.ps μ-run-when Pre t) Post M
   closed = lts.spec given (exactly lts.ps μ-run-when Pre t) Post
-      (λ c. search needs)  -- mul-phase: let phase = state[4 * i];
+      (λ c. own-fits (c .pre .1))  -- mul-phase: let phase = state[4 * i];
       (λ c. phase-reads (c .pre .1))  -- index-1-phase
-      (λ c. search needs)  -- mul-state: state[4 * i] = 0;
+      (λ c. own-fits (c .before .before .pre .1))  -- mul-state: state[4 * i] = 0;
       (λ c. phase-reads (c .before .before .pre .1))  -- index-1-state
       (λ c. (done-run (c .if1 .taken), (refl, refl)))  -- returns: return TERM;
       (λ c. search needs)  -- add-kind-at: if kind_at(*table, i + 1) == kinds::WHEN {
