@@ -74,9 +74,11 @@ module _ (t : ℕ) where
       let if2 = c .before .before .before .before .before .if2 in
       let run-child = c .before .run-child in
       let joins = half-left-joins {table = A .table .now .now} {i = A .i} {state = A .state .now .now} {m = A .numbers .now} {row = A .atoms .now .now}
-      (if1 .left) (if2 .taken) (second-at .ensures) (run-child .ensures .0) (start .pre .1) in
-      (joins, half-left-keeps {table = A .table .now .now} {i = A .i} {state = A .state .now .now} {m = A .numbers .now} {row = A .atoms .now .now}
-      (if1 .left) (if2 .taken) (second-at .ensures) (run-child .ensures .0) (start .pre .1))
+      (if1 .left) (if2 .taken) (second-at .ensures) (run-child .ensures .0) (start .pre .1) in (
+        joins,
+        half-left-keeps {table = A .table .now .now} {i = A .i} {state = A .state .now .now} {m = A .numbers .now} {row = A .atoms .now .now}
+            (if1 .left) (if2 .taken) (second-at .ensures) (run-child .ensures .0) (start .pre .1),
+      )
 
   returns-2 : Of lts.Need-returns-2
   returns-2 c =
@@ -86,9 +88,11 @@ module _ (t : ℕ) where
       let second-at = c .before .before .before .before .before .before .before .second-at in
       let if2 = c .before .before .before .before .before .before .if2 in
       let run-child = c .before .before .run-child in
-      let first-ran = c .first-ran in
-      (half-left-done {table = A .table .now .now} {i = A .i} {state = A .state .now .now} {m = A .numbers .now} {row = A .atoms .now .now}
-      (if1 .left) (if2 .taken) (second-at .ensures) (run-child .ensures .0) (first-ran .ensures), run-child .ensures .1)
+      let first-ran = c .first-ran in (
+        half-left-done {table = A .table .now .now} {i = A .i} {state = A .state .now .now} {m = A .numbers .now} {row = A .atoms .now .now}
+            (if1 .left) (if2 .taken) (second-at .ensures) (run-child .ensures .0) (first-ran .ensures),
+        run-child .ensures .1,
+      )
 
   -- kind_at(*table, second),
   kind-at-requires : Of lts.Need-kind-at-requires
@@ -195,9 +199,11 @@ module _ (t : ℕ) where
       let run-half = c .before .before .run-half in
       let par-end = c .par-end in
       let (k, z) = half-pair _ _ _ (sym (half-par .ensures) ∙ if3 .taken) in
-      let second = by-half (kind-at .ensures .0) k z (run-half .ensures .0) in
-      (half-right-done {table = A .table .now .now} {i = A .i} {state = A .state .now .now} {m = A .numbers .now} {row = A .atoms .now .now}
-      (if1 .left) (if2 .left) (second-at .ensures) second (par-end .ensures), run-half .ensures .1)
+      let second = by-half (kind-at .ensures .0) k z (run-half .ensures .0) in (
+        half-right-done {table = A .table .now .now} {i = A .i} {state = A .state .now .now} {m = A .numbers .now} {row = A .atoms .now .now}
+            (if1 .left) (if2 .left) (second-at .ensures) second (par-end .ensures),
+        run-half .ensures .1,
+      )
 
   -- let g = run_child(table, second, state, numbers, atoms);
   run-child-requires-2 : Of lts.Need-run-child-requires-2
@@ -240,9 +246,11 @@ module _ (t : ℕ) where
       let second-at = c .before .before .before .before .before .before .before .before .before .before .before .before .before .second-at in
       let if2 = c .before .before .before .before .before .before .before .before .before .before .before .before .if2 in
       let run-child2 = c .before .before .run-child2 in
-      let par-end2 = c .par-end2 in
-      (half-right-done {table = A .table .now .now} {i = A .i} {state = A .state .now .now} {m = A .numbers .now} {row = A .atoms .now .now}
-      (if1 .left) (if2 .left) (second-at .ensures) (run-child2 .ensures .0) (par-end2 .ensures), run-child2 .ensures .1)
+      let par-end2 = c .par-end2 in (
+        half-right-done {table = A .table .now .now} {i = A .i} {state = A .state .now .now} {m = A .numbers .now} {row = A .atoms .now .now}
+            (if1 .left) (if2 .left) (second-at .ensures) (run-child2 .ensures .0) (par-end2 .ensures),
+        run-child2 .ensures .1,
+      )
 
   pub closed : {M : Type 1} → lts.Closed given (exactly lts.ps μ-run-half Pre t) Post M
   closed = lts.spec given (exactly lts.ps μ-run-half Pre t) Post

@@ -90,9 +90,10 @@ module _ (t : ℕ) where
       let if3 = c .before .before .before .before .before .before .before .before .before .if3 in
       let run-loop = c .before .before .before .before .before .run-loop in
       let if4 = c .before .before .before .before .if4 in
-      let begin-loop2 = c .begin-loop2 in
-      (loop-goes-on (if2 .left) (by-kind (kind-at .ensures .0) (if3 .taken) (run-loop .ensures .0)) (if4 .left) (begin-loop2 .ensures .0),
-      named-then (run-loop .ensures .1) (begin-loop2 .ensures .1))
+      let begin-loop2 = c .begin-loop2 in (
+        loop-goes-on (if2 .left) (by-kind (kind-at .ensures .0) (if3 .taken) (run-loop .ensures .0)) (if4 .left) (begin-loop2 .ensures .0),
+        named-then (run-loop .ensures .1) (begin-loop2 .ensures .1),
+      )
 
   -- let f = run_child(table, i + 1, state, numbers, atoms);
   run-child-requires : Of lts.Need-run-child-requires

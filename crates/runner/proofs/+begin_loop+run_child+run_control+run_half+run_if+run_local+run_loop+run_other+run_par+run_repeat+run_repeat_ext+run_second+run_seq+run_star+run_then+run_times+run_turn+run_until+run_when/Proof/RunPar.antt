@@ -177,9 +177,10 @@ module _ (t : ℕ) where
       let run-child = c .before .before .before .before .before .before .before .before .before .before .before .before .before .before .run-child in
       let second-at = c .before .before .before .before .before .before .before .before .before .before .before .before .second-at in
       let run-child2 = c .before .before .run-child2 in
-      let both-ran2 = c .both-ran2 in
-      (par-done (run-child .ensures .0) (second-at .ensures) (run-child2 .ensures .0) (both-ran2 .ensures),
-      named-then (run-child .ensures .1) (run-child2 .ensures .1))
+      let both-ran2 = c .both-ran2 in (
+        par-done (run-child .ensures .0) (second-at .ensures) (run-child2 .ensures .0) (both-ran2 .ensures),
+        named-then (run-child .ensures .1) (run-child2 .ensures .1),
+      )
 
   pub closed : {M : Type 1} → lts.Closed given (exactly lts.ps μ-run-par Pre t) Post M
   closed = lts.spec given (exactly lts.ps μ-run-par Pre t) Post

@@ -70,7 +70,7 @@ module _ (t : ℕ) where
       let if2 = c .before .if2 in
       let A = start .args in
       let is = turns-are (A .table .now .now) (A .i) (A .state .now .now) (argument-at .result) (argument-at .ensures .0) (turns-of .ensures) in
-      let (o, z) = repeat-turn (if1 .left) is (if2 .left) (start .pre .1) in
+      let o = repeat-turn (if1 .left) is (if2 .left) (start .pre .1) .0 in
       kind-reads (times-body o .1)
 
   -- let f = run_repeat(table, i + 1, state, numbers, atoms);
@@ -85,7 +85,7 @@ module _ (t : ℕ) where
       let if3 = c .before .before .before .if3 in
       let A = start .args in
       let is = turns-are (A .table .now .now) (A .i) (A .state .now .now) (argument-at .result) (argument-at .ensures .0) (turns-of .ensures) in
-      let (o, z) = repeat-turn (if1 .left) is (if2 .left) (start .pre .1) in
+      let o = repeat-turn (if1 .left) is (if2 .left) (start .pre .1) .0 in
       let (l, s) = times-body o in
       (lighter form-rank form-rank (lit< tt) l (start .pre .0), to-kind (kind-at .ensures .0) (if3 .taken) s)
 
@@ -104,7 +104,7 @@ module _ (t : ℕ) where
       let run-repeat = c .before .before .run-repeat in
       let A = start .args in
       let is = turns-are (A .table .now .now) (A .i) (A .state .now .now) (argument-at .result) (argument-at .ensures .0) (turns-of .ensures) in
-      let (o, z) = repeat-turn (if1 .left) is (if2 .left) (start .pre .1) in
+      let o = repeat-turn (if1 .left) is (if2 .left) (start .pre .1) .0 in
       let body = by-kind (kind-at .ensures .0) (if3 .taken) (run-repeat .ensures .0) in
       times-own body o
 
@@ -125,7 +125,7 @@ module _ (t : ℕ) where
       let begin-turn = c .begin-turn in
       let A = start .args in
       let is = turns-are (A .table .now .now) (A .i) (A .state .now .now) (argument-at .result) (argument-at .ensures .0) (turns-of .ensures) in
-      let (o, z) = repeat-turn (if1 .left) is (if2 .left) (start .pre .1) in
+      let z = repeat-turn (if1 .left) is (if2 .left) (start .pre .1) .1 in
       let body = by-kind (kind-at .ensures .0) (if3 .taken) (run-repeat .ensures .0) in
       (repeat-by (if1 .left) is (if2 .left) (times-wait body z (if4 .taken) (begin-turn .ensures)), run-repeat .ensures .1)
 
@@ -144,7 +144,7 @@ module _ (t : ℕ) where
       let run-repeat = c .before .before .before .run-repeat in
       let A = start .args in
       let is = turns-are (A .table .now .now) (A .i) (A .state .now .now) (argument-at .result) (argument-at .ensures .0) (turns-of .ensures) in
-      let (o, z) = repeat-turn (if1 .left) is (if2 .left) (start .pre .1) in
+      let o = repeat-turn (if1 .left) is (if2 .left) (start .pre .1) .0 in
       let body = by-kind (kind-at .ensures .0) (if3 .taken) (run-repeat .ensures .0) in
       times-own body o .0
 
@@ -166,7 +166,7 @@ module _ (t : ℕ) where
       let end-turns = c .end-turns in
       let A = start .args in
       let is = turns-are (A .table .now .now) (A .i) (A .state .now .now) (argument-at .result) (argument-at .ensures .0) (turns-of .ensures) in
-      let (o, z) = repeat-turn (if1 .left) is (if2 .left) (start .pre .1) in
+      let z = repeat-turn (if1 .left) is (if2 .left) (start .pre .1) .1 in
       let body = by-kind (kind-at .ensures .0) (if3 .taken) (run-repeat .ensures .0) in
       (repeat-by (if1 .left) is (if2 .left) (times-end body z (if4 .left) (if5 .taken) (end-turns .ensures)), run-repeat .ensures .1)
 
@@ -208,9 +208,10 @@ module _ (t : ℕ) where
       let run-times = c .run-times in
       let A = start .args in
       let is = turns-are (A .table .now .now) (A .i) (A .state .now .now) (argument-at .result) (argument-at .ensures .0) (turns-of .ensures) in
-      let body = by-kind (kind-at .ensures .0) (if3 .taken) (run-repeat .ensures .0) in
-      (repeat-by (if1 .left) is (if2 .left) (times-then body (if4 .left) (if5 .left) (run-times .ensures .0)),
-      named-then (run-repeat .ensures .1) (run-times .ensures .1))
+      let body = by-kind (kind-at .ensures .0) (if3 .taken) (run-repeat .ensures .0) in (
+        repeat-by (if1 .left) is (if2 .left) (times-then body (if4 .left) (if5 .left) (run-times .ensures .0)),
+        named-then (run-repeat .ensures .1) (run-times .ensures .1),
+      )
 
   -- run_times(table, i, state, numbers, atoms, left)
   run-times-requires-2 : Of lts.Need-run-times-requires-2

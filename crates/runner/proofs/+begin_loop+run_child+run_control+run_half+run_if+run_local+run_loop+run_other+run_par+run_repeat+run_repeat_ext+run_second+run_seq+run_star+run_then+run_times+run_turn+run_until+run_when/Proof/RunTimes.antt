@@ -74,9 +74,10 @@ module _ (t : ℕ) where
       let loop = c .before .before .before .before .before .before .before .loop in
       let run-turn = c .before .before .before .run-turn in
       let if1 = c .before .before .if1 in
-      let begin-turn = c .begin-turn in
-      (loop .inv .0 .goes-on (times-wait (run-turn .ensures .0) (loop .inv .0 .no-flags-yet) (if1 .taken) (begin-turn .ensures)),
-      named-then (loop .inv .1) (run-turn .ensures .1))
+      let begin-turn = c .begin-turn in (
+        loop .inv .0 .goes-on (times-wait (run-turn .ensures .0) (loop .inv .0 .no-flags-yet) (if1 .taken) (begin-turn .ensures)),
+        named-then (loop .inv .1) (run-turn .ensures .1),
+      )
 
   -- end_turns(*state, 4 * i);
   mul-end-turns : Of lts.Need-mul-end-turns
@@ -97,9 +98,10 @@ module _ (t : ℕ) where
       let run-turn = c .before .before .before .before .run-turn in
       let if1 = c .before .before .before .if1 in
       let if2 = c .before .before .if2 in
-      let end-turns = c .end-turns in
-      (loop .inv .0 .goes-on (times-end (run-turn .ensures .0) (loop .inv .0 .no-flags-yet) (if1 .left) (if2 .taken) (end-turns .ensures)),
-      named-then (loop .inv .1) (run-turn .ensures .1))
+      let end-turns = c .end-turns in (
+        loop .inv .0 .goes-on (times-end (run-turn .ensures .0) (loop .inv .0 .no-flags-yet) (if1 .left) (if2 .taken) (end-turns .ensures)),
+        named-then (loop .inv .1) (run-turn .ensures .1),
+      )
 
   -- loop {
   loop-again : Of lts.Need-loop-again

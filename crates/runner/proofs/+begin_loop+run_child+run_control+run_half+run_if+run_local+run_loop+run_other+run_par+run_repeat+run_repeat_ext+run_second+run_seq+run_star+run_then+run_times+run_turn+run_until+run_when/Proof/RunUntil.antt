@@ -162,9 +162,10 @@ module _ (t : ℕ) where
       let if3 = c .before .before .before .before .before .before .before .before .before .before .before .before .if3 in
       let run-child = c .before .before .before .before .before .run-child in
       let if6 = c .before .before .before .before .if6 in
-      let run-star3 = c .run-star3 in
-      (until-goes-on (if1 .left) (if2 .left) (if3 .left) (run-child .ensures .0) (if6 .left) (run-star3 .ensures .0),
-      named-then (run-child .ensures .1) (run-star3 .ensures .1))
+      let run-star3 = c .run-star3 in (
+        until-goes-on (if1 .left) (if2 .left) (if3 .left) (run-child .ensures .0) (if6 .left) (run-star3 .ensures .0),
+        named-then (run-child .ensures .1) (run-star3 .ensures .1),
+      )
 
   pub closed : {M : Type 1} → lts.Closed given (exactly lts.ps μ-run-until Pre t) Post M
   closed = lts.spec given (exactly lts.ps μ-run-until Pre t) Post
