@@ -1,18 +1,8 @@
 /* A program that asks the box in every instant whether a card is in: value 0 isn't 0 then. It shows the picture (action 1) if so, and asks for the
  * card (action 2) if not. Every answer is looked at before anything of it is used; a refusal ends the program with status 1. */
-#include <stdio.h>
 #include <string.h>
 
-#include "zapper.h"
-
-/* Tells a refusal, and whether there was one. */
-static int refused(const char *what, const uint64_t *answer)
-{
-    if (answer[ZAPPER_NUMBER] == 0)
-        return 0;
-    printf("%s refused %d %d\n", what, (int)answer[ZAPPER_NUMBER], (int)answer[ZAPPER_INDEX]);
-    return 1;
-}
+#include "refused.h"
 
 int main(void)
 {

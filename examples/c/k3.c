@@ -1,9 +1,7 @@
 /* Checks a table, starts its program and runs three instants of it (01, "Bench list", K3), listing each as the listing program does
  * and, where its end was declared, what it waited for. Every answer is looked at before anything of it is used; a refusal ends the program
  * with status 1. */
-#include <stdio.h>
-
-#include "zapper.h"
+#include "refused.h"
 
 /* Par(Seq(Await 0, Seq(Atom 7, Generate 1)), Await 1), two events */
 static const uint8_t table[] = {
@@ -42,15 +40,6 @@ static void print_atoms(const uint16_t *atoms, uint64_t count)
     }
     if (*before == ' ')
         printf(" -");
-}
-
-/* Tells a refusal, and whether there was one. The numbers are those of docs/REFUSALS.md. */
-static int refused(const char *what, const uint64_t *answer)
-{
-    if (answer[ZAPPER_NUMBER] == 0)
-        return 0;
-    printf("%s refused %d %d\n", what, (int)answer[ZAPPER_NUMBER], (int)answer[ZAPPER_INDEX]);
-    return 1;
 }
 
 int main(void)

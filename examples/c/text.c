@@ -1,18 +1,8 @@
 /* Reads the program P of 01 in written form, checks its table and prints it back; then reads a text in which a comma is missing, which must be
  * refused. Every answer is looked at before anything of it is used; one that isn't as expected ends the program with status 1. */
-#include <stdio.h>
 #include <string.h>
 
-#include "zapper.h"
-
-/* Tells a refusal, and whether there was one. */
-static int refused(const char *what, const uint64_t *answer)
-{
-    if (answer[ZAPPER_NUMBER] == 0)
-        return 0;
-    printf("%s refused %d %d\n", what, (int)answer[ZAPPER_NUMBER], (int)answer[ZAPPER_INDEX]);
-    return 1;
-}
+#include "refused.h"
 
 int main(void)
 {

@@ -147,8 +147,10 @@ module _ (t : ℕ) where
       let test-rank = c .before .before .before .before .before .before .before .before .test-rank in
       let if6 = c .before .before .before .before .before .before .if6 in
       let if7 = c .before .before .before .before .if7 in
-      let run-second2 = c .run-second2 in
-      (else-begins (if1 .left) (if2 .left) (if4 .left) (test-rank .ensures) (ranked-0 (if6 .taken)) (if7 .taken) (run-second2 .ensures .0), run-second2 .ensures .1)
+      let run-second2 = c .run-second2 in (
+        else-begins (if1 .left) (if2 .left) (if4 .left) (test-rank .ensures) (ranked-0 (if6 .taken)) (if7 .taken) (run-second2 .ensures .0),
+        run-second2 .ensures .1,
+      )
 
   -- state[4 * i] = SECOND;
   index-1-state-3 : Of lts.Need-index-1-state-3
