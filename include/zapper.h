@@ -1,9 +1,9 @@
 /*
- * The zapper kernel for C: check a table, start its program, run it one instant at a time; read a program in written form into a table, and
- * print a table in written form.
+ * The zapper kernel for C: check a table, start its program, run it one instant at a time; take what it has parked out of its store, to go on with it
+ * elsewhere; read a program in written form into a table, and print a table in written form.
  *
- * `rt staticlib kernel` makes libkernel.a, which has zapper_check, zapper_start and zapper_instant; `rt staticlib text` makes libtext.a, which has
- * zapper_read and zapper_print. A program links the one that it needs, or both.
+ * `rt staticlib kernel` makes libkernel.a, which has zapper_check, zapper_start, zapper_instant and zapper_take; `rt staticlib text` makes libtext.a,
+ * which has zapper_read and zapper_print. A program links the one that it needs, or both.
  *
  * A call takes whatever it is lent and returns: bad tables, damaged states, unknown events, texts that can't be read and short rooms are answered
  * by a number (the requirements' refusal numbers; 0 is success) and an index, and then no room has been written. A call keeps nothing between
@@ -33,12 +33,13 @@ enum { ZAPPER_NUMBER = 0, ZAPPER_INDEX = 1 };
  * A check's answer: what bounds an instant. One instant generates at most so many events and does at most so many atoms; one pass of it runs at
  * most ZAPPER_WEIGHT nodes, a node counted every time that it is run (a Repeat once, its body once a repetition). An instant has at most
  * ZAPPER_GENERATIONS + 2 passes, so it runs at most (ZAPPER_GENERATIONS + 2) * ZAPPER_WEIGHT nodes. Nodes are counted as the rules run them;
- * checking the table and the state, reading a configuration and clearing a preempted body are not counted. All three are 0 if the table is refused.
+ * checking the table, the state and the store, reading a configuration and clearing or parking a body are not counted. One instant parks at most
+ * ZAPPER_PARKED bytes, at most 16,384. All four are 0 if the table is refused.
  * A Repeat whose body can't end in the instant that begins it counts the body twice at most. What can't is worked out from the tests too: an Await
  * whose test can't be true before the instant's end, a When or Until whose parts that can be reached before it can't. Values are not known here: of an
  * If the larger branch counts, and a RepeatExt counts as a Repeat of its cap.
  */
-enum { ZAPPER_GENERATIONS = 2, ZAPPER_MOST_ATOMS = 3, ZAPPER_WEIGHT = 4, ZAPPER_CHECK_PLACES = 5 };
+enum { ZAPPER_GENERATIONS = 2, ZAPPER_MOST_ATOMS = 3, ZAPPER_WEIGHT = 4, ZAPPER_PARKED = 5, ZAPPER_CHECK_PLACES = 6 };
 
 /* A start's answer. */
 enum { ZAPPER_START_PLACES = 2 };
@@ -73,6 +74,9 @@ enum {
     ZAPPER_INSTANT_PLACES = ZAPPER_EVENTS + ZAPPER_EVENT_WORDS
 };
 
+/* A taking's answer: how many bytes of the piece's table and of its state stand at the start of their rooms. Both are 0 if the taking is refused. */
+enum { ZAPPER_TABLE_LENGTH = 2, ZAPPER_STATE_LENGTH = 3, ZAPPER_TAKE_PLACES = 4 };
+
 /* The answer of reading and of printing: how many bytes were written at the start of the room. It is 0 if the text or the table is refused. */
 enum { ZAPPER_LENGTH = 2, ZAPPER_TEXT_PLACES = 3 };
 
@@ -83,16 +87,39 @@ void zapper_check(const uint8_t *table, size_t table_length, uint64_t answer[ZAP
 void zapper_start(const uint8_t *table, size_t table_length, uint8_t *state, size_t state_length, uint64_t answer[ZAPPER_START_PLACES]);
 
 /*
- * Refusals 1 to 12: runs one instant with these events and values handed in. The state becomes the next one; the numbers of the atoms done go into
- * `atoms`, in order. The row needs ZAPPER_MOST_ATOMS places; those behind the atoms written are not touched.
+ * Refusals 1 to 13 and 25: runs one instant with these events and values handed in. The state becomes the next one; the numbers of the atoms done go
+ * into `atoms`, in order. The row needs ZAPPER_MOST_ATOMS places; those behind the atoms written are not touched.
  *
  * The values are fixed throughout the instant. An If that is reached goes on with its first branch if its value isn't 0, else with its second, and
  * keeps to it in later instants. A RepeatExt runs its body as often as the lesser of its cap and its value says, read when it begins. A program
  * without these two forms answers the same whatever the values are.
+ *
+ * The store holds what the program has parked: a Freezable whose event is present when its body has stopped leaves that body, half done as it is,
+ * in the store as a piece. It belongs to the table and lasts over the instants, as the state does: begin it empty, its first two bytes 0, and lend
+ * the same bytes to every instant of the table; zapper_take takes pieces out of it. Those two bytes, the high one first, count the bytes in use
+ * behind them; new pieces go behind these, and what stands behind the new ones is not touched.
+ *
+ * 25 is a store that no instant of this table leaves: fewer than two bytes, more in use than there are, or a piece that is damaged or another table's.
+ * 13 is a store with fewer than ZAPPER_PARKED bytes free; it comes at every instant, whatever the instant would have parked, until a piece is taken or
+ * a longer store is lent. So a store has 2 bytes, ZAPPER_PARKED for the next instant, and as many as the pieces that wait in it to be taken; a program
+ * without Freezables needs just the 2. Of a store of more than 65,537 bytes the rest isn't used.
  */
 void zapper_instant(const uint8_t *table, size_t table_length, uint8_t *state, size_t state_length,
                     const uint64_t handed_in[ZAPPER_EVENT_WORDS], const uint8_t values[ZAPPER_VALUES],
-                    uint16_t *atoms, size_t atoms_length, uint64_t answer[ZAPPER_INSTANT_PLACES]);
+                    uint16_t *atoms, size_t atoms_length, uint8_t *store, size_t store_length,
+                    uint64_t answer[ZAPPER_INSTANT_PLACES]);
+
+/*
+ * Refusals 1 to 8, 25, 14 and 15: takes the newest piece of an event out of a store of this table. It leaves as a table and a state of its own, each
+ * at the start of its room, that zapper_instant goes on with in any box, with a store of its own; don't start it. The other pieces stay in their
+ * order, those behind it move down, and the room serves again.
+ *
+ * 14 is an event of which there is no piece, 15 a table or a state that is longer than its room. No piece is longer than the table and the state that
+ * parked it: rooms as long as these two always suffice. What stands behind the table and the state in the rooms is not touched.
+ */
+void zapper_take(const uint8_t *table, size_t table_length, uint8_t *store, size_t store_length, size_t event,
+                 uint8_t *table_room, size_t table_room_length, uint8_t *state_room, size_t state_room_length,
+                 uint64_t answer[ZAPPER_TAKE_PLACES]);
 
 /*
  * Refusals 21, 22 and 1 to 8: reads a program in written form and puts its table at the start of the room. 21 is a text that has no reading; the

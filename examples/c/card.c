@@ -10,6 +10,7 @@ int main(void)
     static const uint64_t no_events[ZAPPER_EVENT_WORDS];
     static const uint8_t values[3][ZAPPER_VALUES] = {{0}, {1}, {0}};
     uint8_t table[100], state[6 * 4]; /* six nodes */
+    uint8_t store[2] = {0};           /* nothing here is parked */
     uint16_t atoms[2];                /* as many places as the check answers */
     uint64_t read[ZAPPER_TEXT_PLACES], started[ZAPPER_START_PLACES], answer[ZAPPER_INSTANT_PLACES];
 
@@ -21,7 +22,8 @@ int main(void)
     if (refused("start", started))
         return 1;
     for (int k = 0; k < 3; k++) {
-        zapper_instant(table, length, state, sizeof state, no_events, values[k], atoms, sizeof atoms / sizeof atoms[0], answer);
+        zapper_instant(table, length, state, sizeof state, no_events, values[k], atoms, sizeof atoms / sizeof atoms[0],
+                       store, sizeof store, answer);
         if (refused("instant", answer))
             return 1;
         printf("%s:", values[k][0] ? "a card" : "no card");

@@ -47,6 +47,7 @@ int main(void)
     static const uint64_t handed_in[3][ZAPPER_EVENT_WORDS] = {{0}, {1u << 0}, {1u << 1}};
     static const uint8_t values[ZAPPER_VALUES]; /* nothing here asks for one */
     uint8_t state[7 * 4]; /* four bytes a node */
+    uint8_t store[2] = {0}; /* nothing here is parked */
     uint16_t atoms[1];    /* as many places as the check answers */
     uint64_t checked[ZAPPER_CHECK_PLACES], started[ZAPPER_START_PLACES], answer[ZAPPER_INSTANT_PLACES];
 
@@ -60,7 +61,7 @@ int main(void)
         return 1;
     for (int k = 0; k < 3; k++) {
         zapper_instant(table, sizeof table, state, sizeof state, handed_in[k], values, atoms, sizeof atoms / sizeof atoms[0],
-                       answer);
+                       store, sizeof store, answer);
         if (refused("instant", answer))
             return 1;
         printf("%d %d %s", k + 1, (int)answer[ZAPPER_PASSES], answer[ZAPPER_FINISHED] ? "TERM" : "STOP");

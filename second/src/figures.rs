@@ -1,4 +1,4 @@
-//! The loading figures of 01: which nodes stop, and the figures G, A and W (refusals 7 and 8).
+//! The loading figures of 01 and L8: which nodes stop, and the figures G, A, W and F (refusals 7 and 8).
 
 use crate::table::{Node, Refusal, Written};
 
@@ -7,6 +7,8 @@ pub struct Figures {
     pub g: u64,
     pub a: u64,
     pub w: u64,
+    /// The bytes that one instant can park (L8).
+    pub f: u64,
 }
 
 /// The figures of a tree, meeting the refusals 7 and 8 in their order.
@@ -15,11 +17,12 @@ pub fn load(root: &Node) -> Result<Figures, Refusal> {
         return Err(Refusal::new(7, index));
     }
     let figures = Figures {
-        g: figure(root, &|form| u64::from(matches!(form, Written::Generate(_)))),
-        a: figure(root, &|form| u64::from(matches!(form, Written::Atom(_)))),
+        g: figure(root, &|node| u64::from(matches!(node.written, Written::Generate(_)))),
+        a: figure(root, &|node| u64::from(matches!(node.written, Written::Atom(_)))),
         w: figure(root, &|_| 1),
+        f: figure(root, &parked),
     };
-    if figures.g > 4094 || figures.a > 4096 || figures.w > 65_535 {
+    if figures.g > 4094 || figures.a > 4096 || figures.w > 65_535 || figures.f > 16_384 {
         return Err(Refusal::new(8, 0));
     }
     Ok(figures)
@@ -38,8 +41,8 @@ pub fn stops(node: &Node) -> bool {
         Written::Control(_, body) | Written::Local(_, body) => stops(body),
         Written::Repeat(count, body) => *count >= 1 && stops(body),
         Written::If(_, then, other) => stops(then) && stops(other),
-        // A value of 0 ends it at once (L14).
-        Written::RepeatExt(..) => false,
+        // A value of 0 ends it at once (L14), its event does (L8).
+        Written::RepeatExt(..) | Written::Freezable(..) => false,
     }
 }
 
@@ -52,7 +55,8 @@ fn endless_loop(node: &Node) -> Option<usize> {
         | Written::Repeat(_, body)
         | Written::RepeatExt(.., body)
         | Written::Control(_, body)
-        | Written::Local(_, body) => endless_loop(body),
+        | Written::Local(_, body)
+        | Written::Freezable(_, body) => endless_loop(body),
         Written::Seq(first, second)
         | Written::Par(first, second)
         | Written::When(_, first, second)
@@ -63,7 +67,7 @@ fn endless_loop(node: &Node) -> Option<usize> {
 
 /// A figure over own weights. Sums that grow too large stay at the largest number, which lies
 /// beyond every limit and still gives 0 when taken 0 times.
-fn figure(node: &Node, weight: &dyn Fn(&Written) -> u64) -> u64 {
+fn figure(node: &Node, weight: &dyn Fn(&Node) -> u64) -> u64 {
     let of = |child: &Node| figure(child, weight);
     // A count or a cap, of which a body that stops is begun at most twice in an instant.
     let repeated = |most: u16, body: &Node| {
@@ -76,10 +80,18 @@ fn figure(node: &Node, weight: &dyn Fn(&Written) -> u64) -> u64 {
             of(first).saturating_add(of(second))
         }
         Written::When(_, then, other) | Written::If(_, then, other) => of(then).max(of(other)),
-        Written::Control(_, body) | Written::Local(_, body) => of(body),
+        Written::Control(_, body) | Written::Local(_, body) | Written::Freezable(_, body) => of(body),
         Written::Loop(body) => of(body).saturating_mul(2),
         Written::Repeat(count, body) => repeated(*count, body),
         Written::RepeatExt(_, cap, body) => repeated(u16::from(*cap), body),
     };
-    weight(&node.written).saturating_add(below)
+    weight(node).saturating_add(below)
+}
+
+/// A Freezable weighs what one piece of it takes in the store: 4 bytes, and 4 for each node of its body (L8).
+fn parked(node: &Node) -> u64 {
+    match &node.written {
+        Written::Freezable(_, body) => 4 + 4 * body.size as u64,
+        _ => 0,
+    }
 }

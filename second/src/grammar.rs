@@ -30,6 +30,7 @@ pub enum Piece {
     Until,
     Control,
     Local,
+    Freezable,
 }
 
 /// One thing after another in a choice.
@@ -84,6 +85,7 @@ const PROGRAMS: &[Choice] = &[
     &[Bytes("Jr.Local("), EVENT, COMMA, PROGRAM, CLOSE, Makes(Local)],
     &[Bytes("Jr.If("), VALUE, COMMA, PROGRAM, COMMA, PROGRAM, CLOSE, Makes(If)],
     &[Bytes("Jr.RepeatExt("), VALUE, COMMA, CAP, COMMA, PROGRAM, CLOSE, Makes(RepeatExt)],
+    &[Bytes("Jr.Freezable("), EVENT, COMMA, PROGRAM, CLOSE, Makes(Freezable)],
 ];
 
 const CONFIGS: &[Choice] =
@@ -114,7 +116,7 @@ impl Piece {
         match self {
             Number(_) | Nothing | Stop => 0,
             Event | Not | Atom | Loop | Generate | Await => 1,
-            And | Or | Seq | Par | Repeat | Control | Local => 2,
+            And | Or | Seq | Par | Repeat | Control | Local | Freezable => 2,
             When | Until | If | RepeatExt => 3,
         }
     }
@@ -126,6 +128,6 @@ impl Piece {
 
     /// Its first part is the number of an event.
     pub fn names_event(self) -> bool {
-        matches!(self, Event | Generate | Control | Local)
+        matches!(self, Event | Generate | Control | Local | Freezable)
     }
 }

@@ -1,9 +1,10 @@
-//! The three calls of 01: check a table, start, and run one instant.
+//! The three calls of 01: check a table, start, and run one instant, which parks into a store (L8).
 
 use crate::env::{Env, Events, Values};
 use crate::figures::{self, Figures};
-use crate::rules::{self, Course, Unknown};
+use crate::rules::{self, Course, Frozen, Unknown};
 use crate::state;
+use crate::store::{self, Piece};
 use crate::table::{self, Program, Refusal};
 use crate::term::{Flag, Term};
 
@@ -45,8 +46,9 @@ pub fn instant(
     handed: Events,
     values: Values,
     row: &mut [u16],
+    store: &mut [u8],
 ) -> Result<Report, Refusal> {
-    in_any_order(table, state, handed, values, row, &mut || false)
+    in_any_order(table, state, handed, values, row, store, &mut || false)
 }
 
 /// Runs one instant in which each Par asks, in each pass where both branches are suspended, which one runs first (L6).
@@ -56,6 +58,7 @@ pub fn in_any_order(
     handed: Events,
     values: Values,
     row: &mut [u16],
+    store: &mut [u8],
     second_first: &mut dyn FnMut() -> bool,
 ) -> Result<Report, Refusal> {
     let (program, figures) = load(table)?;
@@ -69,11 +72,21 @@ pub fn in_any_order(
     if (row.len() as u64) < figures.a {
         return Err(Refusal::new(12, 0));
     }
+    let mut pieces = store::read(&program.root, store)?;
+    store::has_room(store, &pieces, figures.f)?;
     let mut course = Course::new(values, second_first);
     let (answer, residual, report) = passes(state::read(&program.root, room), handed, &mut course);
     state::write(&program.root, answer, &residual, room);
     row[..report.atoms].copy_from_slice(&course.actions);
+    pieces.extend(course.frozen.iter().map(|frozen| parked(&program, frozen)));
+    store::write(&pieces, store);
     Ok(report)
+}
+
+/// The piece that a frozen instruction becomes.
+fn parked(program: &Program, frozen: &Frozen) -> Piece {
+    let body = state::node_at(&program.root, frozen.body);
+    Piece { event: frozen.event, body: body.at, state: state::of_residual(body, &frozen.rest) }
 }
 
 /// A table that passes 1 to 8, with its figures.

@@ -149,6 +149,7 @@ fn node_kind(piece: Piece) -> Option<u8> {
         Piece::Until => Some(10),
         Piece::Control => Some(11),
         Piece::Local => Some(12),
+        Piece::Freezable => Some(13),
         Piece::If => Some(14),
         Piece::RepeatExt => Some(15),
         Piece::Number(_) | Piece::Event | Piece::Not | Piece::And | Piece::Or => None,

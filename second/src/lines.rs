@@ -3,6 +3,7 @@
 
 use crate::env::{Events, Values, EVENTS};
 use crate::instant::{self, Report};
+use crate::store::{self, Taken};
 use crate::table::Refusal;
 use crate::text;
 use crate::words;
@@ -23,6 +24,15 @@ pub enum Call {
         events: Events,
         values: Values,
         row: Vec<u16>,
+        store: Vec<u8>,
+    },
+    /// The event whose newest piece is taken, and the rooms for its table and state (L8).
+    Take {
+        table: Vec<u8>,
+        store: Vec<u8>,
+        event: u16,
+        table_room: Vec<u8>,
+        state_room: Vec<u8>,
     },
     /// The text and the room for its table.
     Read {
@@ -54,13 +64,21 @@ pub fn print(call: &Call) -> String {
     match call {
         Call::Check { table } => format!("check {}", words::hex(table)),
         Call::Start { table, state } => format!("start {} {}", words::hex(table), words::hex(state)),
-        Call::Instant { table, state, events, values, row } => format!(
-            "instant {} {} {} {} {}",
+        Call::Instant { table, state, events, values, row, store } => format!(
+            "instant {} {} {} {} {} {}",
             words::hex(table),
             words::hex(state),
             words::list(events.rising()),
             words::hex(values),
-            words::hex(&words::row_bytes(row))
+            words::hex(&words::row_bytes(row)),
+            words::hex(store)
+        ),
+        Call::Take { table, store, event, table_room, state_room } => format!(
+            "take {} {} {event} {} {}",
+            words::hex(table),
+            words::hex(store),
+            words::hex(table_room),
+            words::hex(state_room)
         ),
         Call::Read { text, room } => format!("read {} {}", words::hex(text), words::hex(room)),
         Call::Print { table, room } => format!("print {} {}", words::hex(table), words::hex(room)),
@@ -75,12 +93,20 @@ fn read(line: &[u8]) -> Option<Call> {
     match words[..] {
         [b"check", table] => Some(Call::Check { table: read_table(table)? }),
         [b"start", table, state] => Some(Call::Start { table: read_table(table)?, state: read_state(state)? }),
-        [b"instant", table, state, events, values, row] => Some(Call::Instant {
+        [b"instant", table, state, events, values, row, store] => Some(Call::Instant {
             table: read_table(table)?,
             state: read_state(state)?,
             events: read_events(events)?,
             values: read_values(values)?,
             row: read_row(row)?,
+            store: read_store(store)?,
+        }),
+        [b"take", table, store, event, table_room, state_room] => Some(Call::Take {
+            table: read_table(table)?,
+            store: read_store(store)?,
+            event: words::event(event)?,
+            table_room: read_table(table_room)?,
+            state_room: read_state(state_room)?,
         }),
         [b"read", text, room] => Some(Call::Read { text: read_text(text)?, room: read_table(room)? }),
         [b"print", table, room] => Some(Call::Print { table: read_table(table)?, room: read_text(room)? }),
@@ -98,6 +124,10 @@ fn read_text(word: &[u8]) -> Option<Vec<u8>> {
 
 fn read_state(word: &[u8]) -> Option<Vec<u8>> {
     words::read_hex(word).filter(|state| state.len() <= 17_000)
+}
+
+fn read_store(word: &[u8]) -> Option<Vec<u8>> {
+    words::read_hex(word).filter(|store| store.len() <= 66_000)
 }
 
 fn read_row(word: &[u8]) -> Option<Vec<u16>> {
@@ -121,20 +151,20 @@ fn read_values(word: &[u8]) -> Option<Values> {
 fn make(call: Call, second_first: &mut dyn FnMut() -> bool) -> String {
     match call {
         Call::Check { table } => match instant::check(&table) {
-            Ok(figures) => format!("0 0 {} {} {}", figures.g, figures.a, figures.w),
-            Err(Refusal { number, index }) => format!("{number} {index} 0 0 0"),
+            Ok(figures) => format!("0 0 {} {} {} {}", figures.g, figures.a, figures.w, figures.f),
+            Err(Refusal { number, index }) => format!("{number} {index} 0 0 0 0"),
         },
         Call::Start { table, mut state } => {
             let Refusal { number, index } = instant::start(&table, &mut state).err().unwrap_or(Refusal::new(0, 0));
             format!("{number} {index} {}", words::hex(&state))
         }
-        Call::Instant { table, mut state, events, values, mut row } => {
-            let answer = instant::in_any_order(&table, &mut state, events, values, &mut row, second_first);
+        Call::Instant { table, mut state, events, values, mut row, mut store } => {
+            let answer = instant::in_any_order(&table, &mut state, events, values, &mut row, &mut store, second_first);
             let Refusal { number, index } = answer.as_ref().err().copied().unwrap_or(Refusal::new(0, 0));
             let refused = Report { events: Events::none(), atoms: 0, finished: false, passes: 0, waits: None };
             let report = answer.unwrap_or(refused);
             format!(
-                "{number} {index} {} {} {} {} {} {} {} {} {} {}",
+                "{number} {index} {} {} {} {} {} {} {} {} {} {} {}",
                 words::list(report.events.rising()),
                 report.events.rising().count(),
                 report.events.rising().next().map_or(EVENTS, usize::from),
@@ -144,7 +174,21 @@ fn make(call: Call, second_first: &mut dyn FnMut() -> bool) -> String {
                 report.waits.map_or(4096, |wait| wait.node),
                 report.waits.map_or(EVENTS, |wait| usize::from(wait.event)),
                 words::hex(&state),
-                words::hex(&words::row_bytes(&row))
+                words::hex(&words::row_bytes(&row)),
+                words::hex(&store)
+            )
+        }
+        Call::Take { table, mut store, event, mut table_room, mut state_room } => {
+            let answer = store::take(&table, &mut store, event, &mut table_room, &mut state_room);
+            let Refusal { number, index } = answer.err().unwrap_or(Refusal::new(0, 0));
+            let taken = answer.unwrap_or(Taken { table: 0, state: 0 });
+            format!(
+                "{number} {index} {} {} {} {} {}",
+                taken.table,
+                taken.state,
+                words::hex(&store),
+                words::hex(&table_room),
+                words::hex(&state_room)
             )
         }
         Call::Read { text, mut room } => written(text::read(&text, &mut room), &room),
@@ -174,14 +218,32 @@ mod tests {
 
     #[test]
     fn good_lines() {
-        says(&format!("check {NOTHING}"), "0 0 0 0 1");
-        says("check -", "1 0 0 0 0");
+        says(&format!("check {NOTHING}"), "0 0 0 0 1 0");
+        says("check -", "1 0 0 0 0 0");
         says(&format!("start {NOTHING} 0102030405"), "0 0 0000000005");
         says(&format!("start {NOTHING} 010203"), "9 0 010203");
         says(&format!("start {NOTHING} -"), "9 0 -");
-        says(&format!("instant {NOTHING} 00000000ff 0,0 {ZEROS} -"), "0 0 0 1 0 0 1 1 4096 1024 03000000ff -");
-        says(&format!("instant {NOTHING} 00000000 - {ZEROS} 0007"), "0 0 - 0 1024 0 1 1 4096 1024 03000000 0007");
-        says(&format!("instant {NOTHING} 00000000 3,0,1 {ZEROS} 0007"), "11 1 - 0 1024 0 0 0 4096 1024 00000000 0007");
+        says(
+            &format!("instant {NOTHING} 00000000ff 0,0 {ZEROS} - 0000"),
+            "0 0 0 1 0 0 1 1 4096 1024 03000000ff - 0000",
+        );
+        says(
+            &format!("instant {NOTHING} 00000000 - {ZEROS} 0007 000003"),
+            "0 0 - 0 1024 0 1 1 4096 1024 03000000 0007 000003",
+        );
+        says(
+            &format!("instant {NOTHING} 00000000 3,0,1 {ZEROS} 0007 -"),
+            "11 1 - 0 1024 0 0 0 4096 1024 00000000 0007 -",
+        );
+        // A lone Freezable over Stop, and its piece taken.
+        let frozen = "0d0000000002010000000001000200000001000c0000";
+        let stop = "01000000000100010000000100060000";
+        says(&format!("check {frozen}"), "0 0 0 0 2 8");
+        says(
+            &format!("take {frozen} 00080000000103000000 0 {} 0102030405", "ee".repeat(17)),
+            &format!("0 0 16 4 00000000000103000000 {stop}ee 0300000005"),
+        );
+        says(&format!("take {frozen} 0000ff 0 01 02"), "14 0 0 0 0000ff 01 02");
         // The text of the table.
         let text = words::hex(b"Jr.Nothing()");
         says(&format!("read {text} {NOTHING}0506"), &format!("0 0 16 {NOTHING}0506"));
@@ -198,36 +260,60 @@ mod tests {
         for line in ["", "check", "check  -", " check -", "check - ", "check - -", "Check -", "check 0", "check 0G"] {
             says(line, "bad-line");
         }
-        for line in ["start -", "start - - -", "instant - - -", "instant - - - - -", "instant - -  - -", "check -\r"] {
+        for line in
+            ["start -", "start - - -", "instant - - -", "instant - - - - - -", "instant - -  - - -", "check -\r"]
+        {
             says(line, "bad-line");
         }
         for line in ["read", "read -", "read - - -", "read 4A -", "read - 0", "print -", "print - - -", "prints - -"] {
             says(line, "bad-line");
         }
+        for line in ["take", "take - - 0 -", "take - - 0 - - -", "take - - - - -", "take - 0 0 - -", "Take - - 0 - -"] {
+            says(line, "bad-line");
+        }
+        for event in ["", "1024", "00", "0,1", "x"] {
+            says(&format!("take - - {event} - -"), "bad-line");
+        }
+        says("take - - 1023 - -", "1 0 0 0 - - -");
         for events in ["", ",", "0,", ",0", "00", "1024", "0,,1", "0 1", "-,0", "+1"] {
-            says(&format!("instant - - {events} {ZEROS} -"), "bad-line");
+            says(&format!("instant - - {events} {ZEROS} - -"), "bad-line");
         }
         for row in ["", "00", "0", "000000", "000G"] {
-            says(&format!("instant - - - {ZEROS} {row}"), "bad-line");
+            says(&format!("instant - - - {ZEROS} {row} -"), "bad-line");
         }
-        says(&format!("instant - - - {ZEROS} -"), "1 0 - 0 1024 0 0 0 4096 1024 - -");
+        for store in ["", "0", "000", "0G"] {
+            says(&format!("instant - - - {ZEROS} - {store}"), "bad-line");
+        }
+        says(&format!("instant - - - {ZEROS} - -"), "1 0 - 0 1024 0 0 0 4096 1024 - - -");
         for values in ["", "-", "00", &ZEROS[2..], &ZEROS[1..], &format!("{ZEROS}00"), &ZEROS.replace("00", "0A")] {
-            says(&format!("instant - - - {values} -"), "bad-line");
+            says(&format!("instant - - - {values} - -"), "bad-line");
         }
     }
 
     #[test]
     fn limits_of_a_line() {
         let zeros = |bytes: usize| "00".repeat(bytes);
-        says(&format!("check {}", zeros(33_000)), "1 0 0 0 0");
+        says(&format!("check {}", zeros(33_000)), "1 0 0 0 0 0");
         says(&format!("check {}", zeros(33_001)), "bad-line");
         says(&format!("start - {}", zeros(17_000)), &format!("1 0 {}", zeros(17_000)));
         says(&format!("start - {}", zeros(17_001)), "bad-line");
         says(
-            &format!("instant - - - {ZEROS} {}", zeros(8_400)),
-            &format!("1 0 - 0 1024 0 0 0 4096 1024 - {}", zeros(8_400)),
+            &format!("instant - - - {ZEROS} {} -", zeros(8_400)),
+            &format!("1 0 - 0 1024 0 0 0 4096 1024 - {} -", zeros(8_400)),
         );
-        says(&format!("instant - - - {ZEROS} {}", zeros(8_402)), "bad-line");
+        says(&format!("instant - - - {ZEROS} {} -", zeros(8_402)), "bad-line");
+        says(
+            &format!("instant - - - {ZEROS} - {}", zeros(66_000)),
+            &format!("1 0 - 0 1024 0 0 0 4096 1024 - - {}", zeros(66_000)),
+        );
+        says(&format!("instant - - - {ZEROS} - {}", zeros(66_001)), "bad-line");
+        for (store, table, state, wanted) in
+            [(66_001, 0, 0, true), (0, 33_001, 0, true), (0, 0, 17_001, true), (66_000, 33_000, 17_000, false)]
+        {
+            let rooms = [store, table, state].map(|length| words::hex(&vec![0; length]));
+            let answer = answer(format!("take - {} 0 {} {}", rooms[0], rooms[1], rooms[2]).as_bytes());
+            assert_eq!(answer == "bad-line", wanted);
+        }
         for word in ["read", "print"] {
             for (given, room) in [(33_001, 0), (0, 33_001)] {
                 says(&format!("{word} {} {}", words::hex(&vec![0; given]), words::hex(&vec![0; room])), "bad-line");
@@ -235,10 +321,10 @@ mod tests {
         }
         says(&format!("read {} {}", zeros(33_000), zeros(33_000)), &format!("21 0 0 {}", zeros(33_000)));
         says(&format!("print {} {}", zeros(33_000), zeros(33_000)), &format!("1 0 0 {}", zeros(33_000)));
-        // The events may be as many as the line holds: 12 + 399,953 + 35 bytes are 400,000.
-        let many = ",10".repeat(133_317);
-        says(&format!("instant - - 10{many} {ZEROS} -"), "1 0 - 0 1024 0 0 0 4096 1024 - -");
-        says(&format!("instant - - 100{many} {ZEROS} -"), "bad-line");
+        // The events may be as many as the line holds: 12 + 399,951 + 37 bytes are 400,000.
+        let many = ",10".repeat(133_316);
+        says(&format!("instant - - 100{many} {ZEROS} - -"), "1 0 - 0 1024 0 0 0 4096 1024 - - -");
+        says(&format!("instant - - 1000{many} {ZEROS} - -"), "bad-line");
     }
 
     #[test]
@@ -249,8 +335,13 @@ mod tests {
             events: [3, 900].into_iter().collect(),
             values: [1, 2, 0, 0, 0, 0, 0, 0, 0, 0, 0, 0, 0, 0, 0, 255],
             row: vec![7, 65_535],
+            store: vec![0, 0, 9],
         };
-        assert_eq!(print(&call), "instant 0102 - 3,900 010200000000000000000000000000ff 0007ffff");
+        assert_eq!(print(&call), "instant 0102 - 3,900 010200000000000000000000000000ff 0007ffff 000009");
+        assert_eq!(read(print(&call).as_bytes()), Some(call));
+        let call =
+            Call::Take { table: vec![1, 2], store: vec![0, 0], event: 1_023, table_room: vec![], state_room: vec![7] };
+        assert_eq!(print(&call), "take 0102 0000 1023 - 07");
         assert_eq!(read(print(&call).as_bytes()), Some(call));
     }
 }

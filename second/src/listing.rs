@@ -9,6 +9,9 @@ use crate::table::{Node, Refusal};
 use crate::words;
 use std::io::{BufRead, Result, Write};
 
+/// The store that is lent, begun empty (L8).
+const STORE_BYTES: usize = 32_768;
+
 /// A line above this many bytes is bad, its newline aside.
 const LINE_BYTES: usize = 4096;
 
@@ -37,6 +40,7 @@ fn each_instant<W: Write>(
     // Room enough for any table: 4,096 nodes and as many atoms.
     let mut state = [0; 4 * 4096];
     let mut row = [0; 4096];
+    let mut store = [0; STORE_BYTES];
     let program = match instant::start(table, &mut state).and_then(|()| instant::load(table)) {
         Ok((program, _)) => program,
         Err(Refusal { number, index }) => return writeln!(out, "table refused {number} {index}"),
@@ -47,7 +51,7 @@ fn each_instant<W: Write>(
         let Some(events) = read(line) else {
             return writeln!(out, "{number} bad-line");
         };
-        match instant::instant(table, &mut state, events, Values::default(), &mut row) {
+        match instant::instant(table, &mut state, events, Values::default(), &mut row, &mut store) {
             Ok(report) => {
                 writeln!(
                     out,

@@ -14,6 +14,7 @@ mod programs;
 mod rules;
 mod spell;
 mod state;
+mod store;
 mod table;
 mod term;
 mod text;
@@ -29,11 +30,14 @@ use std::path::Path;
 use std::process::ExitCode;
 
 const USAGE: &str =
-    "usage: second calls | orders SEED | run | why | check | read | print | make edges | make text-edges \
-                     | make calls|loops|orders|texts|values|waits CASES SEED | make listing SEED DIR";
+    "usage: second calls | orders SEED | run | why | check | read | print | take | make edges | make text-edges \
+                     | make calls|loops|orders|parked|texts|values|waits CASES SEED | make listing SEED DIR";
 
-/// The file that holds the table, in the current folder.
+/// The files that hold the table and the store, in the current folder, and those that a taken piece goes to.
 const TABLE: &str = "table.bin";
+const STORE: &str = "store.bin";
+const PIECE_TABLE: &str = "piece-table.bin";
+const PIECE_STATE: &str = "piece-state.bin";
 
 fn main() -> ExitCode {
     let arguments: Vec<String> = std::env::args().skip(1).collect();
@@ -53,6 +57,7 @@ fn main() -> ExitCode {
         ["check"] => out.write_all(programs::check(&read_table(Path::new(TABLE))).as_bytes()),
         ["print"] => out.write_all(&programs::print(&read_table(Path::new(TABLE)))),
         ["read"] => read_text(&mut out),
+        ["take"] => take_piece(&mut out),
         ["make", "edges"] => print_lines(&mut out, make::edges::lines()),
         ["make", "text-edges"] => print_lines(&mut out, make::text_edges::lines()),
         ["make", "listing", seed, dir] => match seed.parse() {
@@ -101,6 +106,22 @@ fn read_text(out: &mut impl Write) -> Result<()> {
     std::io::stdin().lock().read_to_end(&mut text)?;
     match programs::read(&text) {
         Ok(table) => std::fs::write(TABLE, table),
+        Err(told) => out.write_all(told.as_bytes()),
+    }
+}
+
+/// Writes the piece that is taken and the store without it, or tells why there is none.
+fn take_piece(out: &mut impl Write) -> Result<()> {
+    let mut input = Vec::new();
+    std::io::stdin().lock().read_to_end(&mut input)?;
+    // A store that can't be read counts as empty.
+    let store = std::fs::read(STORE).unwrap_or_default();
+    match programs::take(&read_table(Path::new(TABLE)), &store, &input) {
+        Ok(moved) => {
+            std::fs::write(PIECE_TABLE, moved.table)?;
+            std::fs::write(PIECE_STATE, moved.state)?;
+            std::fs::write(STORE, moved.store)
+        }
         Err(told) => out.write_all(told.as_bytes()),
     }
 }

@@ -1,13 +1,17 @@
-//! What the programs zap_check, zap_print and zap_read print, so that the tools over them can be tried with the
-//! second program in their place. (zap_run is the listing program, zap_calls the lines of the calls.)
+//! What the programs zap_check, zap_print, zap_read and zap_take print and write, so that the tools over them can be tried with
+//! the second program in their place. (zap_run is the listing program, zap_calls the lines of the calls.)
 
 use crate::instant;
+use crate::store::{self, Taken};
 use crate::table::Refusal;
 use crate::text;
 use crate::ways;
+use crate::words;
 
 /// The bytes of the longest table, and of the longest text that is read or printed.
 const TABLE_BYTES: usize = 32_778;
+/// The bytes of the longest state.
+const STATE_BYTES: usize = 4 * 4_096;
 const TEXT_BYTES: usize = 1_048_576;
 
 /// Of the line that fails so many bytes are shown, and so many of these before the byte that does.
@@ -17,8 +21,8 @@ const BEFORE: usize = 60;
 /// zap_check: the check's answer as a line.
 pub fn check(table: &[u8]) -> String {
     match instant::check(table) {
-        Ok(figures) => format!("0 0 {} {} {}\n", figures.g, figures.a, figures.w),
-        Err(Refusal { number, index }) => format!("{number} {index} 0 0 0\n"),
+        Ok(figures) => format!("0 0 {} {} {} {}\n", figures.g, figures.a, figures.w, figures.f),
+        Err(Refusal { number, index }) => format!("{number} {index} 0 0 0 0\n"),
     }
 }
 
@@ -40,6 +44,30 @@ pub fn read(text: &[u8]) -> Result<Vec<u8>, String> {
     match text::read(text, &mut room) {
         Ok(length) => Ok(room[..length].to_vec()),
         Err(Refusal { number: 21, index }) => Err(text_refused(text, index)),
+        Err(refusal) => Err(table_refused(refusal)),
+    }
+}
+
+/// What is left of a store once a piece is taken, and the piece as a table and a state (L8).
+#[derive(Debug, PartialEq, Eq)]
+pub struct Moved {
+    pub table: Vec<u8>,
+    pub state: Vec<u8>,
+    pub store: Vec<u8>,
+}
+
+/// zap_take: the newest piece of the event that is the input's only line, or what is told where there is none.
+pub fn take(table: &[u8], store: &[u8], input: &[u8]) -> Result<Moved, String> {
+    let line = input.strip_suffix(b"\n").unwrap_or(input);
+    let Some(event) = words::event(line) else { return Err("bad-line\n".to_string()) };
+    let (mut part, mut state, mut store) = (vec![0; TABLE_BYTES], vec![0; STATE_BYTES], store.to_vec());
+    match store::take(table, &mut store, event, &mut part, &mut state) {
+        Ok(taken) => {
+            let Taken { table: table_bytes, state: state_bytes } = taken;
+            Ok(Moved { table: part[..table_bytes].to_vec(), state: state[..state_bytes].to_vec(), store })
+        }
+        Err(Refusal { number: 25, index }) => Err(format!("store refused 25 {index}\n")),
+        Err(Refusal { number: 14, index }) => Err(format!("event refused 14 {index}\n")),
         Err(refusal) => Err(table_refused(refusal)),
     }
 }
@@ -99,12 +127,37 @@ mod tests {
     fn p_is_read_checked_and_printed() {
         let table = read(P.as_bytes()).expect("P is a program");
         assert_eq!(table.len(), 60);
-        assert_eq!(check(&table), "0 0 1 1 7\n");
+        assert_eq!(check(&table), "0 0 1 1 7 0\n");
         let printed = "Jr.Par(Jr.Seq(Jr.Await(0), Jr.Seq(Jr.Atom(7), Jr.Generate(1))), Jr.Await(1))";
         assert_eq!(print(&table), printed.as_bytes());
-        assert_eq!(check(&table[1..]), "3 0 0 0 0\n");
+        assert_eq!(check(&table[1..]), "3 0 0 0 0 0\n");
         assert_eq!(print(&table[1..]), b"table refused 3 0\n");
-        assert_eq!(check(&[]), "1 0 0 0 0\n");
+        assert_eq!(check(&[]), "1 0 0 0 0 0\n");
+    }
+
+    // The piece of example 15 of L8; the store goes on without it.
+    #[test]
+    fn a_piece_is_taken() {
+        let table = read(b"Jr.Seq(Jr.Freezable(1, Jr.Seq(Jr.Stop(), Jr.Atom(9))), Jr.Atom(5))").expect("a program");
+        let store = [0, 16, 0, 1, 0, 2, 0, 0, 0, 0, 3, 0, 0, 0, 0, 0, 0, 0, 7];
+        let moved = take(&table, &store, b"1\n").expect("a piece of event 1");
+        assert_eq!(print(&moved.table), b"Jr.Seq(Jr.Stop(), Jr.Atom(9))");
+        assert_eq!(moved.state, [0, 0, 0, 0, 3, 0, 0, 0, 0, 0, 0, 0]);
+        assert_eq!(moved.store, [0, 0, 0, 1, 0, 2, 0, 0, 0, 0, 3, 0, 0, 0, 0, 0, 0, 0, 7]);
+        assert_eq!(take(&table, &store, b"1"), Ok(moved));
+        for (table, store, input, told) in [
+            (&table[..], &store[..], "0\n", "event refused 14 0\n"),
+            (&table, &store, "1023", "event refused 14 0\n"),
+            (&table, &store[..17], "1", "store refused 25 0\n"),
+            (&table, &[], "1", "store refused 25 0\n"),
+            (&table[1..], &store, "1", "table refused 3 0\n"),
+            (&[], &[], "1", "table refused 1 0\n"),
+        ] {
+            assert_eq!(take(table, store, input.as_bytes()), Err(told.to_string()), "{input:?}");
+        }
+        for input in ["", "\n", "1\n\n", "1\n1\n", "01", "1024", " 1", "1 ", "x", "1\r\n"] {
+            assert_eq!(take(&table, &store, input.as_bytes()), Err("bad-line\n".to_string()), "{input:?}");
+        }
     }
 
     #[test]

@@ -1,7 +1,7 @@
 //! The rewriting rules of 000, each with its number beside it, with what 01 settles:
 //! Par with two suspended branches merges (rule 8, or rule 9 where L6 asks for it), Control keeps its body's environment,
 //! Until* that is false stops at any time, and a node that answers TERM leaves Nothing. If and RepeatExt have no
-//! number in 000; their rules are those of 001 (L14).
+//! number in 000; their rules are those of 001 (L14). What rules 42 and 43 freeze is handed on to the store (L8).
 
 use crate::config::Config;
 use crate::env::{Env, Values};
@@ -14,10 +14,19 @@ pub struct Course<'a> {
     pub values: Values,
     /// The actions that atoms have executed, in order.
     pub actions: Vec<u16>,
+    /// What has been frozen, in order (L8): the table of frozen instructions of 000, 2.4, as a list.
+    pub frozen: Vec<Frozen>,
     /// The tests that this pass has read and found unknown.
     pub unknown: Vec<Unknown>,
     /// Asked anew at each Par that has two suspended branches: true if the second one runs first.
     pub second_first: &'a mut dyn FnMut() -> bool,
+}
+
+/// A frozen instruction: its event, the node of the body that it is the rest of, and the rest itself.
+pub struct Frozen {
+    pub event: u16,
+    pub body: usize,
+    pub rest: Term,
 }
 
 /// A test found unknown: the node that suspends, what it tests, and the environment in which it was read (L1).
@@ -29,7 +38,7 @@ pub struct Unknown {
 
 impl Course<'_> {
     pub fn new(values: Values, second_first: &mut dyn FnMut() -> bool) -> Course<'_> {
-        Course { values, actions: vec![], unknown: vec![], second_first }
+        Course { values, actions: vec![], frozen: vec![], unknown: vec![], second_first }
     }
 
     /// eval of 001: the value of a number.
@@ -91,6 +100,8 @@ fn step(t: &Term, e: Env, course: &mut Course) -> Conclusion {
         Form::Control(s, body) => control(t, *s, body, e, course),
         Form::LocalMinus(s, body) => local_minus(t, *s, body, e, course),
         Form::LocalPlus(s, body) => local_plus(t, *s, body, e, course),
+        Form::Freezable(s, body) => freezable(t, *s, body, e, course),
+        Form::FreezableStar(s, body) => freezable_star(t, *s, body, e, course),
     }
 }
 
@@ -269,4 +280,26 @@ fn local_plus(t: &Term, s: u16, body: &Term, e: Env, course: &mut Course) -> Con
         Form::LocalMinus(s, rest) // (39)
     };
     Says(a, t.becomes(form), Env { present: e1.present.as_in(e.present, s), ..e1 })
+}
+
+fn freezable(t: &Term, s: u16, body: &Term, e: Env, course: &mut Course) -> Conclusion {
+    let (a, rest, e1) = run(body, e, course);
+    if a == Flag::Stop {
+        AsRunning(t.becomes(Form::FreezableStar(s, rest)), e1) // (41)
+    } else {
+        Says(a, t.becomes(Form::Freezable(s, rest)), e1) // (40)
+    }
+}
+
+fn freezable_star(t: &Term, s: u16, body: &Term, e: Env, course: &mut Course) -> Conclusion {
+    if e.present.has(s) {
+        // The body is the record behind the Freezable's own.
+        course.frozen.push(Frozen { event: s, body: t.at + 1, rest: body.clone() });
+        let flag = if e.eoi { Flag::Stop } else { Flag::Term };
+        Says(flag, t.becomes(Form::Gone), e) // (42), and (43) once the end is declared
+    } else if e.eoi {
+        Says(Flag::Stop, t.becomes(Form::Freezable(s, body.clone())), e) // (44)
+    } else {
+        course.suspend(t, &Rc::new(Config::Event(s)), e) // (45)
+    }
 }

@@ -33,6 +33,7 @@ impl Display for Node {
             Written::Local(s, t) => write!(f, "Jr.Local({s}, {t})"),
             Written::If(number, t, u) => write!(f, "Jr.If({number}, {t}, {u})"),
             Written::RepeatExt(number, cap, t) => write!(f, "Jr.RepeatExt({number}, {cap}, {t})"),
+            Written::Freezable(s, t) => write!(f, "Jr.Freezable({s}, {t})"),
         }
     }
 }
@@ -44,6 +45,7 @@ pub fn own_part(node: &Node) -> String {
         Written::When(c, ..) => format!("Jr.When({c}, ..)"),
         Written::Until(c, ..) => format!("Jr.Until({c}, ..)"),
         Written::Control(s, _) => format!("Jr.Control({s}, ..)"),
+        Written::Freezable(s, _) => format!("Jr.Freezable({s}, ..)"),
         _ => panic!("node {} is no test", node.at),
     }
 }

@@ -32,7 +32,8 @@ pub fn below(node: &Node) -> Vec<&Node> {
         | Written::Repeat(_, body)
         | Written::RepeatExt(.., body)
         | Written::Control(_, body)
-        | Written::Local(_, body) => vec![body],
+        | Written::Local(_, body)
+        | Written::Freezable(_, body) => vec![body],
         Written::Seq(first, second)
         | Written::Par(first, second)
         | Written::When(_, first, second)
@@ -74,7 +75,8 @@ fn in_order(node: &Node, room: &[u8]) -> bool {
     };
     let used = match &node.written {
         Written::Nothing | Written::Stop | Written::Atom(_) | Written::Generate(_) | Written::Await(_) => phase == 0,
-        Written::Control(..) | Written::Local(..) => phase == 0,
+        // A Freezable in 1 is pending, which isn't at rest (L8).
+        Written::Control(..) | Written::Local(..) | Written::Freezable(..) => phase == 0,
         Written::Seq(first, second) => phase == 0 && zero(second) || phase == 2 && zero(first),
         Written::Par(first, second) => match (phase, flags) {
             (0, 0b00_00) => true,
@@ -118,6 +120,7 @@ pub fn fresh(node: &Node) -> Term {
         Written::Until(c, body, handler) => Form::Until(c.clone(), fresh(body), fresh(handler)),
         Written::Control(s, body) => Form::Control(*s, fresh(body)),
         Written::Local(s, body) => Form::LocalMinus(*s, fresh(body)),
+        Written::Freezable(s, body) => Form::Freezable(*s, fresh(body)),
     };
     Term::new(node.at, form)
 }
@@ -143,6 +146,7 @@ pub fn read(node: &Node, room: &[u8]) -> Term {
         (Written::Until(_, _, handler), _) => return rest(handler),
         (Written::Control(s, body), _) => Form::Control(*s, rest(body)),
         (Written::Local(s, body), _) => Form::LocalMinus(*s, rest(body)),
+        (Written::Freezable(s, body), _) => Form::Freezable(*s, rest(body)),
         _ => return fresh(node),
     };
     Term::new(node.at, form)
@@ -165,6 +169,13 @@ pub fn write(root: &Node, answer: Flag, residual: &Term, room: &mut [u8]) {
     } else {
         write_term(root, residual, room);
     }
+}
+
+/// The bytes of a node and all below it where this residual is left of it (L8).
+pub fn of_residual(node: &Node, residual: &Term) -> Vec<u8> {
+    let mut room = vec![0; 4 * (node.at + node.size)];
+    write_term(node, residual, &mut room);
+    room.split_off(4 * node.at)
 }
 
 /// Writes a residual into the zero bytes of its node. A term marked with another node shows that
@@ -210,7 +221,10 @@ fn write_term(node: &Node, term: &Term, room: &mut [u8]) {
         (Written::Until(_, body, _), Form::Until(_, rest, _)) => write_term(body, rest, room),
         (Written::Control(_, body), Form::Control(_, rest)) => write_term(body, rest, room),
         (Written::Local(_, body), Form::LocalMinus(_, rest)) => write_term(body, rest, room),
-        (_, Form::UntilStar(..) | Form::LocalPlus(..)) => unreachable!("an instant ends at rest"),
+        (Written::Freezable(_, body), Form::Freezable(_, rest)) => write_term(body, rest, room),
+        (_, Form::UntilStar(..) | Form::LocalPlus(..) | Form::FreezableStar(..)) => {
+            unreachable!("an instant ends at rest")
+        }
         _ => {}
     }
 }

@@ -33,7 +33,7 @@ pub struct Node {
     pub written: Written,
 }
 
-/// The fifteen forms of a table, with their children.
+/// The sixteen forms of a table, with their children.
 #[derive(Debug)]
 pub enum Written {
     Nothing,
@@ -53,6 +53,8 @@ pub enum Written {
     If(u8, Box<Node>, Box<Node>),
     /// The number of a value, the cap and the body (L14).
     RepeatExt(u8, u8, Box<Node>),
+    /// The event that freezes the body (L8).
+    Freezable(u16, Box<Node>),
 }
 
 const NODE_BYTES: usize = 6;
@@ -86,8 +88,21 @@ pub fn read(table: &[u8]) -> Result<Program, Refusal> {
     Ok(Program { root: tree(&records, &sizes, &configs, 0), events: v })
 }
 
+/// A node of a good table and all below it as a table of its own (L8): their records as they stand, all configurations, the same V.
+pub fn part(table: &[u8], node: &Node) -> Vec<u8> {
+    let (records, trailer) = table.split_at(table.len() - TRAILER_BYTES);
+    let (n, m, v) = (word(trailer, 0), word(trailer, 2), word(trailer, 4));
+    let (nodes, configs) = records.split_at(NODE_BYTES * n);
+    let kept = nodes.chunks(NODE_BYTES).skip(node.at).take(node.size);
+    let mut part = kept.chain([configs]).collect::<Vec<_>>().concat();
+    for number in [node.size, m, v, part.len(), configs.len()] {
+        part.extend((number as u16).to_be_bytes());
+    }
+    part
+}
+
 /// The 16-bit big-endian number at an offset.
-fn word(bytes: &[u8], from: usize) -> usize {
+pub fn word(bytes: &[u8], from: usize) -> usize {
     usize::from(u16::from_be_bytes([bytes[from], bytes[from + 1]]))
 }
 
@@ -127,7 +142,7 @@ impl NodeRecord {
     fn children(&self) -> usize {
         match self.kind {
             3 | 4 | 9 | 10 | 14 => 2,
-            5 | 6 | 11 | 12 | 15 => 1,
+            5 | 6 | 11 | 12 | 13 | 15 => 1,
             _ => 0,
         }
     }
@@ -137,7 +152,7 @@ fn good_node(records: &[NodeRecord], sizes: &[usize], at: usize, m: usize, v: us
     let record = &records[at];
     let argument = match record.kind {
         2 | 6 => true,
-        7 | 11 | 12 => record.argument < v,
+        7 | 11..=13 => record.argument < v,
         8..=10 => record.argument < m,
         0..=12 => record.argument == 0,
         14 => record.argument < VALUES,
@@ -179,6 +194,7 @@ fn tree(records: &[NodeRecord], sizes: &[usize], configs: &[Rc<Config>], at: usi
         9 => Written::When(test(), first(), second()),
         10 => Written::Until(test(), first(), second()),
         11 => Written::Control(event(), first()),
+        13 => Written::Freezable(event(), first()),
         14 => Written::If(argument as u8, first(), second()),
         15 => Written::RepeatExt((argument % VALUES) as u8, (argument / VALUES) as u8, first()),
         _ => Written::Local(event(), first()),

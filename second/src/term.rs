@@ -43,6 +43,8 @@ pub enum Form {
     Control(u16, Term),
     LocalMinus(u16, Term),
     LocalPlus(u16, Term),
+    Freezable(u16, Term),
+    FreezableStar(u16, Term),
 }
 
 impl Term {

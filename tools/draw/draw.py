@@ -26,8 +26,9 @@ NOT_BEGUN, NOT_TAKEN = "not begun", "not taken"
 # The parts of a form, where they have names.
 PARTS = {"When": ("then", "else"), "If": ("then", "else"), "Until": ("body", "handler")}
 
-# The values that an instant is handed (L14), as zap_run does.
+# The values that an instant is handed (L14), and the store that it is lent at first (L8), as zap_run does.
 VALUES = "00" * 16
+STORE = "00" * 32768
 
 
 class Node:
@@ -187,8 +188,8 @@ class Calls:
         """A row of as many places as an instant needs."""
         return "0000" * int(self.ask("check", self.table)[3]) or "-"
 
-    def instant(self, state, events, row):
-        return self.ask("instant", self.table, state.hex() or "-", events, VALUES, row)
+    def instant(self, state, events, row, store):
+        return self.ask("instant", self.table, state.hex() or "-", events, VALUES, row, store)
 
     def close(self):
         self.program.stdin.close()
@@ -198,7 +199,7 @@ class Calls:
 def played(kernel, nodes, lines):
     """A step before the first line, and one after each."""
     calls = kernel.calls()
-    row, state = calls.row(), bytes(4 * len(nodes))
+    row, state, store = calls.row(), bytes(4 * len(nodes)), STORE
     stood = {node.number: NOT_BEGUN for node in nodes}, {}
     steps = [Step("before the first line", "", *stood)]
     listing = kernel.run("zap_run", lines).decode().splitlines()
@@ -206,8 +207,8 @@ def played(kernel, nodes, lines):
         waits, heading = NO_NODE, f"after line {number}"
         if listed.split()[1].isdigit():
             heading += f", which hands in {line.decode() or 'nothing'}"
-            answer = calls.instant(state, line.decode().replace(" ", ",") or "-", row)
-            waits, event, state = answer[8], answer[9], bytes.fromhex(answer[10])
+            answer = calls.instant(state, line.decode().replace(" ", ",") or "-", row, store)
+            waits, event, state, store = answer[8], answer[9], bytes.fromhex(answer[10]), answer[12]
             stood = standing(nodes[0], state)
         step = Step(heading, listed, *stood)
         if waits != NO_NODE:
@@ -220,7 +221,7 @@ def played(kernel, nodes, lines):
 def saved(kernel, nodes, state):
     """The one step of a saved state, which an instant must accept."""
     calls = kernel.calls()
-    answer = calls.instant(state, "-", calls.row())
+    answer = calls.instant(state, "-", calls.row(), STORE)
     calls.close()
     if answer[0] != "0":
         print("state refused", *answer[:2])

@@ -18,7 +18,7 @@ use Rattle.form.specs.Form.{says-nothing, says-stop, says-atom, says-seq, last-
 use Rattle.form.specs.Form.{last-of-par}
 use Rattle.form.specs.Form.{more-of-par, says-loop, says-repeat, says-generate, says-await, says-when}
 use Rattle.form.specs.Form.{says-until}
-use Rattle.form.specs.Form.{says-control, says-local, says-if, says-repeat-ext}
+use Rattle.form.specs.Form.{says-control, says-local, says-freezable, says-if, says-repeat-ext}
 use Rattle.form.specs.Made.{tests}
 use Rattle.form.specs.Inside.Rows.{pairOf}
 use Rattle.builder.specs.Building.{relevel, levels}
@@ -109,6 +109,8 @@ closes-piece (says-until {v = v} {w = w} c d e) x =
 closes-piece (says-control {s = n} {u = u} h d) x =
     simp append-assoc (omega (arith, closes-number n (44 ∷ 32 ∷ (u ++ (41 ∷ x))), closes-piece d (41 ∷ x)))
 closes-piece (says-local {s = n} {u = u} h d) x =
+    simp append-assoc (omega (arith, closes-number n (44 ∷ 32 ∷ (u ++ (41 ∷ x))), closes-piece d (41 ∷ x)))
+closes-piece (says-freezable {s = n} {u = u} h d) x =
     simp append-assoc (omega (arith, closes-number n (44 ∷ 32 ∷ (u ++ (41 ∷ x))), closes-piece d (41 ∷ x)))
 closes-piece (says-if {v = n} {u = u} {w = w} h d e) x =
     simp append-assoc

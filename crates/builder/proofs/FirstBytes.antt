@@ -11,7 +11,7 @@ use Rattle.form.specs.Form.{says-nothing, says-stop, says-atom, says-seq, last-
 use Rattle.form.specs.Form.{last-of-par}
 use Rattle.form.specs.Form.{more-of-par, says-loop, says-repeat, says-generate, says-await, says-when}
 use Rattle.form.specs.Form.{says-until}
-use Rattle.form.specs.Form.{says-control, says-local, says-if, says-repeat-ext}
+use Rattle.form.specs.Form.{says-control, says-local, says-freezable, says-if, says-repeat-ext}
 use Rattle.form.proofs.Digits.{digit-is}
 use Rattle.builder.proofs.ReadDigits.{begins-decimal}
 
@@ -41,5 +41,6 @@ begins (says-when c d e) x = refl
 begins (says-until c d e) x = refl
 begins (says-control h d) x = refl
 begins (says-local h d) x = refl
+begins (says-freezable h d) x = refl
 begins (says-if h d e) x = refl
 begins (says-repeat-ext h g d) x = refl

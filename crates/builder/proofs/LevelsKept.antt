@@ -17,7 +17,7 @@ use Rattle.form.specs.Form.{says-nothing, says-stop, says-atom, says-seq, last-
 use Rattle.form.specs.Form.{last-of-par}
 use Rattle.form.specs.Form.{more-of-par, says-loop, says-repeat, says-generate, says-await, says-when}
 use Rattle.form.specs.Form.{says-until}
-use Rattle.form.specs.Form.{says-control, says-local, says-if, says-repeat-ext}
+use Rattle.form.specs.Form.{says-control, says-local, says-freezable, says-if, says-repeat-ext}
 use Rattle.builder.specs.Building.{relevel, levels}
 use Rattle.builder.proofs.ReadDigits.{past-decimal, begins-decimal}
 use Rattle.builder.proofs.FirstBytes.{begins-test, begins}
@@ -110,6 +110,8 @@ levels-kept (says-until c d e) x =
 levels-kept (says-control {s = s} h d) x =
     simp append-assoc (ap (drop 1) (levels-number s _ ∙ (levels-comma d _ ∙ ap (λ l. set l 0 1) (levels-kept d (41 ∷ x)))))
 levels-kept (says-local {s = s} h d) x =
+    simp append-assoc (ap (drop 1) (levels-number s _ ∙ (levels-comma d _ ∙ ap (λ l. set l 0 1) (levels-kept d (41 ∷ x)))))
+levels-kept (says-freezable {s = s} h d) x =
     simp append-assoc (ap (drop 1) (levels-number s _ ∙ (levels-comma d _ ∙ ap (λ l. set l 0 1) (levels-kept d (41 ∷ x)))))
 levels-kept (says-if {v = n} h d e) x =
     let second = levels-comma e _ ∙ ap (λ l. set l 0 1) (levels-kept e (41 ∷ x)) in

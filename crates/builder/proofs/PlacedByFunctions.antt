@@ -11,16 +11,14 @@ use lib.Seq.{sets, getD-drop, drop-drop}
 use Rattle.table.specs.Records.{byte, word}
 use Rattle.builder.specs.declared.build.Front.{Front}
 use Rattle.form.specs.Made.{big}
-use Rattle.form.specs.Names.{kindOfForm}
 use Rattle.form.specs.Inside.Machine.{isDigit}
-use Rattle.form.specs.Inside.Rows.{wordRow, rowOf, codeAt, nameEnd, inside, named, formIn, kindOf}
+use Rattle.form.specs.Inside.Rows.{wordRow, formRow, codeAt, nameEnd, inside, named, formIn}
 use Rattle.builder.specs.Building.{SoFar, withNode, withTest, number, joinedSize, joint, pair}
 use Rattle.builder.specs.Building.{negation, event}
 use Rattle.builder.specs.Building.{blank, opening, labelled, row, branches, choice, await, hasPart, ownSize, cappedNumber, capped}
 use Rattle.builder.specs.Building.{asking, single, behindJ}
 use Rattle.builder.specs.Building.{form, name}
 use Rattle.builder.specs.Building.{comma, place, Holds, Room, CanPlace, Places}
-use Rattle.form.proofs.Rows.{form-of-kind}
 use Rattle.builder.proofs.PlacedGrows.{room-before, length-spread, grows-row-joint, branches-length, grows-choice}
 use Rattle.builder.proofs.PlacedGrows.{grows-await}
 use Rattle.builder.proofs.TableHolds.{nodes-part, tests-part, nodes-anew}
@@ -203,7 +201,7 @@ module _ (level : ℕ) (w : List ℕ) (s : SoFar) where
   blank-event e = rw (ne-eqb level 1 e)
 
 -- the form of a kind, by the codes in its brackets, which begin at place n of the table of names
-module _ (k n : ℕ) (is : n ≡ nameEnd (rowOf k)) (w : List ℕ) (s : SoFar) where
+module _ (k n : ℕ) (is : n ≡ nameEnd (formRow k)) (w : List ℕ) (s : SoFar) where
   code-at : (j : ℕ) → codeAt (n + j) ≡ inside k j
   unfolding inside
   code-at j = rw is
@@ -243,19 +241,18 @@ module _ (k n : ℕ) (is : n ≡ nameEnd (rowOf k)) (w : List ℕ) (s : SoFar) w
   unfolding hasPart
   part-is e = e ∙ rw (first-at, code-at 3)
 
-pub behind-is : (i n : ℕ) → n ≡ nameEnd (6 + i) → 2 + (n - 20 * (6 + i)) ≡ behindJ (kindOfForm i)
+pub behind-is : (k n : ℕ) → n ≡ nameEnd (6 + k) → 2 + (n - 20 * (6 + k)) ≡ behindJ k
 unfolding behindJ
-behind-is i n e = rw (e, form-of-kind i)
+behind-is k n e = rw e
 
 -- `J`
 pub name-here :
-    (w : List ℕ) (i k e : ℕ) (s : SoFar)
-    → i ≡ formIn (drop 2 w)
-    → k ≡ kindOfForm i
-    → e ≡ behindJ (kindOfForm i)
+    (w : List ℕ) (k e : ℕ) (s : SoFar)
+    → k ≡ formIn (drop 2 w)
+    → e ≡ behindJ k
     → form k (drop e w) s ≡ name w s
-unfolding name kindOf
-name-here w i k e s f g h = rw (g, h, f)
+unfolding name
+name-here w k e s f h = rw (h, f)
 
 -- a byte
 module _ (b level : ℕ) (w : List ℕ) (s : SoFar) where

@@ -11,12 +11,12 @@ use borrow.Author.Tests.{eqb-false, ne-eqb, le-ltb, leb-true}
 use Rattle.junior.specs.Configuration.{Config}
 use Rattle.junior.specs.Program.{Program, Seq, Par, size, kind}
 use Rattle.table.specs.Records.{byte, word}
-use Rattle.form.specs.Names.{kindOfForm, formOf, opening as opened}
+use Rattle.form.specs.Names.{formOf, opening as opened}
 use Rattle.form.specs.Made.{big, tests, nodesFrom, testRecords, testsOf}
 use Rattle.form.specs.Inside.Machine.{isDigit}
-use Rattle.form.specs.Inside.Rows.{rowAt, rowOf, formCount, nameEnd}
+use Rattle.form.specs.Inside.Rows.{rowAt, formRow, formCount, nameEnd}
 use Rattle.form.proofs.ComputedTests.{both, all, all-at}
-use Rattle.form.proofs.Rows.{name-long, kind-told, form-of-kind, no-not}
+use Rattle.form.proofs.Rows.{name-long, form-told, no-not}
 use Rattle.builder.specs.Building.{SoFar, number, joint, event, blank, opening, labelled, row, branches, choice}
 use Rattle.builder.specs.Building.{await, ownSize, cappedNumber, capped, single}
 use Rattle.builder.specs.Building.{behindJ, form, name, comma, place, levels, placed}
@@ -72,14 +72,14 @@ module _ (m : ℕ) (y : List ℕ) (g : Enclosed y) where
       simp (ne-eqb b 32 (λ x. omega arith), ne-eqb b 40 (λ x. omega arith), ne-eqb b 44 (λ x. omega arith), ne-eqb b 74 n) (letters u z r)
 
   -- the name of form k before this text
-  pub reads : (k : ℕ) → k < formCount → placed m (opened k ++ y) ≡ form (kindOfForm k) y (placed m y)
+  pub reads : (k : ℕ) → k < formCount → placed m (opened k ++ y) ≡ form k y (placed m y)
   unfolding opened placed place name behindJ
   reads k h =
       let u : List ℕ = formOf k .name in
       let e : (u ++ (40 ∷ [])) ++ y ≡ u ++ (40 ∷ y) = append-assoc u (40 ∷ []) y in
-      let d : nameEnd (rowOf (kindOfForm k)) - rowAt (rowOf (kindOfForm k)) ≡ suc (length u) = rw (form-of-kind k) (let l = name-long k h in omega arith) in
+      let d : nameEnd (formRow k) - rowAt (formRow k) ≡ suc (length u) = let l = name-long k h in omega arith in
       let f : 2 + suc (length u) ≡ suc (suc (suc (length u))) = omega arith in
-      rw (e, kind-told k h y, d, f, past u y) (ap (form (kindOfForm k) y) (letters u (40 ∷ y) (quiet-name k h) ∙ plain))
+      rw (e, form-told k h y, d, f, past u y) (ap (form k y) (letters u (40 ∷ y) (quiet-name k h) ∙ plain))
 
 -- a comma before a program: the last of its bracket, or another
 module _ (m : ℕ) (y l : List ℕ) (b : byte y 0 ≡ 74) where

@@ -11,7 +11,7 @@ use borrow.Author.Tests.{ltb-true, ltb-false}
 use Rattle.events.specs.Members.{places}
 use Rattle.junior.specs.Configuration.{Config}
 use Rattle.junior.specs.Program.{Program, Nothing, Stop, Atom, Seq, Par, Loop, Repeat, Generate, Await, When, Until}
-use Rattle.junior.specs.Program.{Control, Local, If, size, kind}
+use Rattle.junior.specs.Program.{Control, Local, Freezable, If, size, kind}
 use Rattle.junior.specs.Values.{exactly, asked}
 use Rattle.table.specs.Records.{byte, word}
 use Rattle.table.specs.Spells.{weight}
@@ -24,7 +24,7 @@ use Rattle.form.specs.Form.{says-nothing, says-stop, says-atom, says-seq, last-
 use Rattle.form.specs.Form.{last-of-par}
 use Rattle.form.specs.Form.{more-of-par, says-loop, says-repeat, says-generate, says-await, says-when}
 use Rattle.form.specs.Form.{says-until}
-use Rattle.form.specs.Form.{says-control, says-local, says-if, says-repeat-ext}
+use Rattle.form.specs.Form.{says-control, says-local, says-freezable, says-if, says-repeat-ext}
 use Rattle.form.specs.Inside.Machine.{isDigit}
 use Rattle.form.specs.Made.{big, tests, nodesFrom, testRecords, testsOf}
 use Rattle.form.proofs.Digits.{digit-is}
@@ -346,6 +346,13 @@ module _ (m : ℕ) where
       rw (append-assoc (decimal n) (44 ∷ 32 ∷ (u ++ (41 ∷ []))) x, append-assoc u (41 ∷ []) x)
       (reads m _ (enclosed-numbered n d x) 12 (omega arith) ∙ numbered 12 n j d x (omega arith) a (λ t. refl) (at-close p u x j f (omega arith) b h))
 
+  freezable-placed : (n : ℕ) {p : Program} {u : List ℕ} → n < places → Says (whole p) u → Whole p u
+      → Whole (Freezable n p) (bytes "Jr.Freezable(" ++ (decimal n ++ (bytes ", " ++ (u ++ bytes ")"))))
+  unfolding opening form ownSize size tests nodesFrom testsOf kind
+  freezable-placed n {p} {u} l d f x j a b h =
+      rw (append-assoc (decimal n) (44 ∷ 32 ∷ (u ++ (41 ∷ []))) x, append-assoc u (41 ∷ []) x)
+      (reads m _ (enclosed-numbered n d x) 13 (omega arith) ∙ numbered 13 n j d x (omega arith) a (λ t. refl) (at-close p u x j f (omega arith) b h))
+
   awaits-placed : {c : Config} {u : List ℕ} → SaysTest c u → Whole (Await c) (bytes "Jr.Await(" ++ (u ++ bytes ")"))
   unfolding opening form size tests nodesFrom testsOf kind
   awaits-placed {c} {u} t x j a b h =
@@ -410,7 +417,7 @@ module _ (m : ℕ) where
       let s : SoFar = placed m x in
       let enclosed = parted (decimal v ++ zp) x (levels-number v zp ∙ (simp append-assoc at (levels-kept (more-of-seq d (last-of-seq e)) x))) (before v zp) in
       rw (three-before (decimal v) u w x)
-      (reads m _ enclosed 13 (omega arith)
+      (reads m _ enclosed 14 (omega arith)
       ∙ (rw (given v zp (omega arith) refl) (ap (branches 14 v) (placed-number m v zp ∙ two-placed d e f g x j a b h))
       ∙ (branches-placed 14 v (1 + size p + size q) j (j + tests p) p q (s .nodes) (testsOf p ++ (testsOf q ++ s .tests)) j (omega arith)
       ∙ over-if v p q j s)))
@@ -430,7 +437,7 @@ module _ (m : ℕ) where
       placed-number m v y ∙ (comma-cap m (decimal n ++ z) (levels x) (omega arith) inner ∙ (placed-number m n z ∙ part)) in
       let enclosed = parted (decimal v ++ y) x (levels-number v y ∙ (levels-cap n z ∙ ap (λ q. set q 0 1) (last-levels d x))) (before v y) in
       rw (asked-before v n u x)
-      (reads m _ enclosed 14 (omega arith)
+      (reads m _ enclosed 15 (omega arith)
       ∙ (ap (capped 15 (decimal v ++ y)) all-placed
       ∙ capped-placed 15 (n * 16 + v) (1 + size p) (decimal v ++ y) s (capped-number v n z l k refl) (omega arith)
       (ap (λ q. 1 + q) (size-there j p (placed m x .nodes))) a))
@@ -453,5 +460,6 @@ module _ (m : ℕ) where
   piece-placed (says-until t d e) = until-placed t d e (piece-placed d) (piece-placed e)
   piece-placed (says-control {s = n} l d) = control-placed n l d (piece-placed d)
   piece-placed (says-local {s = n} l d) = local-placed n l d (piece-placed d)
+  piece-placed (says-freezable {s = n} l d) = freezable-placed n l d (piece-placed d)
   piece-placed (says-if {v = n} l d e) = if-placed n l d e (piece-placed d) (piece-placed e)
   piece-placed (says-repeat-ext {v = v} {cap = n} l k d) = repeat-ext-placed v n l k d (piece-placed d)

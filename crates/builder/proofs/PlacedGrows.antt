@@ -10,7 +10,7 @@ use lib.Seq.{length-sets}
 use Rattle.table.specs.Records.{byte, word}
 use Rattle.form.specs.Made.{big}
 use Rattle.form.specs.Inside.Machine.{isDigit}
-use Rattle.form.specs.Inside.Rows.{wordRow, inside, named, kindOf}
+use Rattle.form.specs.Inside.Rows.{wordRow, inside, named, formIn}
 use Rattle.builder.specs.Building.{SoFar, withNode, withTest, number, joint, pair, negation, event}
 use Rattle.builder.specs.Building.{opening, spread, labelled, row}
 use Rattle.builder.specs.Building.{blank, branches, choice, await, capped, asking, single, behindJ, form, name, comma, place, levels}
@@ -136,7 +136,7 @@ grows-blank level w s = grows-either (eqb level 1) (grows-self s) (grows-event w
 grows-place : (b level : ℕ) (w : List ℕ) (s : SoFar) → Grows s (place b level w s)
 unfolding place name
 grows-place b level w s =
-    let k : ℕ = kindOf (drop 2 w) in
+    let k : ℕ = formIn (drop 2 w) in
     grows-either
     (eqb b 32)
     (grows-blank level w s)

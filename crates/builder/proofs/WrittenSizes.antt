@@ -5,7 +5,6 @@ use mathlib.Core.List.{List, _++_}
 use native.Mathlib.Nat.{div-add-mod', mul-le-mul}
 use native.Mathlib.Omega.{arith}
 use borrow.Author.Tests.{leb-true}
-use lib.Dec.{leb}
 use lib.ListN.{length}
 use lib.Seq.{getD-append-add}
 use Rattle.junior.specs.Configuration.{Config, Event, Not, And, Or}
@@ -13,7 +12,6 @@ use Rattle.junior.specs.Program.{Program, Parts, no-part, one-part, two-parts, 
 use Rattle.table.specs.Records.{byte, word}
 use Rattle.table.specs.Spells.{weight}
 use Rattle.table.proofs.Parts.{by-kind}
-use Rattle.form.proofs.ComputedTests.{both}
 use Rattle.form.specs.Made.{nodesFromParts, nodesFrom, testRecords}
 use Rattle.form.proofs.MadeLength.{nodes-length, test-length}
 use Rattle.builder.specs.Building.{joinedSize}
@@ -44,7 +42,7 @@ kind-in j (two-parts f q r) x = refl
 pub kind-small : (j : ℕ) (p : Program) (x : List ℕ) → byte (nodesFrom j p ++ x) 0 < 16
 unfolding nodesFrom
 kind-small j p x =
-    let l = leb-true (kind p) 15 (both {a = leb (kind p) 15} (by-kind p .known-kind) .0) in
+    let l = leb-true (kind p) 15 (by-kind p .known-kind) in
     omega (arith, kind-in j (parts p) x)
 
 -- bytes behind the first n

@@ -13,7 +13,7 @@ use Rattle.table.specs.Records.{byte, word}
 use Rattle.builder.specs.declared.build.Front.{Front}
 use Rattle.form.specs.Form.{Says, whole}
 use Rattle.form.specs.Inside.Machine.{isDigit}
-use Rattle.form.specs.Inside.Rows.{rowAt, wordRow, rowOf, nameEnd, inside, named, kindOf, pairOf}
+use Rattle.form.specs.Inside.Rows.{rowAt, wordRow, formRow, nameEnd, inside, named, formIn, pairOf}
 use Rattle.form.specs.Made.{big, named as eventsOf, tests, tableOf, needed}
 
 -- the records that are placed, and how many configurations are still to come
@@ -163,13 +163,13 @@ form k w s =
 -- how far behind the `J` of a name the text inside its bracket begins
 unfoldable pub behindJ : ℕ → ℕ
 unfolding nameEnd
-behindJ k = 2 + (nameEnd (rowOf k) - rowAt (rowOf k))
+behindJ k = 2 + (nameEnd (formRow k) - rowAt (formRow k))
 
 -- `J` before this text
 unfoldable pub name : List ℕ → SoFar → SoFar
-unfolding kindOf behindJ
+unfolding formIn behindJ
 name w s =
-    let k = kindOf (drop 2 w) in
+    let k = formIn (drop 2 w) in
     form k (drop (behindJ k) w) s
 
 -- `,` at this level, before this text: a program behind it, or a cap

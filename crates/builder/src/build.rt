@@ -10,7 +10,7 @@ ghost use mathlib.Core.List.{_++_};
 ghost use Rattle.table.specs.Records.{byte, word};
 ghost use Rattle.form.specs.Made.{big};
 ghost use Rattle.builder.specs.Building.{nodeBytes, testBytes, trailerBytes, withPair, withNode, withTest, number, joinedSize};
-ghost use Rattle.form.specs.Inside.Rows.{TheNames, rowOf, long, codeAt, nameEnd, pairOf};
+ghost use Rattle.form.specs.Inside.Rows.{TheNames, formRow, long, codeAt, nameEnd, pairOf};
 ghost use Rattle.builder.specs.Building.{joint, pair, negation, event, blank, opening, labelled, row, branches, choice, await};
 ghost use Rattle.builder.specs.Building.{cappedNumber, capped, asking, single, form, name, comma, acting, place as placing, relevel as leveling};
 ghost use Rattle.builder.specs.Building.{Idle, CanPlace, Places, LevelReady, Levels, Buildable, Builds};
@@ -27,7 +27,6 @@ use form::names::VALUE;
 use form::names::code;
 use form::names::form_named;
 use form::names::is_named;
-use form::names::kind_of_form;
 use form::names::name_end;
 use form::names::pair_named;
 use form::names::table_of_names;
@@ -434,7 +433,7 @@ fn place_single(
     front: Front,
 ) -> Front
     requires { ⌜ TheNames (now names) ⌝ }
-    requires { ⌜ (end ≡ nameEnd (rowOf kind)) × (end ≤ long) ⌝ }
+    requires { ⌜ (end ≡ nameEnd (formRow kind)) × (end ≤ long) ⌝ }
     requires { ⌜ CanPlace (single kind (drop i (now text))) (now table) front ⌝ }
     ensures { λ r. ⌜ Places (single kind (drop i (now (text .entry)))) (now (table .entry)) front (now (table .exit)) r ⌝ }
 {
@@ -457,7 +456,7 @@ fn place_form(
     front: Front,
 ) -> Front
     requires { ⌜ TheNames (now names) ⌝ }
-    requires { ⌜ (end ≡ nameEnd (rowOf kind)) × (end ≤ long) ⌝ }
+    requires { ⌜ (end ≡ nameEnd (formRow kind)) × (end ≤ long) ⌝ }
     requires { ⌜ i ≤ 1000 ⌝ }
     requires { ⌜ CanPlace (form kind (drop i (now text))) (now table) front ⌝ }
     ensures { λ r. ⌜ Places (form kind (drop i (now (text .entry)))) (now (table .entry)) front (now (table .exit)) r ⌝ }
@@ -483,11 +482,18 @@ fn place_name(names: &[u8; LONG], text: &[u8], table: &mut [u8], front: Front) -
     requires { ⌜ CanPlace (name (now text)) (now table) front ⌝ }
     ensures { λ r. ⌜ Places (name (now (text .entry))) (now (table .entry)) front (now (table .exit)) r ⌝ }
 {
-    let i = form_named(names, text, 2);
-    let row = FIRST_FORM + i;
+    let kind = form_named(names, text, 2);
+    let row = FIRST_FORM + kind;
     let end = name_end(names, row);
-    let kind = kind_of_form(i) as u8;
-    place_form(names, kind, end, text, 2 + (end - ROW * row), table, front)
+    place_form(
+        names,
+        kind as u8,
+        end,
+        text,
+        2 + (end - ROW * row),
+        table,
+        front,
+    )
 }
 
 // `,` at this level, before this text: a program behind it, or a cap.

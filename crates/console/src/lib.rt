@@ -41,7 +41,14 @@ pub fn read_some(file: i32, room: &mut [u8]) -> Moved
 pub fn read_table(room: &mut [u8]) -> usize
     ensures { λ r. ⌜ r ≤ length (now (room .exit)) ⌝ }
 {
-    let file = os::open_read(b"table.bin");
+    read_file(b"table.bin", room)
+}
+
+// The same of any file of the current folder.
+pub fn read_file(name: &[u8], room: &mut [u8]) -> usize
+    ensures { λ r. ⌜ r ≤ length (now (room .exit)) ⌝ }
+{
+    let file = os::open_read(name);
     if file < 0 {
         return 0;
     }

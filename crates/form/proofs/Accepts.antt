@@ -10,7 +10,7 @@ use Rattle.junior.specs.Program.{Program}
 use Rattle.form.specs.Form.{SaysTest, says-event, says-not, says-and, says-or, Piece, whole, later-seq}
 use Rattle.form.specs.Form.{later-par, Says, says-nothing, says-stop, says-atom, says-seq, last-of-seq}
 use Rattle.form.specs.Form.{more-of-seq, says-par, last-of-par, more-of-par, says-loop, says-repeat}
-use Rattle.form.specs.Form.{says-generate, says-await, says-when, says-until, says-control, says-local, says-if}
+use Rattle.form.specs.Form.{says-generate, says-await, says-when, says-until, says-control, says-local, says-freezable, says-if}
 use Rattle.form.specs.Form.{says-repeat-ext}
 use Rattle.form.specs.Inside.Machine.{End, close, comma, space, endByte, Number, event, plain, value, cap, limit, Stack}
 use Rattle.form.specs.Inside.Machine.{byte, prog, parts, conf, inner, joint, num, tail, on, step, run}
@@ -91,6 +91,7 @@ runs (says-when c d e) σ x = simp append-assoc (run-conf c comma _ _ ∙ (runs 
 runs (says-until c d e) σ x = simp append-assoc (run-conf c comma _ _ ∙ (runs d _ _ ∙ runs e _ _))
 runs (says-control h d) σ x = simp append-assoc (run-num event comma _ _ _ (omega arith) ∙ runs d _ _)
 runs (says-local h d) σ x = simp append-assoc (run-num event comma _ _ _ (omega arith) ∙ runs d _ _)
+runs (says-freezable h d) σ x = simp append-assoc (run-num event comma _ _ _ (omega arith) ∙ runs d _ _)
 runs (says-if h d e) σ x = simp append-assoc (run-num value comma _ _ _ h ∙ (runs d _ _ ∙ runs e _ _))
 runs (says-repeat-ext h g d) σ x = simp append-assoc (run-num value comma _ _ _ h ∙ (run-num cap comma _ _ _ g ∙ runs d _ _))
 

@@ -12,7 +12,7 @@ use Rattle.table.specs.Spells.{weight}
 use Rattle.form.specs.Form.{SaysTest, says-event, says-not, says-and, says-or, Piece, whole, later-seq}
 use Rattle.form.specs.Form.{later-par, Says, says-nothing, says-stop, says-atom, says-seq, last-of-seq}
 use Rattle.form.specs.Form.{more-of-seq, says-par, last-of-par, more-of-par, says-loop, says-repeat}
-use Rattle.form.specs.Form.{says-generate, says-await, says-when, says-until, says-control, says-local, says-if}
+use Rattle.form.specs.Form.{says-generate, says-await, says-when, says-until, says-control, says-local, says-freezable, says-if}
 use Rattle.form.specs.Form.{says-repeat-ext}
 use Rattle.form.specs.Made.{larger, namedIn, named, tests}
 use Rattle.form.specs.Inside.Machine.{End, close, comma, space, endByte, Number, event, plain, value, cap, limit, Stack}
@@ -228,6 +228,11 @@ counts-piece (says-control {s} {p} l d) σ x k h =
     ∙ (counts-piece d _ _ (an-event s (a-node k)) (larger-least (k .events) (suc s) h)
     ∙ alike σ x (omega arith) (omega arith) (larger-assoc (k .events) (suc s) (named p))))
 counts-piece (says-local {s} {p} l d) σ x k h =
+    simp append-assoc
+    (tally-event comma _ _ (a-node k) s l
+    ∙ (counts-piece d _ _ (an-event s (a-node k)) (larger-least (k .events) (suc s) h)
+    ∙ alike σ x (omega arith) (omega arith) (larger-assoc (k .events) (suc s) (named p))))
+counts-piece (says-freezable {s} {p} l d) σ x k h =
     simp append-assoc
     (tally-event comma _ _ (a-node k) s l
     ∙ (counts-piece d _ _ (an-event s (a-node k)) (larger-least (k .events) (suc s) h)

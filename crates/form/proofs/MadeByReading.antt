@@ -6,7 +6,7 @@ use lib.Dec.{eqb}
 use lib.ListN.{getD}
 use Rattle.junior.specs.Configuration.{Config, Event, Not, And, Or}
 use Rattle.junior.specs.Program.{Program, Nothing, Stop, Atom, Seq, Par, Loop, Repeat, Generate, Await, When, Until}
-use Rattle.junior.specs.Program.{Control, Local, If}
+use Rattle.junior.specs.Program.{Control, Local, Freezable, If}
 use Rattle.junior.specs.Values.{exactly, asked}
 use Rattle.form.specs.Inside.Rows.{formRow, inName, home, placeOf}
 use Rattle.form.specs.Inside.Machine.{Sym, Stack, byte, prog, name, parts, conf, inner}
@@ -81,6 +81,7 @@ makers =
     ∷ branchedOf Until
     ∷ numberedOf Control
     ∷ numberedOf Local
+    ∷ numberedOf Freezable
     ∷ valuedOf
     ∷ cappedOf
     ∷ []

@@ -13,7 +13,7 @@ use Rattle.junior.specs.Program.{Program, Nothing, Seq, Par, Await, When, Until
 use Rattle.form.specs.Form.{SaysTest, says-event, says-not, says-and, says-or, Piece, whole, later-seq}
 use Rattle.form.specs.Form.{later-par, Says, says-nothing, says-stop, says-atom, says-seq, last-of-seq}
 use Rattle.form.specs.Form.{more-of-seq, says-par, last-of-par, more-of-par, says-loop, says-repeat}
-use Rattle.form.specs.Form.{says-generate, says-await, says-when, says-until, says-control, says-local, says-if}
+use Rattle.form.specs.Form.{says-generate, says-await, says-when, says-until, says-control, says-local, says-freezable, says-if}
 use Rattle.form.specs.Form.{says-repeat-ext}
 use Rattle.form.specs.Inside.Machine.{End, close, comma, space, endByte, Number, event, plain, value, cap, limit, Stack}
 use Rattle.form.specs.Inside.Machine.{byte, prog, conf, inner, joint, num, tail, on, step}
@@ -175,6 +175,8 @@ make-piece (says-until {c} {p} {q} t d e) σ x f l k =
 make-piece (says-control {s} h d) σ x f l k =
     simp append-assoc (make-number event comma _ _ _ s (omega arith) ∙ make-piece d _ _ _ (number s ∷ []) _)
 make-piece (says-local {s} h d) σ x f l k =
+    simp append-assoc (make-number event comma _ _ _ s (omega arith) ∙ make-piece d _ _ _ (number s ∷ []) _)
+make-piece (says-freezable {s} h d) σ x f l k =
     simp append-assoc (make-number event comma _ _ _ s (omega arith) ∙ make-piece d _ _ _ (number s ∷ []) _)
 make-piece (says-if {v} {p} h d e) σ x f l k =
     simp append-assoc

@@ -1,17 +1,17 @@
 -- The table of names in bytes: going along a row, and what each row says, by computed tests over the whole table.
 use Prim.Native.Nat.{ℕ, zero, suc, _+_, _-_, _≤_, _<_}
 use mathlib.Core.Bool.{Bool, true, false, cond, _&&_, _||_}
-use mathlib.Core.Path.{_≡_, refl, ap, _∙_}
+use mathlib.Core.Path.{_≡_, refl, _∙_}
 use mathlib.Core.List.{List, [], _∷_, _++_}
 use native.Mathlib.Omega.{arith}
-use lib.Dec.{eqb, ltb, leb}
+use lib.Dec.{eqb, leb}
 use lib.ListN.{length, getD, take, drop, drop-of-length-le, List·getD-eq-default}
 use lib.Seq.{drop-cons}
-use borrow.Author.Tests.{eqb-true, leb-true, ltb-true, ltb-false, le-leb, lt-leb, eq-eqb, ne-eqb}
+use borrow.Author.Tests.{eqb-true, leb-true, eq-eqb, ne-eqb}
 use Rattle.letters.specs.Text.{bytes}
-use Rattle.form.specs.Names.{kindOfForm, formOfKind, formOf}
+use Rattle.form.specs.Names.{formOf}
 use Rattle.form.specs.Inside.Rows.{names, rowAt, formRow, formCount, long, codeAt, endsName, behindName, nameEnd, starts, named}
-use Rattle.form.specs.Inside.Rows.{wordRow, formFrom, formIn, kindOf, pairOf, same}
+use Rattle.form.specs.Inside.Rows.{wordRow, formFrom, formIn, pairOf, same}
 use Rattle.form.proofs.ComputedTests.{both, all, all-at, same-list}
 
 pub length-names : length names ≡ long
@@ -137,22 +137,10 @@ form-only (suc n) k u y = rw (starts-only (drop (rowAt (formRow k)) names) u y, 
 unfoldable told : ℕ → Bool
 told k = eqb (formIn (formOf k .name ++ bytes "(")) k
 
-form-told : (k : ℕ) → k < formCount → (y : List ℕ) → formIn (formOf k .name ++ (40 ∷ y)) ≡ k
+-- a name tells its kind
+pub form-told : (k : ℕ) → k < formCount → (y : List ℕ) → formIn (formOf k .name ++ (40 ∷ y)) ≡ k
 unfolding all told formIn formOf
 form-told k h y = form-only formCount 0 (formOf k .name) y ∙ eqb-true _ _ (all-at formCount told refl k h)
-
--- a name tells its kind
-pub kind-told : (k : ℕ) → k < formCount → (y : List ℕ) → kindOf (formOf k .name ++ (40 ∷ y)) ≡ kindOfForm k
-unfolding kindOf
-kind-told k h y = ap kindOfForm (form-told k h y)
-
--- the form of a form's kind
-pub form-of-kind : (i : ℕ) → formOfKind (kindOfForm i) ≡ i
-form-of-kind i = go (ltb i 13) refl
-  where
-    go : (b : Bool) → ltb i 13 ≡ b → formOfKind (cond b i (suc i)) ≡ i
-    go true e = let l = ltb-true i 13 e in rw (le-leb i 13 (omega arith))
-    go false e = let l = ltb-false i 13 e in rw (lt-leb (suc i) 13 (omega arith)) (omega arith)
 
 -- no word begins with these bytes
 pub no-pair : (x : List ℕ) → getD x 0 0 < 97 → pairOf x ≡ 0

@@ -6,7 +6,7 @@ use Prim.Native.Nat.{ℕ}
 use Rattle.form.specs.Form.{SaysTest, says-event, says-not, says-and, says-or, Piece, whole, later-seq}
 use Rattle.form.specs.Form.{later-par, Says, says-nothing, says-stop, says-atom, says-seq, last-of-seq}
 use Rattle.form.specs.Form.{more-of-seq, says-par, last-of-par, more-of-par, says-loop, says-repeat}
-use Rattle.form.specs.Form.{says-generate, says-await, says-when, says-until, says-control, says-local, says-if}
+use Rattle.form.specs.Form.{says-generate, says-await, says-when, says-until, says-control, says-local, says-freezable, says-if}
 use Rattle.form.specs.Form.{says-repeat-ext}
 use Rattle.form.specs.InForm.{TestInForm, InForm}
 
@@ -39,6 +39,7 @@ piece-in-form (says-when t d e) = (test-in-form t, piece-in-form d, piece-in-for
 piece-in-form (says-until t d e) = (test-in-form t, piece-in-form d, piece-in-form e)
 piece-in-form (says-control l d) = (l, piece-in-form d)
 piece-in-form (says-local l d) = (l, piece-in-form d)
+piece-in-form (says-freezable l d) = (l, piece-in-form d)
 piece-in-form (says-if l d e) = (l, piece-in-form d, piece-in-form e)
 piece-in-form (says-repeat-ext l m d) = ((l, m), piece-in-form d)
 

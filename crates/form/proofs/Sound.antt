@@ -11,13 +11,13 @@ use Rattle.letters.specs.Text.{bytes}
 use Rattle.letters.proofs.Decimal.{decimal-digit, decimal-more}
 use Rattle.junior.specs.Configuration.{Config, Event, Not, And, Or}
 use Rattle.junior.specs.Program.{Program, Nothing, Stop, Atom, Seq, Par, Loop, Repeat, Generate, Await, When, Until}
-use Rattle.junior.specs.Program.{Control, Local, If}
+use Rattle.junior.specs.Program.{Control, Local, Freezable, If}
 use Rattle.junior.specs.Values.{exactly, asked}
 use Rattle.form.specs.Names.{formOf, opening}
 use Rattle.form.specs.Form.{SaysTest, says-event, says-not, says-and, says-or, whole, later-seq, later-par}
 use Rattle.form.specs.Form.{Says, says-nothing, says-stop, says-atom, says-seq, last-of-seq, more-of-seq}
 use Rattle.form.specs.Form.{says-par, last-of-par, more-of-par, says-loop, says-repeat, says-generate}
-use Rattle.form.specs.Form.{says-await, says-when, says-until, says-control, says-local, says-if, says-repeat-ext}
+use Rattle.form.specs.Form.{says-await, says-when, says-until, says-control, says-local, says-freezable, says-if, says-repeat-ext}
 use Rattle.form.specs.Inside.Rows.{formRow, formCount, nameEnd, codes, inName, firstName, home, letters, placeOf}
 use Rattle.form.specs.Inside.Machine.{End, close, comma, space, endByte, Number, event, plain, value, cap, limit, isDigit}
 use Rattle.form.specs.Inside.Machine.{grown, Sym, Stack, byte, prog, name, parts, conf}
@@ -190,6 +190,9 @@ of-control u (a, p, v, l, d, e) = (Control a p, rw e (says-control {s = a} (omeg
 of-local : (u : List ℕ) → Numbered event u → After (bytes "Jr.Local(") u
 of-local u (a, p, v, l, d, e) = (Local a p, rw e (says-local {s = a} (omega arith) d))
 
+of-freezable : (u : List ℕ) → Numbered event u → After (bytes "Jr.Freezable(") u
+of-freezable u (a, p, v, l, d, e) = (Freezable a p, rw e (says-freezable {s = a} (omega arith) d))
+
 of-if : (u : List ℕ) → Valued u → After (bytes "Jr.If(") u
 of-if u (a, p, q, v, w, l, d, k, e) = (If a p q, rw e (says-if l d k))
 
@@ -255,6 +258,7 @@ each-said =
     or (λ u r. of-until u (is-branched u r))
     or (λ u r. of-control u (is-numbered event u r))
     or (λ u r. of-local u (is-numbered event u r))
+    or (λ u r. of-freezable u (is-numbered event u r))
     or (λ u r. of-if u (is-valued u r))
     or (λ u r. of-repeat-ext u (is-capped u r))
     or tt

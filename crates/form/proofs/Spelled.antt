@@ -1,12 +1,12 @@
 -- How a program is printed is a text of the form that says this program.
 use Rattle.junior.specs.Configuration.{Config, Event, Not, And, Or}
 use Rattle.junior.specs.Program.{Program, Nothing, Stop, Atom, Seq, Par, Loop, Repeat, Generate, Await, When, Until}
-use Rattle.junior.specs.Program.{Control, Local, If}
+use Rattle.junior.specs.Program.{Control, Local, Freezable, If}
 use Rattle.junior.specs.Values.{exactly, asked}
 use Rattle.form.specs.Form.{SaysTest, says-event, says-not, says-and, says-or, whole, Says, says-nothing}
 use Rattle.form.specs.Form.{says-stop, says-atom, says-seq, last-of-seq, says-par, last-of-par, says-loop}
 use Rattle.form.specs.Form.{says-repeat, says-generate, says-await, says-when, says-until, says-control}
-use Rattle.form.specs.Form.{says-local, says-if, says-repeat-ext}
+use Rattle.form.specs.Form.{says-local, says-freezable, says-if, says-repeat-ext}
 use Rattle.form.specs.InForm.{TestInForm, InForm}
 use Rattle.form.specs.Spelling.{spellTest, spell}
 
@@ -33,4 +33,5 @@ says-spell (When c p q) (t, g, h) = says-when (says-spelled-test c t) (says-spel
 says-spell (Until c p q) (t, g, h) = says-until (says-spelled-test c t) (says-spell p g) (says-spell q h)
 says-spell (Control s p) (l, h) = says-control l (says-spell p h)
 says-spell (Local s p) (l, h) = says-local l (says-spell p h)
+says-spell (Freezable s p) (l, h) = says-freezable l (says-spell p h)
 says-spell (If v p q) (l, g, h) = says-if l (says-spell p g) (says-spell q h)

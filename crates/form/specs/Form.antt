@@ -1,6 +1,6 @@
 -- The written form (01, "Written form"): the `Jr.` constructors of 000, 2.2, an event being its number. One space after each comma, after
 -- `not` and round `and` and `or`; no other blank. Numbers are decimal without leading zeros: events below 1,024 (L10), others at most
--- 65,535; L14's If and RepeatExt have "the value's number (at most 15) first, RepeatExt's cap (at most 255) next".
+-- 65,535; L8's Freezable is written as Control; L14's If and RepeatExt have "the value's number (at most 15) first, RepeatExt's cap (at most 255) next".
 use Prim.Native.Nat.{ℕ, _<_, _≤_}
 use mathlib.Core.List.{List, _++_}
 use Rattle.events.specs.Members.{places}
@@ -8,7 +8,7 @@ use Rattle.letters.specs.Decimal.{decimal}
 use Rattle.letters.specs.Text.{bytes}
 use Rattle.junior.specs.Configuration.{Config, Event, Not, And, Or}
 use Rattle.junior.specs.Program.{Program, Nothing, Stop, Atom, Seq, Par, Loop, Repeat, Generate, Await, When, Until}
-use Rattle.junior.specs.Program.{Control, Local, If}
+use Rattle.junior.specs.Program.{Control, Local, Freezable, If}
 use Rattle.junior.specs.Values.{exactly, asked}
 
 -- a configuration is a number, `(not C)`, `(C and C)` or `(C or C)`
@@ -75,6 +75,11 @@ pub data Says : Piece → List ℕ → Type 0 where
       → s < places
       → Says (whole p) u
       → Says (whole (Local s p)) (bytes "Jr.Local(" ++ (decimal s ++ (bytes ", " ++ (u ++ bytes ")"))))
+  says-freezable :
+      {s : ℕ} {p : Program} {u : List ℕ}
+      → s < places
+      → Says (whole p) u
+      → Says (whole (Freezable s p)) (bytes "Jr.Freezable(" ++ (decimal s ++ (bytes ", " ++ (u ++ bytes ")"))))
   says-if :
       {v : ℕ} {p q : Program} {u w : List ℕ}
       → v ≤ 15

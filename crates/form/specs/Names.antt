@@ -1,10 +1,8 @@
--- The table of names (01, "Written form"; L14): for each form its name and what stands in its brackets, row by row in the order of the
+-- The table of names (01, "Written form"; L8, L14): for each form its name and what stands in its brackets, row by row in the order of the
 -- kinds (01, "The table"); and the words of the configurations in the order of theirs.
 use Prim.Native.String.{String}
-use Prim.Native.Nat.{ℕ, suc, _-_}
-use mathlib.Core.Bool.{cond}
+use Prim.Native.Nat.{ℕ}
 use mathlib.Core.List.{List, [], _∷_, _++_}
-use lib.Dec.{leb, ltb}
 use lib.ListN.{getD}
 use Rattle.letters.specs.Text.{bytes}
 
@@ -34,29 +32,20 @@ forms =
     ∷ form "Until" (test ∷ program ∷ program ∷ [])
     ∷ form "Control" (event ∷ program ∷ [])
     ∷ form "Local" (event ∷ program ∷ [])
+    ∷ form "Freezable" (event ∷ program ∷ [])
     ∷ form "If" (value ∷ program ∷ program ∷ [])
     ∷ form "RepeatExt" (value ∷ cap ∷ program ∷ [])
     ∷ []
 
--- the kind that no form has; the kind of form i, and the form of kind k
-abbrev pub free : ℕ
-free = 13
-
-abbrev pub kindOfForm : ℕ → ℕ
-kindOfForm i = cond (ltb i free) i (suc i)
-
-abbrev pub formOfKind : ℕ → ℕ
-formOfKind k = cond (leb k free) k (k - 1)
-
--- form i
+-- the form of kind k
 unfoldable pub formOf : ℕ → Form
 unfolding forms
-formOf i = getD forms i (form "" [])
+formOf k = getD forms k (form "" [])
 
--- how form i begins
+-- how it begins
 unfoldable pub opening : ℕ → List ℕ
 unfolding formOf
-opening i = bytes "Jr." ++ (formOf i .name ++ bytes "(")
+opening k = bytes "Jr." ++ (formOf k .name ++ bytes "(")
 
 -- the words before the last part of a configuration; an event has none
 unfoldable pub words : List (List ℕ)

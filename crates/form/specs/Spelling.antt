@@ -6,7 +6,7 @@ use Rattle.letters.specs.Text.{bytes}
 use Rattle.junior.specs.Configuration.{Config, Event, Not, And, Or}
 use Rattle.junior.specs.Program.{Program, Argument, no-argument, number, event, configuration, value, capped, argument, kind}
 use Rattle.junior.specs.Program.{Parts, no-part, one-part, two-parts, parts}
-use Rattle.form.specs.Names.{formOfKind, opening}
+use Rattle.form.specs.Names.{opening}
 
 unfoldable pub spellTest : Config → List ℕ
 spellTest (Event s) = decimal s
@@ -16,7 +16,7 @@ spellTest (Or c d) = bytes "(" ++ (spellTest c ++ (bytes " or " ++ (spellTest d 
 
 -- the name of its form, with the bracket
 abbrev pub name : Program → List ℕ
-name p = opening (formOfKind (kind p))
+name p = opening (kind p)
 
 abbrev pub spellArgument : Argument → List ℕ
 spellArgument no-argument = []

@@ -2,11 +2,10 @@
 ghost use mathlib.Core.Path.{_≡_};
 ghost use Prim.Native.Nat.{_<_, _≤_};
 ghost use lib.ListN.{drop};
-ghost use Rattle.form.specs.Names.{kindOfForm, formOfKind};
 ghost use Rattle.form.specs.Inside.Rows.{TheNames, formRow, formCount, long, codeAt, endsName, nameEnd, named, formIn, pairOf};
 
 // How many forms there are; the length of a row; the first form's row and the first word's; the length of the table.
-pub const FORMS: usize = 15;
+pub const FORMS: usize = 16;
 
 pub const ROW: usize = 20;
 
@@ -15,9 +14,6 @@ pub const FIRST_FORM: usize = 6;
 pub const FIRST_WORD: usize = 2;
 
 pub const LONG: usize = ROW * (FIRST_FORM + FORMS);
-
-// The kind that no form has.
-const FREE: usize = 13;
 
 // A text; a program; a configuration behind its bracket; the words of the configurations by kind; the forms. The codes from 128 on
 // are below; zeros fill a row up.
@@ -41,6 +37,7 @@ const NAMES: [u8; LONG] = *b"\
     Until(\x86, \x80, \x80)\0\0\0\0\0\0\
     Control(\x8a, \x80)\0\0\0\0\0\0\0\
     Local(\x8a, \x80)\0\0\0\0\0\0\0\0\0\
+    Freezable(\x8a, \x80)\0\0\0\0\0\
     If(\x8c, \x80, \x80)\0\0\0\0\0\0\0\0\0\
     RepeatExt(\x8c, \x8d, \x80)\0\0";
 
@@ -116,7 +113,7 @@ pub fn is_named(names: &[u8; LONG], row: usize, text: &[u8], at: usize) -> bool
     false
 }
 
-// The form whose name a text has at byte `at`; FORMS if it has none.
+// The kind of the form whose name a text has at byte `at`; FORMS if it has none.
 pub fn form_named(names: &[u8; LONG], text: &[u8], at: usize) -> usize
     requires { ⌜ TheNames (now names) ⌝ }
     ensures { λ r. ⌜ (r ≡ formIn (drop at (now (text .entry)))) × (r ≤ formCount) ⌝ }
@@ -129,27 +126,6 @@ pub fn form_named(names: &[u8; LONG], text: &[u8], at: usize) -> usize
         k += 1;
     }
     k
-}
-
-// The kind of form i.
-pub fn kind_of_form(i: usize) -> usize
-    requires { ⌜ i ≤ formCount ⌝ }
-    ensures { λ r. ⌜ (r ≡ kindOfForm i) × (r < 256) ⌝ }
-{
-    if i < FREE {
-        return i;
-    }
-    i + 1
-}
-
-// The form of kind k.
-pub fn form_of_kind(k: usize) -> usize
-    ensures { λ r. ⌜ r ≡ formOfKind k ⌝ }
-{
-    if k <= FREE {
-        return k;
-    }
-    k - 1
 }
 
 // 2 where a text has `and` at byte `at`, 3 where it has `or`, and else 0.

@@ -1,4 +1,4 @@
--- In an instant a body that suspends is run again, and one that stops isn't before an Until around it goes over to its handler.
+-- In an instant a body that suspends is run again, and one that stops isn't before an Until or a Freezable around it leaves its body.
 -- Shown from the instant's end to its beginning: k are the acts still to come.
 use Prim.Native.Nat.{ℕ, suc, _+_, _≤_, _<_}
 use mathlib.Core.Bool.{Bool, true, false, false≢true}
@@ -11,19 +11,18 @@ use Rattle.junior.specs.declared.Flag.{Flag}
 use Rattle.junior.specs.declared.Flag.the-variants.{SUSP, STOP, TERM}
 use Rattle.junior.specs.Flags.{γ, δ₁, δ₂}
 use Rattle.junior.specs.Configuration.{Event, Env, handed-in, test, fixed, eval, unknown}
-use Rattle.junior.specs.Program.{Program, Nothing, Stop, Repeat, Until, Local, size}
+use Rattle.junior.specs.Program.{Program, Nothing, Stop, Repeat, Until, Local, Freezable, size}
 use Rattle.junior.specs.Values.{zeros, exactly}
-use Rattle.junior.specs.Term.{Term, done, nothing, stop, atom, generate, await, seq0, seq2, par, loop0, loop1}
-use Rattle.junior.specs.Term.{repeat0, repeat1, when0, when1, when2, until0, until*, until2, control, local, if0, if1, if2}
-use Rattle.junior.specs.Term.{prog, fresh, leave}
-use Rattle.junior.specs.Trace.{Place, Act, did-atom, did-generate, decided, waits, scope-answered}
-use Rattle.junior.specs.Rules.{Allowed, left-first, Result, sign, Rewrites, r1, r1-on, r2, r3, r4, r4-on, r5, r8, r9, r10}
-use Rattle.junior.specs.Rules.{r11, r12, r13, r4-loop, r5-loop, r14, r15, r4-repeat, r5-repeat, r16, r17}
-use Rattle.junior.specs.Rules.{r17-on, r18, r19, r19-on, r20, r21, r22, r23, r24, r25, r26, r27, r28, r29, r30}
-use Rattle.junior.specs.Rules.{r31, r31-on, r32, r33, r34, r35-39, if-true, if-true-on, if-false, if-false-on}
+use Rattle.junior.specs.Term.{Term, done, nothing, stop, atom, generate, await, seq0, seq2, par, loop0, loop1, repeat0, repeat1, when0, when1}
+use Rattle.junior.specs.Term.{when2, until0, until*, until2, control, local, freezable0, freezable*, if0, if1, if2, prog, fresh, leave}
+use Rattle.junior.specs.Trace.{Place, Act, did-atom, did-generate, did-park, decided, waits, scope-answered}
+use Rattle.junior.specs.Rules.{Allowed, left-first, Result, sign, Rewrites, r1, r1-on, r2, r3, r4, r4-on, r5, r8, r9, r10, r11, r12, r13}
+use Rattle.junior.specs.Rules.{r4-loop, r5-loop, r14, r15, r4-repeat, r5-repeat, r16, r17, r17-on, r18, r19, r19-on, r20, r21, r22, r23, r24}
+use Rattle.junior.specs.Rules.{r25, r26, r27, r28, r29, r30, r31, r31-on, r32, r33, r34, r35-39, r40, r41, r42, r43, r44, r45, if-true}
+use Rattle.junior.specs.Rules.{if-true-on, if-false, if-false-on}
 use Rattle.junior.specs.Instant.{Instant, r47, r48, r49}
 use Rattle.junior.specs.Course.{_⊆_}
-use Rattle.junior.specs.Activations.{UntilAround, Answers, Silent, Next, Activations}
+use Rattle.junior.specs.Activations.{PreemptionAround, Answers, Silent, Next, Activations}
 use Rattle.junior.proofs.Little.{TERM≢SUSP}
 use Rattle.junior.proofs.Fresh.{prog-fresh}
 use Rattle.junior.proofs.Kept.{prog-again, kept}
@@ -37,6 +36,7 @@ unfolding Answers
 answers-after [] k n a = a
 answers-after (did-atom m ∷ l) k n a = answers-after l k n a
 answers-after (did-generate s ∷ l) k n a = answers-after l k n a
+answers-after (did-park x ∷ l) k n a = answers-after l k n a
 answers-after (decided P c b E ∷ l) k n a = answers-after l k n a
 answers-after (waits P c E ∷ l) k n a = answers-after l k n a
 answers-after (scope-answered m α b ∷ l) k n a = inr (answers-after l k n a)
@@ -64,6 +64,7 @@ module _ (around : ℕ → ℕ → Type 0) where
       go [] b = h
       go (did-atom a ∷ l) b = go l b
       go (did-generate s ∷ l) b = go l b
+      go (did-park x ∷ l) b = go l b
       go (decided P c x E ∷ l) b = inr (go l b)
       go (waits P c E ∷ l) b = go l b
       go (scope-answered m α x ∷ l) b = ((λ e. o (omega arith) (omega arith)), go l (b .1))
@@ -98,6 +99,8 @@ module _ (around : ℕ → ℕ → Type 0) where
   Owes (until2 c p t) i X k = Owes t (suc i + size p) X k
   Owes (control s t) i X k = X s ≡ true → Owes t (suc i) X k
   Owes (local b s t) i X k = Answers i k × Owes t (suc i) (put s b X) k
+  Owes (freezable0 s t) i X k = Owes t (suc i) X k
+  Owes (freezable* s t) i X k = Hushed (suc i) (suc i + size (prog t)) k
   Owes (if0 v p q) i X k = Unit {0}
   Owes (if1 v t q) i X k = Owes t (suc i) X k
   Owes (if2 v p t) i X k = Owes t (suc i + size p) X k
@@ -153,6 +156,8 @@ module _ (around : ℕ → ℕ → Type 0) where
   earlier k (control s t) i a h o = λ x. earlier k t _ (narrow (omega arith) a) h (o (h s x))
   earlier {l = l} k (local b s t) i a h o =
       (answers-after l k i (o .0), earlier k t _ (narrow (omega arith) a) (put-grows s b h) (o .1))
+  earlier k (freezable0 s t) i a h o = earlier k t _ (narrow (omega arith) a) h o
+  earlier k (freezable* s t) i a h o = hushed k (omega arith) a o
   earlier k (if0 v p q) i a h o = tt
   earlier k (if1 v t q) i a h o = earlier k t _ (narrow (omega arith) a) h o
   earlier k (if2 v p t) i a h o = earlier k t _ (narrow (omega arith) a) h o
@@ -202,11 +207,11 @@ module _ (around : ℕ → ℕ → Type 0) where
       (o i (omega arith) (omega arith), λ n lo hi. ((λ e. omega arith), o n (omega arith) (omega arith)))
   scope TERM X b x y s t i k o = (tt, tt)
 
-  -- the Untils of p, whose node is i, are around what stands in their bodies
+  -- the Untils and Freezables of p, whose node is i, are around what stands in their bodies
   record Known (p : Program) (i : ℕ) : Type 0 where
-    pub known : (m n : ℕ) → UntilAround p i m n → around m n
+    pub known : (m n : ℕ) → PreemptionAround p i m n → around m n
 
-  known-in : {p q : Program} {i j : ℕ} → Known p i → ((m n : ℕ) → UntilAround q j m n → UntilAround p i m n) → Known q j
+  known-in : {p q : Program} {i j : ℕ} → Known p i → ((m n : ℕ) → PreemptionAround q j m n → PreemptionAround p i m n) → Known q j
   known-in c f = record { known = λ m n x. c .known m n (f m n x) }
 
   known-fresh : (p : Program) {i : ℕ} → Known p i → Known (prog (fresh p)) i
@@ -218,7 +223,7 @@ module _ (around : ℕ → ℕ → Type 0) where
       → Activations around k
       → Left (r .flag) (r .to) (P .node) (r .env .now) k
       → Activations around (r .acts ++ k) × Owes t (P .node) (E .now) (r .acts ++ k)
-  unfolding Activations Owes Silent Answers Inside UntilAround size prog eval
+  unfolding Activations Owes Silent Answers Inside PreemptionAround size prog eval
   pass k r1 c a h = (a, tt)
   pass k r1-on c a h = (a, tt)
   pass k r2 c a h = (a, tt)
@@ -306,6 +311,14 @@ module _ (around : ℕ → ℕ → Type 0) where
       let (x, o) = scope (r .flag) (r .env .now) b (E .now s) (r .env .now s) s (r .to) (P .node) k h in
       let y = pass (m ++ k) d (known-in c (λ m n x. x)) (x, a) o in
       rw (append-assoc (r .acts) m k) (y .0, (answers-after (r .acts) (m ++ k) (P .node) (inl refl), y .1))
+  pass k (r40 {r = r} d n) c a h = pass k d (known-in c (λ m n x. inr x)) a (part r _ _ _ k (λ o. o) (omega arith) h)
+  pass k (r41 {l = l} {r = r} d e) c a h =
+      let b = pass k e (rw (kept d) c) a h in
+      rw (append-assoc l (r .acts) k) (pass (r .acts ++ k) d (known-in c (λ m n x. inr x)) (b .0) (b .1))
+  pass k (r42 {P = P} v n) c a h = (a, λ n lo hi. inl (refl, c .known (P .node) n (inl (refl, omega arith, hi))))
+  pass k (r43 {P = P} v n) c a h = (a, λ n lo hi. inl (refl, c .known (P .node) n (inl (refl, omega arith, hi))))
+  pass k (r44 v) c a h = (a, λ n lo hi. inr (h n (omega arith) (omega arith)))
+  pass k (r45 v) c a h = (a, h)
   pass k (if-true {p = p} {r = r} e d) c a h =
       (pass k d (known-fresh p (known-in c (λ m n x. inl x))) a (part r _ _ _ k (λ o. o) (omega arith) h) .0, tt)
   pass k (if-true-on {r = r} d) c a h = pass k d (known-in c (λ m n x. inl x)) a (part r _ _ _ k (λ o. o) (omega arith) h)
@@ -331,8 +344,8 @@ module _ (around : ℕ → ℕ → Type 0) where
       pass (s .acts) d c a (subst⁻¹ (λ α. Left α (r .to) 0 (r .env .now) (s .acts)) h o)
 
 pub activations : {free : Allowed} {t : Term} {E : Env} {n : ℕ} {r : Result} → Instant free t E n r
-    → Activations (UntilAround (prog t) 0) (r .acts)
-activations {t = t} i = instant (UntilAround (prog t) 0) i (record { known = λ m n x. x }) .0
+    → Activations (PreemptionAround (prog t) 0) (r .acts)
+activations {t = t} i = instant (PreemptionAround (prog t) 0) i (record { known = λ m n x. x }) .0
 
 -- An Until around it does make a difference: with event 0 handed in, Repeat(2, Until(0, Local(1, Stop), Nothing)) runs the Local's body
 -- twice in one instant, and both times it stops.
@@ -345,6 +358,20 @@ stops-twice = (
   _,
   _,
   r47 (r15 refl (r4-repeat (r30 (r35-39 r2) (r31 refl refl r1)) (r4-repeat (r30 (r35-39 r2) (r31 refl refl r1)) r1-on))) TERM≢SUSP,
+  refl,
+  inl refl,
+)
+
+-- And so does a Freezable: Repeat(2, Freezable(0, Local(1, Stop))) parks it twice.
+pub parks-twice : (r : Result) × (l : List Act)
+    × Instant (left-first zeros) (fresh (Repeat (exactly 2) (Freezable 0 (Local 1 Stop)))) (handed-in (put 0 true none)) 1 r
+    × (r .acts ≡ scope-answered 2 STOP false ∷ l)
+    × Answers 2 l
+unfolding fresh put test fixed eval leave prog Answers
+parks-twice = (
+  _,
+  _,
+  r47 (r15 refl (r4-repeat (r41 (r35-39 r2) (r42 refl refl)) (r4-repeat (r41 (r35-39 r2) (r42 refl refl)) r1-on))) TERM≢SUSP,
   refl,
   inl refl,
 )

@@ -1,25 +1,28 @@
 -- Every pass agrees with what its term comes to, in every X that holds the pass's events: the one induction over the rules.
 use Prim.Native.Nat.{ℕ, suc}
-use mathlib.Core.Bool.{Bool, true, false, cond, _||_, false≢true}
+use mathlib.Core.Bool.{Bool, true, false, cond, _||_, or-false, false≢true}
 use mathlib.Core.Path.{_≡_, refl, ap, sym, _∙_}
 use mathlib.Core.Logic.{_≢_}
 use mathlib.Core.List.{[], _∷_}
+use mathlib.Core.Option.{Option}
 use native.Mathlib.Omega.{arith}
 use Rattle.events.specs.Events.{Events, none, put}
 use Rattle.junior.specs.declared.Flag.{Flag}
 use Rattle.junior.specs.declared.Flag.the-variants.{SUSP, STOP, TERM}
 use Rattle.junior.specs.declared.Verdict.the-variants.{Unsat}
 use Rattle.junior.specs.Configuration.{Config, Event, Env, generated, verdict, eval, test}
-use Rattle.junior.specs.Program.{Program, Atom, Loop, Generate}
+use Rattle.junior.specs.Program.{Program, Atom, Loop, Generate, Freezable}
 use Rattle.junior.specs.Values.{Values}
-use Rattle.junior.specs.Term.{Term, done, seq0, seq2, loop1, repeat1, when1, when2, until0, until2, if1, if2, prog, fresh}
+use Rattle.junior.specs.Term.{Term, done, seq0, seq2, loop1, repeat1, when1, when2, until0, until2, freezable0, if1, if2, prog, fresh}
 use Rattle.junior.specs.Trace.{Place, first, second, inside, did-atom, did-generate, collect}
-use Rattle.junior.specs.Rules.{Allowed, Result, answers, Rewrites, r1, r1-on, r2, r3, r4, r4-on, r5, r8, r9, r10}
-use Rattle.junior.specs.Rules.{r11, r12, r13, r4-loop, r5-loop, r14, r15, r4-repeat, r5-repeat, r16, r17, r17-on}
-use Rattle.junior.specs.Rules.{r18, r19, r19-on, r20, r21, r22, r23, r24, r25, r26, r27, r28, r29, r30, r31}
-use Rattle.junior.specs.Rules.{r31-on, r32, r33, r34, r35-39, if-true, if-true-on, if-false, if-false-on}
+use Rattle.junior.specs.Rules.{Allowed, Result, answers, freezes, Rewrites, r1, r1-on, r2, r3, r4, r4-on, r5, r8, r9, r10, r11, r12, r13}
+use Rattle.junior.specs.Rules.{r4-loop, r5-loop, r14, r15, r4-repeat, r5-repeat, r16, r17, r17-on, r18, r19, r19-on, r20, r21, r22, r23, r24}
+use Rattle.junior.specs.Rules.{r25, r26, r27, r28, r29, r30, r31, r31-on, r32, r33, r34, r35-39, r40, r41, r42, r43, r44, r45, if-true}
+use Rattle.junior.specs.Rules.{if-true-on, if-false, if-false-on}
 use Rattle.junior.specs.Figures.{LoopsStop}
-use Rattle.junior.specs.Order.{often, decides}
+use Rattle.junior.specs.Waited.{Wait}
+use Rattle.junior.specs.Order.{often, tells, decides}
+use Rattle.junior.specs.Parked.{together}
 use Rattle.junior.proofs.Little.{STOP≢SUSP, TERM≢SUSP, put-at}
 use Rattle.junior.proofs.Fresh.{prog-fresh}
 use Rattle.junior.proofs.Kept.{kept, prog-again}
@@ -27,8 +30,8 @@ use Rattle.junior.proofs.Verdicts.{test-event, present}
 use Rattle.junior.proofs.Grows.{grows, end-kept}
 use Rattle.junior.proofs.Held.{begun}
 use Rattle.junior.proofs.Figures.{loops-fresh}
-use Rattle.junior.proofs.Settle.{Out, plus, bind, around, once-ended, reads, own-wait, once-stopped, repeated, handled}
-use Rattle.junior.proofs.Settle.{starts, settle, settle-fresh, settle-again, starts-unended, steered-on}
+use Rattle.junior.proofs.Settle.{Out, plus, bind, around, once-ended, reads, own-wait, once-stopped, repeated, handled, frozen, once-frozen}
+use Rattle.junior.proofs.Settle.{says, starts, settle, settle-fresh, settle-again, starts-unended, steered-on}
 use Rattle.junior.proofs.Fits.{alike-same, at-or-else, put-else}
 use Rattle.junior.proofs.Meets.{Agrees, comes-to, only-waits, stays, Around, runs-under, runs-in, runs-first}
 use Rattle.junior.proofs.Meets.{runs-on, reads-so, runs-left-first, runs-right-first, runs-left, runs-right}
@@ -55,17 +58,17 @@ unended-same o f k k′ n = ap (plus o) (go (o .flag) n)
 
 does : {value : Values} {P : Place} {X : Events} {E : Env} (a : ℕ)
     → Agrees value P X E (answers TERM (done (Atom a)) E (did-atom a ∷ [])) (starts value P (Atom a) X)
-unfolding starts collect decides
+unfolding starts collect together decides
 does a = record {
   run = λ b w. record {
     below = b;
-    fits = record { flags = refl; terms = refl; events = λ n. refl; counts = λ n. omega arith; told = λ n b. refl; waits = refl };
+    fits = record { flags = refl; terms = refl; events = λ n. refl; counts = λ n. omega arith; pieces = λ v. omega arith; told = λ n b. refl; waits = refl };
   };
 }
 
 raises : {value : Values} {P : Place} {X : Events} {E : Env} (s : ℕ)
     → Agrees value P X E (answers TERM (done (Generate s)) (generated s E) (did-generate s ∷ [])) (starts value P (Generate s) X)
-unfolding starts collect often decides
+unfolding starts collect often together decides
 raises {P = P} {X} {E} s = record {
   run = λ b w.
       let here : X s ≡ true = w s (put-at s true (E .now)) (put-at s true none) in
@@ -82,10 +85,30 @@ raises {P = P} {X} {E} s = record {
               (rw here)
               (λ e. ap (λ x. X n || x) (put-else s n true none e));
           counts = λ a. omega arith;
+          pieces = λ v. omega arith;
           told = λ n b. refl;
           waits = refl;
         };
       };
+}
+
+-- a pending Freezable of s whose event is present
+parks-body : {value : Values} {P : Place} {X : Events} {E : Env} (s : ℕ) (w : Option Wait) (t : Term)
+    → Agrees value P X E (answers TERM (done (Freezable s (prog t))) E (freezes P s t E)) (frozen P s true w TERM t)
+unfolding frozen says collect often together decides
+parks-body {P = P} s v t = record {
+  run = λ b w. record {
+    below = b;
+    fits = record {
+      flags = refl;
+      terms = refl;
+      events = λ n. refl;
+      counts = λ a. omega arith;
+      pieces = λ v. omega arith;
+      told = λ n b. sym (or-false (tells P true n b || false));
+      waits = refl;
+    };
+  };
 }
 
 -- a body that is begun
@@ -103,6 +126,14 @@ around-until value P X c p q SUSP t n e =
     λ i. bind (settle value (first P) t X) (once-stopped P c q (starts value (second P (e i)) q X) (own-wait P c X) (eval c X) (reads c X))
 around-until value P X c p q STOP t n e = absurd (n refl)
 around-until value P X c p q TERM t n e = refl
+
+around-freezable : (value : Values) (P : Place) (X : Events) (s : ℕ) (α : Flag) (t : Term)
+    → α ≢ STOP
+    → Around value P (first P) X (freezable0 s) (once-frozen P s (X s) (own-wait P (Event s) X)) α t
+unfolding settle prog
+around-freezable value P X s SUSP t n = refl
+around-freezable value P X s STOP t n = absurd (n refl)
+around-freezable value P X s TERM t n = refl
 
 -- an If, by its value
 chooses : {value : Values} {P : Place} {X : Events} {E : Env} {r : Result} (b x : Bool) (o p : Out)
@@ -199,6 +230,14 @@ agree (r33 {c = c} v) o e X = reads-so c false _ _ _ _ _ _ v e (stays STOP _ ali
 agree (r34 v) o e X = stays SUSP _ only-waits
 agree {free} (r35-39 {P = P} {E = E} {b = b} {s = s} {t = t} {r = r} d) o e X =
     record { run = λ h w. local-meets (free .value) X P E b s (settle (free .value) (inside s P) t) r (grows d) (λ Y. agree d o e Y) h w }
+agree {free} (r40 {P = P} {s = s} {r = r} d h) o e X =
+    runs-under (freezable0 s) _ (around-freezable (free .value) P X s (r .flag) (r .to) h) (agree d o e X)
+agree (r41 d d′) o e X = runs-on _ STOP≢SUSP (grows d′) (agree d o e X) (agree d′ (rw (kept d) o) (end-kept d ∙ e) X)
+agree (r42 {P = P} {E = E} {s = s} {t = t} v h) o e X =
+    comes-to (λ b. ap (λ x. frozen P s x (own-wait P (Event s) X) TERM t) (b s (present s E v))) (parks-body s (own-wait P (Event s) X) t)
+agree (r43 v h) o e X = absurd (false≢true (sym e ∙ h))
+agree (r44 {E = E} {s = s} v) o e X = absurd (open-event s E e v)
+agree (r45 v) o e X = stays SUSP _ only-waits
 agree (if-true {v = v} {p = p} {q = q} h d) o e X =
     chooses _ true _ _ h (runs-in (λ x. if1 v x q) refl (begins p (agree d (loops-fresh p (o .0)) e X)))
 agree (if-true-on {v = v} {q = q} d) o e X = runs-in (λ x. if1 v x q) refl (agree d (o .0) e X)

@@ -7,10 +7,10 @@ use Rattle.junior.specs.Values.{Values, nonzero, Times, exactly, asked, 
 use Rattle.junior.specs.Program.{Program}
 use Rattle.junior.specs.Term.{Term, prog, fresh}
 use Rattle.junior.specs.Trace.{Place}
-use Rattle.junior.specs.Rules.{Allowed, with-values, Result, Rewrites, r1, r1-on, r2, r3, r4, r4-on, r5, r8, r9, r10, r11, r12}
-use Rattle.junior.specs.Rules.{r13, r4-loop, r5-loop, r14, r15, r4-repeat, r5-repeat, r16, r17, r17-on, r18}
-use Rattle.junior.specs.Rules.{r19, r19-on, r20, r21, r22, r23, r24, r25, r26, r27, r28, r29, r30, r31, r31-on}
-use Rattle.junior.specs.Rules.{r32, r33, r34, r35-39, if-true, if-true-on, if-false, if-false-on}
+use Rattle.junior.specs.Rules.{Allowed, with-values, Result, Rewrites, r1, r1-on, r2, r3, r4, r4-on, r5, r8, r9, r10, r11, r12, r13, r4-loop}
+use Rattle.junior.specs.Rules.{r5-loop, r14, r15, r4-repeat, r5-repeat, r16, r17, r17-on, r18, r19, r19-on, r20, r21, r22, r23, r24, r25, r26}
+use Rattle.junior.specs.Rules.{r27, r28, r29, r30, r31, r31-on, r32, r33, r34, r35-39, r40, r41, r42, r43, r44, r45, if-true, if-true-on}
+use Rattle.junior.specs.Rules.{if-false, if-false-on}
 use Rattle.junior.specs.Instant.{Instant, r47, r48, r49}
 use Rattle.junior.specs.Waited.{before-the-end}
 use Rattle.junior.specs.Asked.{asked-by, asks, asks-in-all, Each, EachNamed, AlsoWith, Asked}
@@ -91,6 +91,12 @@ module _ (free : Allowed) (value : Values) where
   alike (r33 s) a = r33 s
   alike (r34 s) a = r34 s
   alike (r35-39 d) a = r35-39 (alike d a)
+  alike (r40 d h) a = r40 (alike d a) h
+  alike (r41 d e) a = let (b, c) = each-++ Same (asks d) (asks e) a in r41 (alike d b) (alike e c)
+  alike (r42 s h) a = r42 s h
+  alike (r43 s h) a = r43 s h
+  alike (r44 s) a = r44 s
+  alike (r45 s) a = r45 s
   alike (if-true h d) a = if-true (ap nonzero (sym (a .0)) ∙ h) (alike d (a .1))
   alike (if-true-on d) a = if-true-on (alike d a)
   alike (if-false h d) a = if-false (ap nonzero (sym (a .0)) ∙ h) (alike d (a .1))
@@ -160,6 +166,12 @@ module _ (so : ℕ → Type 0) where
   named (r33 s) o = tt
   named (r34 s) o = tt
   named (r35-39 d) o = named d o
+  named (r40 d h) o = named d o
+  named (r41 d e) o = each-both so (asks d) (asks e) (named d o) (named e (rw (kept d) o))
+  named (r42 s h) o = tt
+  named (r43 s h) o = tt
+  named (r44 s) o = tt
+  named (r45 s) o = tt
   named (if-true {p = p} h d) o = (o .0, named d (named-fresh p (o .1)))
   named (if-true-on d) o = named d (o .1)
   named (if-false {q = q} h d) o = (o .0, named d (named-fresh q (o .2)))

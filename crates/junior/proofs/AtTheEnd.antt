@@ -10,10 +10,10 @@ use Rattle.events.specs.Events.{Events}
 use Rattle.junior.specs.Configuration.{Config, Event, Env, eval}
 use Rattle.junior.specs.Term.{Term}
 use Rattle.junior.specs.Trace.{Place, Act, decided, scope-answered}
-use Rattle.junior.specs.Rules.{Allowed, Result, Rewrites, r1, r1-on, r2, r3, r4, r4-on, r5, r8, r9, r10, r11, r12}
-use Rattle.junior.specs.Rules.{r13, r4-loop, r5-loop, r14, r15, r4-repeat, r5-repeat, r16, r17, r17-on, r18}
-use Rattle.junior.specs.Rules.{r19, r19-on, r20, r21, r22, r23, r24, r25, r26, r27, r28, r29, r30, r31, r31-on}
-use Rattle.junior.specs.Rules.{r32, r33, r34, r35-39, if-true, if-true-on, if-false, if-false-on}
+use Rattle.junior.specs.Rules.{Allowed, Result, Rewrites, r1, r1-on, r2, r3, r4, r4-on, r5, r8, r9, r10, r11, r12, r13, r4-loop, r5-loop, r14}
+use Rattle.junior.specs.Rules.{r15, r4-repeat, r5-repeat, r16, r17, r17-on, r18, r19, r19-on, r20, r21, r22, r23, r24, r25, r26, r27, r28, r29}
+use Rattle.junior.specs.Rules.{r30, r31, r31-on, r32, r33, r34, r35-39, r40, r41, r42, r43, r44, r45, if-true, if-true-on, if-false}
+use Rattle.junior.specs.Rules.{if-false-on}
 use Rattle.junior.specs.Instant.{Instant, r47, r48, r49}
 use Rattle.junior.specs.Decided.{last-answers, by-scope, finished}
 use Rattle.junior.specs.Waited.{lacks, Wait, waits-for, first-wait, before-the-end, waited}
@@ -139,6 +139,13 @@ module _ (F : Events) (w : Wait) where
       let own = status-own (r .flag) (P .node) (r .env .now s) (last-answers k) (ended d e) in
       let a′ = ahead-inside F (r .flag) (r .env) s (E .now s) _ c (λ x. ended d e) (λ x. own ∙ x) a in
       regrouped (r .acts) m k (ends-lacking (m ++ k) d (around-body s c) e b a′ h)
+  ends-lacking k (r40 d n) c e b a h = absurd (n (idles d e b .stops))
+  ends-lacking k (r41 {l = l} {r = r} d d′) c e b a h =
+      regrouped l (r .acts) k (ends-lacking (r .acts ++ k) d (further (omega arith) c) e b (ahead-earlier F k d′ c a) h)
+  ends-lacking k (r42 v n) c e b a h = absurd (false≢true (sym n ∙ e))
+  ends-lacking k (r43 v n) c e b a h = decides (_ ∷ k) e a h
+  ends-lacking k (r44 v) c e b a h = decides k e a h
+  ends-lacking k (r45 {E = E} {s = s} v) c e b a h = absurd (known-at-end (Event s) E e v)
   ends-lacking k (if-true n d) c e b a h = absurd b
   ends-lacking k (if-true-on d) c e b a h = ends-lacking k d (further (omega arith) c) e b a h
   ends-lacking k (if-false n d) c e b a h = absurd b

@@ -3,11 +3,11 @@ use mathlib.Core.Path.{refl}
 use Rattle.events.specs.Events.{put}
 use Rattle.junior.specs.Configuration.{test, fixed, eval}
 use Rattle.junior.specs.Term.{prog, fresh, leave}
-use Rattle.junior.specs.Rules.{r1-on, r2, r3, r4, r4-on, r5, r8, r12, r4-loop, r5-loop, r15, r4-repeat, r16}
-use Rattle.junior.specs.Rules.{r22, r24, r25, r30, r31-on, r32, r34}
+use Rattle.junior.specs.Rules.{r1-on, r2, r3, r4, r4-on, r5, r8, r12, r4-loop, r5-loop, r15, r4-repeat, r16, r22, r24, r25, r30, r31-on, r32}
+use Rattle.junior.specs.Rules.{r34, r40, r41, r44, r45}
 use Rattle.junior.specs.Instant.{r47, r48}
 use Rattle.junior.specs.Visits.{below, visits-by-pass, next, no-more, CountedSo}
-use Rattle.junior.proofs.Little.{STOP≢SUSP, TERM≢SUSP, SUSP≢TERM, STOP≢TERM}
+use Rattle.junior.proofs.Little.{STOP≢SUSP, TERM≢SUSP, SUSP≢TERM, STOP≢TERM, TERM≢STOP}
 
 pub counted-so : CountedSo
 unfolding visits-by-pass below put test fixed eval prog fresh leave
@@ -26,4 +26,7 @@ counted-so = record {
   of-Until =
       next (r48 (r30 r2 (r34 refl)) refl refl (r47 (r32 refl refl) STOP≢SUSP)) refl
       (next (r47 (r31-on r3) TERM≢SUSP) refl no-more);
+  of-Freezable =
+      next (r48 (r41 r2 (r45 refl)) refl refl (r47 (r44 refl) STOP≢SUSP)) refl
+      (next (r47 (r40 r1-on TERM≢STOP) TERM≢SUSP) refl no-more);
 }

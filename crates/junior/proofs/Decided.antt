@@ -10,10 +10,10 @@ use Rattle.junior.specs.Configuration.{Event, Env}
 use Rattle.junior.specs.Program.{size}
 use Rattle.junior.specs.Term.{Term, prog, leave}
 use Rattle.junior.specs.Trace.{Place, root, Act, scope-answered, generations}
-use Rattle.junior.specs.Rules.{Allowed, Result, Rewrites, r1, r1-on, r2, r3, r4, r4-on, r5, r8, r9, r10, r11, r12, r13}
-use Rattle.junior.specs.Rules.{r4-loop, r5-loop, r14, r15, r4-repeat, r5-repeat, r16, r17, r17-on, r18, r19}
-use Rattle.junior.specs.Rules.{r19-on, r20, r21, r22, r23, r24, r25, r26, r27, r28, r29, r30, r31, r31-on, r32}
-use Rattle.junior.specs.Rules.{r33, r34, r35-39, if-true, if-true-on, if-false, if-false-on}
+use Rattle.junior.specs.Rules.{Allowed, Result, Rewrites, r1, r1-on, r2, r3, r4, r4-on, r5, r8, r9, r10, r11, r12, r13, r4-loop, r5-loop, r14}
+use Rattle.junior.specs.Rules.{r15, r4-repeat, r5-repeat, r16, r17, r17-on, r18, r19, r19-on, r20, r21, r22, r23, r24, r25, r26, r27, r28, r29}
+use Rattle.junior.specs.Rules.{r30, r31, r31-on, r32, r33, r34, r35-39, r40, r41, r42, r43, r44, r45, if-true, if-true-on, if-false}
+use Rattle.junior.specs.Rules.{if-false-on}
 use Rattle.junior.specs.Instant.{Instant, r47, r48, r49}
 use Rattle.junior.specs.Course.{IdleOnceEnded}
 use Rattle.junior.specs.AtRest.{AtRest}
@@ -168,6 +168,17 @@ module _ (F : Events) where
       let y = pass-right (m ++ k) d (around-body s c) g a′ (h .0, o) in
       let own = elsewhere (between d) (m ++ k) (P .node) (omega arith) in
       rw (append-assoc (r .acts) m k) (y .0, (λ e. own ∙ p (grows d s (put-at s b (E .now) ∙ e)), y .1))
+  pass-right k (r40 {r = r} d n) c g a h =
+      pass-right k d (further (omega arith) c) g a (part r _ _ _ k (stands d g) (λ o. o) h)
+  pass-right k (r41 {t′ = t′} {l = l} {r = r} d e) c g a h =
+      let b = pass-right k e c (stands d g) a h in
+      let o = rest-open t′ _ _ (stands d g) in
+      rw (append-assoc l (r .acts) k)
+      (pass-right (r .acts ++ k) d (further (omega arith) c) g (earlier F k e c a) (b .0, o))
+  pass-right k (r42 {s = s} v n) c g a h = ((told (Event s) v a, h .0), tt)
+  pass-right k (r43 {s = s} v n) c g a h = ((told (Event s) v a, h .0), tt)
+  pass-right k (r44 {s = s} v) c g a h = ((told (Event s) v a, h .0), tt)
+  pass-right k (r45 v) c g a h = (h .0, tt)
   pass-right k (if-true {p = p} {r = r} e d) c g a h =
       let f = fresh-going _ p in
       (pass-right k d (further (omega arith) c) f a (part r _ _ _ k (stands d f) (λ o. o) h) .0, tt)

@@ -6,13 +6,13 @@ use mathlib.Core.List.{[], _∷_, _++_}
 use native.Mathlib.Omega.{arith}
 use Rattle.junior.specs.Configuration.{Event, Env, declared-end, unmoved}
 use Rattle.junior.specs.Values.{Values}
-use Rattle.junior.specs.Term.{Term, prog, seq0, seq2, loop1, repeat1, when1, when2, until0, until*, until2}
-use Rattle.junior.specs.Term.{control, if1, if2, fresh}
+use Rattle.junior.specs.Term.{Term, prog, seq0, seq2, loop1, repeat1, when1, when2, until0, until*, until2, control, freezable0, freezable*}
+use Rattle.junior.specs.Term.{if1, if2, fresh}
 use Rattle.junior.specs.Trace.{Place, decided}
-use Rattle.junior.specs.Rules.{left-first, Result, under, after, joined, left-scope, Rewrites, r1, r1-on, r2, r3, r4, r4-on}
-use Rattle.junior.specs.Rules.{r5, r8, r10, r11, r12, r13, r4-loop, r5-loop, r14, r15, r4-repeat, r5-repeat}
-use Rattle.junior.specs.Rules.{r16, r17, r17-on, r18, r19, r19-on, r20, r21, r22, r23, r24, r25, r26, r27, r28}
-use Rattle.junior.specs.Rules.{r29, r30, r31, r31-on, r32, r33, r34, r35-39, if-true, if-true-on, if-false, if-false-on}
+use Rattle.junior.specs.Rules.{left-first, Result, under, after, joined, left-scope, Rewrites, r1, r1-on, r2, r3, r4, r4-on, r5, r8, r10, r11}
+use Rattle.junior.specs.Rules.{r12, r13, r4-loop, r5-loop, r14, r15, r4-repeat, r5-repeat, r16, r17, r17-on, r18, r19, r19-on, r20, r21, r22}
+use Rattle.junior.specs.Rules.{r23, r24, r25, r26, r27, r28, r29, r30, r31, r31-on, r32, r33, r34, r35-39, r40, r41, r42, r43, r44, r45}
+use Rattle.junior.specs.Rules.{if-true, if-true-on, if-false, if-false-on}
 use Rattle.junior.specs.Instant.{Instant, r47, r48, r49}
 
 same-flag : {r s : Result} → r ≡ s → r .flag ≡ s .flag
@@ -159,6 +159,29 @@ one-result (r34 s) (r32 s′ h′) = cc
 one-result (r34 s) (r33 s′) = cc
 one-result (r34 s) (r34 s′) = refl
 one-result (r35-39 {P = P} {E = E} {b = b} {s = s} d) (r35-39 d′) = ap (left-scope P b s E) (one-result d d′)
+one-result (r40 {s = s} d h) (r40 d′ h′) = ap (under (freezable0 s)) (one-result d d′)
+one-result (r40 d h) (r41 d′ e) = absurd (h (same-flag (one-result d d′)))
+one-result (r41 d e) (r40 d′ h) = absurd (h (sym (same-flag (one-result d d′))))
+one-result {value = value} (r41 {P = P} {s = s} d e) (r41 {E′ = F} {r = r} d′ e′) =
+    let x = one-result d d′ in
+    let y = one-result e (from x (subst⁻¹ (λ t. Rewrites (left-first value) P (freezable* s t) F r) (ap (λ r. r .to) x) e′)) in
+    ap₂ (λ r. after (r .acts)) x y
+one-result (r42 s h) (r42 s′ h′) = refl
+one-result (r42 s h) (r43 s′ h′) = cc
+one-result (r42 s h) (r44 s′) = cc
+one-result (r42 s h) (r45 s′) = cc
+one-result (r43 s h) (r42 s′ h′) = cc
+one-result (r43 s h) (r43 s′ h′) = refl
+one-result (r43 s h) (r44 s′) = cc
+one-result (r43 s h) (r45 s′) = cc
+one-result (r44 s) (r42 s′ h′) = cc
+one-result (r44 s) (r43 s′ h′) = cc
+one-result (r44 s) (r44 s′) = refl
+one-result (r44 s) (r45 s′) = cc
+one-result (r45 s) (r42 s′ h′) = cc
+one-result (r45 s) (r43 s′ h′) = cc
+one-result (r45 s) (r44 s′) = cc
+one-result (r45 s) (r45 s′) = refl
 one-result (if-true {v = v} {q = q} h d) (if-true h′ d′) = ap (under (λ t. if1 v t q)) (one-result d d′)
 one-result (if-true h d) (if-false h′ d′) = cc
 one-result (if-true-on {v = v} {q = q} d) (if-true-on d′) = ap (under (λ t. if1 v t q)) (one-result d d′)

@@ -10,14 +10,13 @@ use Rattle.junior.specs.declared.Flag.{Flag}
 use Rattle.junior.specs.declared.Flag.the-variants.{SUSP, STOP, TERM}
 use Rattle.junior.specs.Flags.{γ, δ₁, δ₂}
 use Rattle.junior.specs.Configuration.{Config, Event, Env, declared-end, handed-in, unknown}
-use Rattle.junior.specs.Term.{Term, done, nothing, stop, atom, generate, await, seq0, seq2, par, loop0, loop1}
-use Rattle.junior.specs.Term.{repeat0, repeat1, when0, when1, when2, until0, until*, until2, control, local, if0, if1, if2}
-use Rattle.junior.specs.Term.{leave}
-use Rattle.junior.specs.Trace.{Place, Act, decided, scope-answered, atom-of, event-of, collect, generations}
-use Rattle.junior.specs.Rules.{Allowed, Result, sign, Rewrites, r1, r1-on, r2, r3, r4, r4-on, r5, r8, r9, r10, r11, r12}
-use Rattle.junior.specs.Rules.{r13, r4-loop, r5-loop, r14, r15, r4-repeat, r5-repeat, r16, r17, r17-on, r18}
-use Rattle.junior.specs.Rules.{r19, r19-on, r20, r21, r22, r23, r24, r25, r26, r27, r28, r29, r30, r31, r31-on}
-use Rattle.junior.specs.Rules.{r32, r33, r34, r35-39, if-true, if-true-on, if-false, if-false-on}
+use Rattle.junior.specs.Term.{Term, done, nothing, stop, atom, generate, await, seq0, seq2, par, loop0, loop1, repeat0, repeat1, when0, when1}
+use Rattle.junior.specs.Term.{when2, until0, until*, until2, control, local, freezable0, freezable*, if0, if1, if2, leave}
+use Rattle.junior.specs.Trace.{Place, Act, Piece, did-park, decided, scope-answered, atom-of, event-of, collect, generations}
+use Rattle.junior.specs.Rules.{Allowed, Result, sign, freezes, Rewrites, r1, r1-on, r2, r3, r4, r4-on, r5, r8, r9, r10, r11, r12, r13, r4-loop}
+use Rattle.junior.specs.Rules.{r5-loop, r14, r15, r4-repeat, r5-repeat, r16, r17, r17-on, r18, r19, r19-on, r20, r21, r22, r23, r24, r25, r26}
+use Rattle.junior.specs.Rules.{r27, r28, r29, r30, r31, r31-on, r32, r33, r34, r35-39, r40, r41, r42, r43, r44, r45, if-true, if-true-on}
+use Rattle.junior.specs.Rules.{if-false, if-false-on}
 use Rattle.junior.specs.Instant.{Instant, r47, r48, r49}
 use Rattle.junior.specs.Course.{Idle, IdleOnceEnded}
 use Rattle.junior.proofs.Little.{STOP≢SUSP, TERM≢SUSP, TERM≢STOP, collect-++, collect-none, put-at}
@@ -80,6 +79,12 @@ ended (r32 v h) e = STOP≢SUSP
 ended (r33 v) e = STOP≢SUSP
 ended (r34 {E = E} {c = c} v) e = absurd (known-at-end c E e v)
 ended (r35-39 d) e = ended d e
+ended (r40 d h) e = ended d e
+ended (r41 d d′) e = ended d′ (end-kept d ∙ e)
+ended (r42 v h) e = TERM≢SUSP
+ended (r43 v h) e = STOP≢SUSP
+ended (r44 v) e = STOP≢SUSP
+ended (r45 {E = E} {s = s} v) e = absurd (known-at-end (Event s) E e v)
 ended (if-true h d) e = ended d e
 ended (if-true-on d) e = ended d e
 ended (if-false h d) e = ended d e
@@ -108,6 +113,8 @@ Blocked X (until* c t q) = unknown c (handed-in X)
 Blocked X (until2 c p t) = Blocked X t
 Blocked X (control s t) = X s ≡ true → Blocked X t
 Blocked X (local b s t) = Blocked (put s b X) t
+Blocked X (freezable0 s t) = Blocked X t
+Blocked X (freezable* s t) = unknown (Event s) (handed-in X)
 Blocked X (if0 v p q) = ⊥
 Blocked X (if1 v t q) = Blocked X t
 Blocked X (if2 v p t) = Blocked X t
@@ -238,6 +245,12 @@ blocks (r35-39 {E = E} {b = b} {s = s} {r = r} d) q f =
     let k = collect-none event-of (r .acts) (_ ∷ []) q .0 in
     let same : r .env .now s ≡ b = ap (λ F. F .now s) (unchanged d k) ∙ put-at s b (E .now) in
     rw (leave-susp, sign-kept b (r .env .now s) (r .flag) same f) (blocks d k f)
+blocks (r40 d h) q f = rw leave-susp (blocks d q f)
+blocks (r41 {r = r} d e) q f = behind d r q (λ k. blocks e k f)
+blocks (r42 v h) q f = TERM≢SUSP f
+blocks (r43 v h) q f = STOP≢SUSP f
+blocks (r44 v) q f = absurd (STOP≢SUSP f)
+blocks (r45 {E = E} {s = s} v) q f = unknown-before (Event s) E v
 blocks (if-true h d) q f = rw leave-susp (blocks d q f)
 blocks (if-true-on d) q f = rw leave-susp (blocks d q f)
 blocks (if-false h d) q f = rw leave-susp (blocks d q f)
@@ -265,6 +278,10 @@ idle-read : {P : Place} {c : Config} {b : Bool} {E : Env} → Idle STOP (decided
 unfolding collect
 idle-read = record { stops = refl; no-atom = refl; no-event = refl }
 
+idle-park : {x : Piece} → Idle STOP (did-park x ∷ [])
+unfolding collect
+idle-park = record { stops = refl; no-atom = refl; no-event = refl }
+
 idle-scope : {n : ℕ} {α : Flag} {b : Bool} → Idle STOP (scope-answered n α b ∷ [])
 unfolding collect
 idle-scope = record { stops = refl; no-atom = refl; no-event = refl }
@@ -276,6 +293,9 @@ idle-++ {l = l} {k = k} h i j =
       no-atom = rw (collect-++ atom-of l k, i .no-atom, j .no-atom);
       no-event = rw (collect-++ event-of l k, i .no-event, j .no-event);
     }
+
+idle-freezes : {P : Place} {s : ℕ} {t : Term} {E : Env} → Idle STOP (freezes P s t E)
+idle-freezes = idle-++ refl idle-read idle-park
 
 -- what waits is idle once the end is declared: its tests are read, and what follows them is left for the next instant
 pub idles : {free : Allowed} {P : Place} {t : Term} {E : Env} {r : Result}
@@ -343,6 +363,15 @@ idles (r34 {E = E} {c = c} v) e b = absurd (known-at-end c E e v)
 idles (r35-39 d) e b =
     let i = idles d e b in
     idle-++ (i .stops) i idle-scope
+idles (r40 d h) e b = absurd (h (idles d e b .stops))
+idles (r41 d (r42 v h)) e b = absurd (false≢true (sym h ∙ (end-kept d ∙ e)))
+idles (r41 d (r43 v h)) e b = idle-++ refl (idles d e b) idle-freezes
+idles (r41 d (r44 v)) e b = idle-++ refl (idles d e b) idle-read
+idles (r41 {E′ = E′} {s = s} d (r45 v)) e b = absurd (known-at-end (Event s) E′ (end-kept d ∙ e) v)
+idles (r42 v h) e b = absurd (false≢true (sym h ∙ e))
+idles (r43 v h) e b = idle-freezes
+idles (r44 v) e b = idle-read
+idles (r45 {E = E} {s = s} v) e b = absurd (known-at-end (Event s) E e v)
 idles (if-true h d) e b = absurd b
 idles (if-true-on d) e b = idles d e b
 idles (if-false h d) e b = absurd b

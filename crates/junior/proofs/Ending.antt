@@ -1,8 +1,9 @@
 -- What waits when the end is declared comes, in the pass after it, to exactly the term that `settle` says of it; and the test that `settle` says
 -- waits is the one that the way down finds.
-use Prim.Native.Nat.{ℕ}
+use Prim.Native.Nat.{ℕ, _+_}
 use mathlib.Core.Bool.{Bool, true, false, cond, _||_, or-false, false≢true}
-use mathlib.Core.Path.{_≡_, refl, ap, sym, _∙_, subst, fun-ext}
+use mathlib.Core.Path.{_≡_, refl, ap, ap₂, sym, _∙_, subst, fun-ext}
+use native.Mathlib.Omega.{arith}
 use mathlib.Core.Logic.{_≢_}
 use mathlib.Core.List.{List, [], _∷_, _++_}
 use mathlib.Core.Option.{Option, none}
@@ -11,36 +12,39 @@ use Rattle.junior.specs.declared.Flag.{Flag}
 use Rattle.junior.specs.declared.Flag.the-variants.{SUSP, STOP, TERM}
 use Rattle.junior.specs.declared.Verdict.the-variants.{Unknown}
 use Rattle.junior.specs.Flags.{γ}
-use Rattle.junior.specs.Configuration.{Config, Event, Env, verdict, eval, test}
-use Rattle.junior.specs.Program.{Program}
+use Rattle.junior.specs.Configuration.{Config, Event, Env, handed-in, verdict, eval, test}
+use Rattle.junior.specs.Program.{Program, Freezable}
 use Rattle.junior.specs.Values.{Values}
-use Rattle.junior.specs.Term.{Term, seq0, seq2, loop1, repeat1, when1, when2, until0, until2, control, local, if1, if2}
-use Rattle.junior.specs.Term.{prog, fresh, leave}
-use Rattle.junior.specs.Trace.{Place, first, second, inside, Act, decided, scope-answered}
-use Rattle.junior.specs.Rules.{Allowed, Result, answers, joined, Rewrites, r1, r1-on, r2, r3, r4, r4-on, r5, r8}
-use Rattle.junior.specs.Rules.{r9, r10, r11, r12, r13, r4-loop, r5-loop, r14, r15, r4-repeat, r5-repeat, r16, r17}
-use Rattle.junior.specs.Rules.{r17-on, r18, r19, r19-on, r20, r21, r22, r23, r24, r25, r26, r27, r28, r29, r30}
-use Rattle.junior.specs.Rules.{r31, r31-on, r32, r33, r34, r35-39, if-true, if-true-on, if-false, if-false-on}
+use Rattle.junior.specs.Term.{Term, done, seq0, seq2, loop1, repeat1, when1, when2, until0, until2, control, local, freezable0, if1, if2, prog}
+use Rattle.junior.specs.Term.{fresh, leave}
+use Rattle.junior.specs.Trace.{Place, first, second, inside, Piece, Act, decided, scope-answered, collect}
+use Rattle.junior.specs.Rules.{Allowed, Result, answers, joined, freezes, Rewrites, r1, r1-on, r2, r3, r4, r4-on, r5, r8, r9, r10, r11, r12}
+use Rattle.junior.specs.Rules.{r13, r4-loop, r5-loop, r14, r15, r4-repeat, r5-repeat, r16, r17, r17-on, r18, r19, r19-on, r20, r21, r22, r23}
+use Rattle.junior.specs.Rules.{r24, r25, r26, r27, r28, r29, r30, r31, r31-on, r32, r33, r34, r35-39, r40, r41, r42, r43, r44, r45, if-true}
+use Rattle.junior.specs.Rules.{if-true-on, if-false, if-false-on}
 use Rattle.junior.specs.Waited.{Wait}
 use Rattle.junior.specs.Order.{decides}
+use Rattle.junior.specs.Parked.{together}
 use Rattle.junior.proofs.Little.{STOP≢SUSP, TERM≢SUSP, TERM≢STOP}
-use Rattle.junior.proofs.Verdicts.{lasts, as-it-is, known-at-end, present, absent}
+use Rattle.junior.proofs.Verdicts.{lasts, as-it-is, known-at-end, known-present, present, absent}
 use Rattle.junior.proofs.Grows.{end-kept, unchanged}
 use Rattle.junior.proofs.End.{Blocked, idles}
 use Rattle.junior.proofs.WayDown.{branch-that-waits, second-waits, waiting-in, or-else-none}
-use Rattle.junior.proofs.Settle.{Out, idle, out, plus, bind, says, tested, reads, own-wait, handled, once-stopped}
+use Rattle.junior.proofs.Settle.{Out, idle, out, plus, bind, says, tested, reads, own-wait, handled, once-stopped, frozen, once-frozen}
 use Rattle.junior.proofs.Settle.{at-last, join, hidden, scoped, starts, settle, steered}
-use Rattle.junior.proofs.Fits.{decides-++, Alike, alike-same, alike-swapped, alike-nil}
+use Rattle.junior.proofs.Fits.{decides-++, weigh, weigh-++, Alike, alike-same, alike-swapped, alike-nil}
 use Rattle.junior.proofs.Meets.{branch-idle}
 use Rattle.junior.proofs.Hidden.{put-none, alike-noted}
 
--- an outcome in which tests are decided and nothing else is done, w being the test that waited for it, if one did
+-- an outcome in which tests are decided, pieces parked and nothing else is done, w being the test that waited for it, if one did
 abbrev pub closing : Option Wait → Flag → Term → List Act → Out
-closing w α t l = out α t no-event (λ a. 0) (λ n b. decides n b l) w
+closing w α t l = out α t no-event (λ a. 0) (λ v. weigh v l) (λ n b. decides n b l) w
 
-same-tests : (α : Flag) (t : Term) (w : Option Wait) {f g : ℕ → Bool → Bool} → ((n : ℕ) (b : Bool) → f n b ≡ g n b)
-    → out α t no-event (λ a. 0) f w ≡ out α t no-event (λ a. 0) g w
-same-tests α t w h = ap (λ f. out α t no-event (λ a. 0) f w) (fun-ext (λ n. fun-ext (h n)))
+same-acts : (α : Flag) (t : Term) (w : Option Wait) {x y : (Piece → ℕ) → ℕ} {f g : ℕ → Bool → Bool}
+    → ((v : Piece → ℕ) → x v ≡ y v)
+    → ((n : ℕ) (b : Bool) → f n b ≡ g n b)
+    → out α t no-event (λ a. 0) x f w ≡ out α t no-event (λ a. 0) y g w
+same-acts α t w k h = ap₂ (λ x f. out α t no-event (λ a. 0) x f w) (fun-ext k) (fun-ext (λ n. fun-ext (h n)))
 
 -- a node f around a part that waits
 end-under : (f : Term → Term) (h : Flag → Term → Out) (r : Result) (v : Option Wait) {o : Out}
@@ -50,7 +54,8 @@ end-under : (f : Term → Term) (h : Flag → Term → Out) (r : Result) (v : Op
     → bind o h ≡ closing v SUSP (leave (r .flag) (f (r .to))) (r .acts)
 unfolding leave bind
 end-under f h r v {o} e s w =
-    let none-more = same-tests SUSP (f (r .to)) v (λ n b. or-false (decides n b (r .acts))) in
+    let no-piece : ((x : Piece → ℕ) → weigh x (r .acts) + 0 ≡ weigh x (r .acts)) = λ x. omega arith in
+    let none-more = same-acts SUSP (f (r .to)) v no-piece (λ n b. or-false (decides n b (r .acts))) in
     rw (s, w) (ap (plus (closing v SUSP (r .to) (r .acts))) e ∙ rw (or-else-none v) none-more)
 
 -- a test that was unknown before the end
@@ -58,7 +63,7 @@ end-read : (P : Place) (c : Config) (E : Env) (b : Bool) (o p : Out) (w : Option
     → reads c (E .now) ≡ Unknown
     → test c E ≡ verdict true b
     → tested P (reads c (E .now)) o p w (eval c (E .now)) t u ≡ closing w SUSP (cond b t u) (decided P c b E ∷ [])
-unfolding says decides
+unfolding says decides collect together
 end-read P c E b o p w t u z v = rw (z, lasts c E (E .now) {b = b} v (as-it-is E))
 
 -- an Until whose body waits: the body stops at the end, and the test is read there
@@ -69,11 +74,33 @@ end-until : (P : Place) (c : Config) (E : Env) (b : Bool) (q : Program) (k : Out
     → o ≡ closing x SUSP t l
     → bind o (once-stopped P c q k (own-wait P c (E .now)) (eval c (E .now)) (reads c (E .now)))
     ≡ closing x SUSP (cond b (until2 c (prog t) (fresh q)) (until0 c t q)) (l ++ (decided P c b F ∷ []))
-unfolding handled bind says decides
+unfolding handled bind says decides collect together
 end-until P c E b q k l x {F} {t} e v w =
     let value = lasts c E (E .now) {b = b} (subst (λ F. test c F ≡ verdict true b) e v) (as-it-is E) in
     let u = cond b (until2 c (prog t) (fresh q)) (until0 c t q) in
-    rw (w, value, or-else-none x) (same-tests SUSP u x (λ n y. sym (decides-++ n y l (decided P c b F ∷ []))))
+    let m : List Act = decided P c b F ∷ [] in
+    rw (w, value, or-else-none x) (same-acts SUSP u x (λ v. omega (arith, weigh-++ v l m)) (λ n y. sym (decides-++ n y l m)))
+
+-- a Freezable whose body waits: the body stops at the end, and is parked there if the event is present
+end-frozen : (P : Place) (s : ℕ) (E : Env) (b : Bool) (l : List Act) (x : Option Wait) {F : Env} {t : Term} {o : Out}
+    → F ≡ E
+    → test (Event s) F ≡ verdict true b
+    → o ≡ closing x SUSP t l
+    → bind o (once-frozen P s (E .now s) (own-wait P (Event s) (E .now)))
+    ≡ closing x SUSP (cond b (done (Freezable s (prog t))) (freezable0 s t)) (l ++ cond b (freezes P s t F) (decided P (Event s) false F ∷ []))
+unfolding frozen bind says decides collect together eval
+end-frozen P s E b l x {F} {t} e v w =
+    let value : E .now s ≡ b = lasts (Event s) E (E .now) {b = b} (subst (λ F. test (Event s) F ≡ verdict true b) e v) (as-it-is E) in
+    rw (w, value) (go b)
+  where
+    go : (b : Bool) → plus (closing x SUSP t l) (frozen P s b none SUSP t)
+        ≡ closing x SUSP (cond b (done (Freezable s (prog t))) (freezable0 s t)) (l ++ cond b (freezes P s t F) (decided P (Event s) false F ∷ []))
+    go true =
+        let m = freezes P s t F in
+        rw (or-else-none x) (same-acts SUSP _ x (λ v. omega (arith, weigh-++ v l m)) (λ n y. sym (decides-++ n y l m)))
+    go false =
+        let m : List Act = decided P (Event s) false F ∷ [] in
+        rw (or-else-none x) (same-acts SUSP _ x (λ v. omega (arith, weigh-++ v l m)) (λ n y. sym (decides-++ n y l m)))
 
 -- the branches of a Par that wait, α or β being SUSP, or have answered
 end-both : (α β : Flag) (r s : Result) (v w : Option Wait) {o p : Out} {m : List Act}
@@ -86,12 +113,16 @@ end-both : (α β : Flag) (r s : Result) (v w : Option Wait) {o p : Out} {m : Li
     → join o p ≡ closing (branch-that-waits α v w) SUSP (joined (r .flag) (s .flag) (r .to) (s .to) (s .env) m .to) m
 unfolding join leave
 end-both α β r s v w {m = m} a b g k e f =
-    rw (a, b, e, f) (go α β g ∙ same-tests SUSP _ _ (λ n x. sym (decides-++ n x (r .acts) (s .acts)) ∙ k .tests-alike n x))
+    rw (a, b, e, f)
+    (go α β g
+    ∙ same-acts SUSP _ _
+    (λ x. sym (weigh-++ x (r .acts) (s .acts)) ∙ k .pieces-alike x)
+    (λ n x. sym (decides-++ n x (r .acts) (s .acts)) ∙ k .tests-alike n x))
   where
     go : (α β : Flag) → γ α β ≡ SUSP
         → join (closing v α (r .to) (r .acts)) (closing w β (s .to) (s .acts))
         ≡ out SUSP (joined (at-last α) (at-last β) (r .to) (s .to) (s .env) m .to) no-event (λ a. 0)
-        (λ n b. decides n b (r .acts) || decides n b (s .acts)) (branch-that-waits α v w)
+        (λ x. weigh x (r .acts) + weigh x (s .acts)) (λ n b. decides n b (r .acts) || decides n b (s .acts)) (branch-that-waits α v w)
     go SUSP SUSP g = refl
     go SUSP STOP g = refl
     go SUSP TERM g = refl
@@ -115,8 +146,8 @@ unfolding settle scoped hidden leave
 end-scoped value P X b s t u w l n α v e =
     ap (λ v. hidden s (settle value (inside s P) t (put s v X))) (kept-out b e)
     ∙ (ap (hidden s) e
-    ∙ (ap (λ g. out SUSP (local false s u) g (λ a. 0) (λ n b. decides n b l) w) (put-none s)
-    ∙ same-tests SUSP (local false s u) w (alike-noted l n α v .tests-alike)))
+    ∙ (ap (λ g. out SUSP (local false s u) g (λ a. 0) (λ x. weigh x l) (λ n b. decides n b l) w) (put-none s)
+    ∙ same-acts SUSP (local false s u) w (alike-noted l n α v .pieces-alike) (alike-noted l n α v .tests-alike)))
   where
     kept-out : (b : Bool) → settle value (inside s P) t (put s b X) ≡ closing w SUSP u l
         → (b || settle value (inside s P) t (put s false X) .gens s) ≡ b
@@ -132,7 +163,7 @@ pub ends-as : {free : Allowed} {P : Place} {t : Term} {E : Env} {r : Result}
     → E .eoi ≡ true
     → Blocked (E .now) t
     → EndsAs (free .value) P t E r
-unfolding Blocked settle starts handled steered says leave decides waiting-in
+unfolding Blocked settle starts handled steered frozen says leave decides collect together waiting-in
 ends-as r1 e b = absurd b
 ends-as r1-on e b = absurd b
 ends-as r2 e b = absurd b
@@ -204,6 +235,17 @@ ends-as (r33 {P = P} {E = E} {c = c} v) e b = end-read P c E false _ _ _ _ _ b v
 ends-as (r34 {E = E} {c = c} v) e b = absurd (known-at-end c E e v)
 ends-as {free} (r35-39 {P = P} {E = E} {b = b′} {s = s} {t = t} {r = r} d) e b =
     rw (idles d e b .stops) (end-scoped (free .value) P (E .now) b′ s t (r .to) _ (r .acts) _ _ _ (ends-as d e b))
+ends-as (r40 d h) e b = absurd (h (idles d e b .stops))
+ends-as (r41 d (r42 v h)) e b = absurd (false≢true (sym h ∙ (end-kept d ∙ e)))
+ends-as (r41 {P = P} {E = E} {s = s} {l = l} d (r43 v h)) e b =
+    end-frozen P s E true l _ (unchanged d (idles d e b .no-event)) v (ends-as d e b)
+ends-as (r41 {P = P} {E = E} {s = s} {l = l} d (r44 v)) e b =
+    end-frozen P s E false l _ (unchanged d (idles d e b .no-event)) v (ends-as d e b)
+ends-as (r41 {E′ = E′} {s = s} d (r45 v)) e b = absurd (known-at-end (Event s) E′ (end-kept d ∙ e) v)
+ends-as (r42 v h) e b = absurd (false≢true (sym h ∙ e))
+ends-as (r43 {E = E} {s = s} v h) e b = absurd (known-present s (handed-in (E .now)) (present s E v) b)
+ends-as (r44 {E = E} {s = s} v) e b = rw (absent s E v)
+ends-as (r45 {E = E} {s = s} v) e b = absurd (known-at-end (Event s) E e v)
 ends-as (if-true h d) e b = absurd b
 ends-as (if-true-on {v = v} {q = q} {r = r} d) e b = end-under (λ x. if1 v x q) _ r _ refl (idles d e b .stops) (ends-as d e b)
 ends-as (if-false h d) e b = absurd b

@@ -10,18 +10,16 @@ use Rattle.junior.specs.declared.Flag.the-variants.{SUSP, STOP, TERM}
 use Rattle.junior.specs.declared.Verdict.{Verdict}
 use Rattle.junior.specs.declared.Verdict.the-variants.{Sat, Unsat, Unknown}
 use Rattle.junior.specs.Configuration.{Config, Event, Env, with-event, eval, test}
-use Rattle.junior.specs.Program.{Program, Nothing, Stop, Atom, Seq, Par, Loop, Repeat, Generate, Await, When}
-use Rattle.junior.specs.Program.{Until, Control, Local, If}
+use Rattle.junior.specs.Program.{Program, Nothing, Stop, Atom, Seq, Par, Loop, Repeat, Generate, Await, When, Until, Control, Local, Freezable}
+use Rattle.junior.specs.Program.{If}
 use Rattle.junior.specs.Values.{Times, nonzero, runs-of}
-use Rattle.junior.specs.Term.{Term, done, nothing, stop, atom, generate, await, seq0, seq2, par, loop0, loop1}
-use Rattle.junior.specs.Term.{repeat0, repeat1, when0, when1, when2, until0, until*, until2, control, local, if0, if1, if2}
-use Rattle.junior.specs.Term.{prog, fresh}
+use Rattle.junior.specs.Term.{Term, done, nothing, stop, atom, generate, await, seq0, seq2, par, loop0, loop1, repeat0, repeat1, when0, when1}
+use Rattle.junior.specs.Term.{when2, until0, until*, until2, control, local, freezable0, freezable*, if0, if1, if2, prog, fresh}
 use Rattle.junior.specs.Trace.{Place, first, second, inside, Act}
-use Rattle.junior.specs.Rules.{Allowed, Result, answers, again, Rewrites, r1, r1-on, r2, r3, r4, r4-on, r5, r8}
-use Rattle.junior.specs.Rules.{r10}
-use Rattle.junior.specs.Rules.{r11, r12, r4-loop, r5-loop, r14, r15, r4-repeat, r5-repeat, r16, r17, r17-on}
-use Rattle.junior.specs.Rules.{r18, r19, r19-on, r20, r21, r22, r23, r24, r25, r26, r27, r28, r29, r30, r31}
-use Rattle.junior.specs.Rules.{r31-on, r32, r33, r34, r35-39, if-true, if-true-on, if-false, if-false-on}
+use Rattle.junior.specs.Rules.{Allowed, Result, answers, again, Rewrites, r1, r1-on, r2, r3, r4, r4-on, r5, r8, r10, r11, r12, r4-loop, r5-loop}
+use Rattle.junior.specs.Rules.{r14, r15, r4-repeat, r5-repeat, r16, r17, r17-on, r18, r19, r19-on, r20, r21, r22, r23, r24, r25, r26, r27, r28}
+use Rattle.junior.specs.Rules.{r29, r30, r31, r31-on, r32, r33, r34, r35-39, r40, r41, r42, r43, r44, r45, if-true, if-true-on, if-false}
+use Rattle.junior.specs.Rules.{if-false-on}
 use Rattle.junior.specs.Figures.{stops, LoopsStop}
 use Rattle.junior.specs.Inside.{Going, Controlled}
 use Rattle.junior.proofs.Little.{STOP≢SUSP, TERM≢SUSP, TERM≢STOP}
@@ -144,6 +142,21 @@ module _ (free : Allowed) where
       go Unsat v = (_, r27 v)
       go Unknown v = (_, r28 v)
 
+  unfoldable pub freezable*-runs : (s : ℕ) (t : Term) (P : Place) (E : Env) → Pass P (freezable* s t) E
+  freezable*-runs s t P E = go (test (Event s) E) refl (E .eoi) refl
+    where
+      go : (v : Verdict) → test (Event s) E ≡ v → (e : Bool) → E .eoi ≡ e → Pass P (freezable* s t) E
+      go Sat v false e = (_, r42 v e)
+      go Sat v true e = (_, r43 v e)
+      go Unsat v x e = (_, r44 v)
+      go Unknown v x e = (_, r45 v)
+
+  unfoldable pub freezable0-runs : (s : ℕ) (t : Term) (P : Place) (E : Env) → Pass (first P) t E → Pass P (freezable0 s t) E
+  freezable0-runs s t P E (r, d) =
+      goes-by (r .flag) STOP (r .to) (r .env) (r .acts) d
+      (λ n. (_, r40 d n))
+      (λ d. let (u, e) = freezable*-runs s (r .to) P (r .env) in (_, r41 d e))
+
   unfoldable pub if0-runs : (v : ℕ) (p q : Program) (P : Place) (E : Env) → Begins p → Begins q → Pass P (if0 v p q) E
   if0-runs v p q P E f g = go (nonzero (free .value v)) refl
     where
@@ -170,6 +183,7 @@ module _ (free : Allowed) where
   begins (Until c p q) o P E = until0-runs c (fresh p) q P E (begins p (o .0) (first P) E) (begins q (o .1))
   begins (Control s p) o P E = control-runs s (fresh p) P E (λ v. begins p o (first P) E)
   begins (Local s p) o P E = let (r, d) = begins p o (inside s P) (with-event s false E) in (_, r35-39 d)
+  begins (Freezable s p) o P E = freezable0-runs s (fresh p) P E (begins p o (first P) E)
   begins (If v p q) o P E = if0-runs v p q P E (begins p (o .0)) (begins q (o .1))
 
   -- a state in the middle of an instant
@@ -210,6 +224,8 @@ module _ (free : Allowed) where
   pass-exists (control s t) o P E g =
       control-runs s t P E (λ h. pass-exists t o (first P) E (subst (λ b. Controlled b (Going (E .now) t) t) h g))
   pass-exists (local b s t) o P E g = let (r, d) = pass-exists t o (inside s P) (with-event s b E) g in (_, r35-39 d)
+  pass-exists (freezable0 s t) o P E g = freezable0-runs s t P E (pass-exists t o (first P) E g)
+  pass-exists (freezable* s t) o P E g = freezable*-runs s t P E
   pass-exists (if0 v p q) o P E g = if0-runs v p q P E (begins p (o .0)) (begins q (o .1))
   pass-exists (if1 v t q) o P E g = let (r, d) = pass-exists t (o .0) (first P) E g in (_, if-true-on d)
   pass-exists (if2 v p t) o P E g = let (r, d) = pass-exists t (o .1) (second P p) E g in (_, if-false-on d)

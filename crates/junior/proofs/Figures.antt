@@ -12,20 +12,17 @@ use Rattle.junior.specs.declared.Flag.{Flag}
 use Rattle.junior.specs.declared.Flag.the-variants.{SUSP, STOP, TERM}
 use Rattle.junior.specs.Flags.{γ, δ₁, δ₂}
 use Rattle.junior.specs.Configuration.{Env}
-use Rattle.junior.specs.Program.{Program, kind, Nothing, Stop, Atom, Seq, Par, Loop, Repeat, Generate, Await}
-use Rattle.junior.specs.Program.{When}
-use Rattle.junior.specs.Program.{Until, Control, Local, If}
+use Rattle.junior.specs.Program.{Program, kind, Nothing, Stop, Atom, Seq, Par, Loop, Repeat, Generate, Await, When, Until, Control, Local}
+use Rattle.junior.specs.Program.{Freezable, If}
 use Rattle.junior.specs.Values.{Times, most}
-use Rattle.junior.specs.Term.{Term, done, nothing, stop, atom, generate, await, seq0, seq2, par, loop0, loop1}
-use Rattle.junior.specs.Term.{repeat0, repeat1, when0, when1, when2, until0, until*, until2, control, local, if0, if1, if2}
-use Rattle.junior.specs.Term.{prog, fresh, leave}
-use Rattle.junior.specs.Trace.{Place, Act, did-atom, did-generate, decided, waits, scope-answered, collect}
-use Rattle.junior.specs.Trace.{atom-of, event-of, atoms, generations}
-use Rattle.junior.specs.Rules.{Allowed, Result, again, Rewrites, r1, r1-on, r2, r3, r4, r4-on, r5, r8, r9, r10}
-use Rattle.junior.specs.Rules.{r11, r12, r13, r4-loop, r5-loop, r14, r15, r4-repeat, r5-repeat, r16, r17}
-use Rattle.junior.specs.Rules.{r17-on}
-use Rattle.junior.specs.Rules.{r18, r19, r19-on, r20, r21, r22, r23, r24, r25, r26, r27, r28, r29, r30, r31}
-use Rattle.junior.specs.Rules.{r31-on, r32, r33, r34, r35-39, if-true, if-true-on, if-false, if-false-on}
+use Rattle.junior.specs.Term.{Term, done, nothing, stop, atom, generate, await, seq0, seq2, par, loop0, loop1, repeat0, repeat1, when0, when1}
+use Rattle.junior.specs.Term.{when2, until0, until*, until2, control, local, freezable0, freezable*, if0, if1, if2, prog, fresh, leave}
+use Rattle.junior.specs.Trace.{Place, Act, did-atom, did-generate, did-park, decided, waits, scope-answered, collect, atom-of, event-of, atoms}
+use Rattle.junior.specs.Trace.{generations}
+use Rattle.junior.specs.Rules.{Allowed, Result, again, Rewrites, r1, r1-on, r2, r3, r4, r4-on, r5, r8, r9, r10, r11, r12, r13, r4-loop, r5-loop}
+use Rattle.junior.specs.Rules.{r14, r15, r4-repeat, r5-repeat, r16, r17, r17-on, r18, r19, r19-on, r20, r21, r22, r23, r24, r25, r26, r27, r28}
+use Rattle.junior.specs.Rules.{r29, r30, r31, r31-on, r32, r33, r34, r35-39, r40, r41, r42, r43, r44, r45, if-true, if-true-on, if-false}
+use Rattle.junior.specs.Rules.{if-false-on}
 use Rattle.junior.specs.Instant.{Instant, r47, r48, r49}
 use Rattle.junior.specs.Figures.{stops, LoopsStop, times, figure, per, G, A}
 use Rattle.junior.specs.AtRest.{AtRest}
@@ -104,6 +101,7 @@ module _ (k : Program → ℕ) where
   abbrev pub weight : Act → ℕ
   weight (did-atom a) = k (Atom a)
   weight (did-generate s) = k (Generate s)
+  weight (did-park x) = k (Freezable (x .event) (prog (x .state)))
   weight (decided P c b E) = 0
   weight (waits P c E) = 0
   weight (scope-answered n α b) = 0
@@ -138,6 +136,7 @@ module _ (k : Program → ℕ) where
   own-least (Until c p q) = omega arith
   own-least (Control s p) = omega arith
   own-least (Local s p) = omega arith
+  own-least (Freezable s p) = omega arith
   own-least (If v p q) = omega arith
 
   pub pot-going : (X : Events) (t : Term) → Going X t → pot k t ≤ figure k (prog t)
@@ -168,6 +167,8 @@ module _ (k : Program → ℕ) where
   pot-going X (until2 c p t) g = omega (arith, pot-going X t g)
   pot-going X (control s t) g = omega (arith, pot-going X t (uncontrolled X (X s) t g))
   pot-going X (local b s t) g = omega (arith, pot-going (put s b X) t g)
+  pot-going X (freezable0 s t) g = omega (arith, pot-going X t g)
+  pot-going X (freezable* s t) g = omega arith
   pot-going X (if0 v p q) g = omega arith
   pot-going X (if1 v t q) g = omega (arith, pot-going X t g)
   pot-going X (if2 v p t) g = omega (arith, pot-going X t g)
@@ -283,6 +284,12 @@ module _ (k : Program → ℕ) where
   spends (r33 s) o = omega arith
   spends (r34 s) o = omega arith
   spends (r35-39 {r = r} d) o = simp (rest-leave, cost-++, kept d) (rest-within (r .flag) _ _ _ _ (omega (arith, spends d o)))
+  spends (r40 {r = r} d n) o = simp (rest-leave, kept d) (rest-within (r .flag) _ _ _ _ (spends d o))
+  spends (r41 d e) o = simp cost-++ (let a = rw (kept d) at (spends e (rw (kept d) o)) in omega (arith, spends d o))
+  spends (r42 s h) o = omega arith
+  spends (r43 s h) o = omega arith
+  spends (r44 s) o = omega arith
+  spends (r45 s) o = omega arith
   spends (if-true {p = p} {r = r} h d) o =
       simp (rest-leave, kept d, prog-fresh)
       (rest-within (r .flag) _ _ _ _ (omega (arith, spends d (loops-fresh p (o .0)), pot-fresh p)))
@@ -322,6 +329,7 @@ count-events : (x : Act) → weight (per 7) x ≡ length (event-of x)
 unfolding kind
 count-events (did-atom a) = refl
 count-events (did-generate s) = refl
+count-events (did-park x) = refl
 count-events (decided P c b E) = refl
 count-events (waits P c E) = refl
 count-events (scope-answered n α b) = refl
@@ -330,6 +338,7 @@ count-atoms : (x : Act) → weight (per 2) x ≡ length (atom-of x)
 unfolding kind
 count-atoms (did-atom a) = refl
 count-atoms (did-generate s) = refl
+count-atoms (did-park x) = refl
 count-atoms (decided P c b E) = refl
 count-atoms (waits P c E) = refl
 count-atoms (scope-answered n α b) = refl

@@ -9,7 +9,7 @@ use lib.Dec.{leb}
 use borrow.Author.Tests.{leb-true, leb-false}
 use Rattle.junior.specs.Configuration.{Config, Env, unknown}
 use Rattle.junior.specs.Term.{Term}
-use Rattle.junior.specs.Trace.{Place, Act, did-atom, did-generate, decided, waits, scope-answered}
+use Rattle.junior.specs.Trace.{Place, Act, did-atom, did-generate, did-park, decided, waits, scope-answered}
 use Rattle.junior.specs.Rules.{Allowed, Result, Rewrites}
 use Rattle.junior.specs.Waited.{Wait, waits-for, first-wait}
 use Rattle.junior.specs.L1.{Named, WaitFrom, FirstSuspended}
@@ -22,6 +22,7 @@ unfoldable Unknown-in : List Act → Type 0
 Unknown-in [] = Unit {0}
 Unknown-in (did-atom a ∷ l) = Unknown-in l
 Unknown-in (did-generate s ∷ l) = Unknown-in l
+Unknown-in (did-park x ∷ l) = Unknown-in l
 Unknown-in (decided P c b E ∷ l) = Unknown-in l
 Unknown-in (waits P c E ∷ l) = unknown c E × Unknown-in l
 Unknown-in (scope-answered n α b ∷ l) = Unknown-in l
@@ -31,6 +32,7 @@ unfolding Unknown-in
 unknown-++ [] k a b = b
 unknown-++ (did-atom n ∷ l) k a b = unknown-++ l k a b
 unknown-++ (did-generate s ∷ l) k a b = unknown-++ l k a b
+unknown-++ (did-park x ∷ l) k a b = unknown-++ l k a b
 unknown-++ (decided P c x E ∷ l) k a b = unknown-++ l k a b
 unknown-++ (waits P c E ∷ l) k a b = (a .0, unknown-++ l k (a .1) b)
 unknown-++ (scope-answered n α x ∷ l) k a b = unknown-++ l k a b
@@ -44,6 +46,7 @@ waits-unknown d =
       none = tt;
       acted = tt;
       raised = tt;
+      parked = tt;
       read = λ v. tt;
       waited = λ v. (v, tt);
       chained = λ {E} {F} {G} {l} {k} a b. unknown-++ l k a b;
@@ -56,6 +59,7 @@ unfolding WaitFrom
 wait-from m n [] h a = tt
 wait-from m n (did-atom x ∷ l) h a = wait-from m n l h a
 wait-from m n (did-generate s ∷ l) h a = wait-from m n l h a
+wait-from m n (did-park x ∷ l) h a = wait-from m n l h a
 wait-from m n (decided P c b E ∷ l) h a = wait-from m n l h a
 wait-from m n (waits P c E ∷ l) h a = (omega arith, wait-from m n l h (a .1))
 wait-from m n (scope-answered x α b ∷ l) h a = wait-from m n l h a
@@ -106,6 +110,7 @@ unfolding Unknown-in first-wait WaitFrom
 first-among [] u = λ n. tt
 first-among (did-atom a ∷ l) u = passed _ l (λ n x. x) (first-wait l) (first-among l u)
 first-among (did-generate s ∷ l) u = passed _ l (λ n x. x) (first-wait l) (first-among l u)
+first-among (did-park y ∷ l) u = passed _ l (λ n x. x) (first-wait l) (first-among l u)
 first-among (decided P c b E ∷ l) u = passed _ l (λ n x. x) (first-wait l) (first-among l u)
 first-among (waits P c E ∷ l) u =
     let (e, n) = one-is-named c E (u .0) in

@@ -11,10 +11,11 @@ use Rattle.junior.specs.declared.Flag.{Flag}
 use Rattle.junior.specs.Term.{Term, leave, local}
 use Rattle.junior.specs.Flags.{γ}
 use Rattle.junior.specs.Configuration.{Config, Env}
-use Rattle.junior.specs.Trace.{Place, Act, did-atom, did-generate, decided, waits, scope-answered, atom-of}
-use Rattle.junior.specs.Trace.{collect, atoms}
+use Rattle.junior.specs.Trace.{Place, Piece, Act, did-atom, did-generate, did-park, decided, waits, scope-answered, atom-of, piece-of, collect}
+use Rattle.junior.specs.Trace.{atoms, parks}
 use Rattle.junior.specs.Course.{_⊆_}
 use Rattle.junior.specs.Order.{often, tells, decides}
+use Rattle.junior.specs.Parked.{together}
 use Rattle.junior.proofs.Little.{collect-++, put-at}
 use Rattle.junior.proofs.WayDown.{branch-that-waits, or-else}
 use Rattle.junior.proofs.Settle.{Out, bind, says, paired, join, hidden}
@@ -31,33 +32,52 @@ often-++ a (n ∷ l) k = omega (arith, often-++ a l k)
 pub times-++ : (a : ℕ) (l k : List Act) → times a (l ++ k) ≡ times a l + times a k
 times-++ a l k = ap (often a) (collect-++ atom-of l k) ∙ often-++ a (atoms l) (atoms k)
 
+-- what the pieces weigh together that acts park
+abbrev pub weigh : (Piece → ℕ) → List Act → ℕ
+weigh v l = together v (parks l)
+
+together-++ : (v : Piece → ℕ) (l k : List Piece) → together v (l ++ k) ≡ together v l + together v k
+unfolding together
+together-++ v [] k = omega arith
+together-++ v (x ∷ l) k = omega (arith, together-++ v l k)
+
+pub weigh-++ : (v : Piece → ℕ) (l k : List Act) → weigh v (l ++ k) ≡ weigh v l + weigh v k
+weigh-++ v l k = ap (together v) (collect-++ piece-of l k) ∙ together-++ v (parks l) (parks k)
+
 pub decides-++ : (n : ℕ) (b : Bool) (l k : List Act) → decides n b (l ++ k) ≡ (decides n b l || decides n b k)
 unfolding decides
 decides-++ n b [] k = refl
 decides-++ n b (did-atom a ∷ l) k = decides-++ n b l k
 decides-++ n b (did-generate s ∷ l) k = decides-++ n b l k
+decides-++ n b (did-park x ∷ l) k = decides-++ n b l k
 decides-++ n b (decided P c v E ∷ l) k =
     ap (λ x. tells P v n b || x) (decides-++ n b l k)
     ∙ sym (or-assoc (tells P v n b) (decides n b l) (decides n b k))
 decides-++ n b (waits P c E ∷ l) k = decides-++ n b l k
 decides-++ n b (scope-answered m α v ∷ l) k = decides-++ n b l k
 
--- acts that do the same atoms, equally often, and decide the same tests
+-- acts that do the same atoms, equally often, park the same pieces and decide the same tests
 pub record Alike (l k : List Act) : Type 0 where
   pub atoms-alike : (a : ℕ) → times a l ≡ times a k
+  pub pieces-alike : (v : Piece → ℕ) → weigh v l ≡ weigh v k
   pub tests-alike : (n : ℕ) (b : Bool) → decides n b l ≡ decides n b k
 
 pub alike-same : {l : List Act} → Alike l l
-alike-same = record { atoms-alike = λ a. refl; tests-alike = λ n b. refl }
+alike-same = record { atoms-alike = λ a. refl; pieces-alike = λ v. refl; tests-alike = λ n b. refl }
 
 pub alike-swapped : (l k : List Act) → Alike (l ++ k) (k ++ l)
 alike-swapped l k = record {
   atoms-alike = λ a. omega (arith, times-++ a l k, times-++ a k l);
+  pieces-alike = λ v. omega (arith, weigh-++ v l k, weigh-++ v k l);
   tests-alike = λ n b. decides-++ n b l k ∙ (or-comm (decides n b l) (decides n b k) ∙ sym (decides-++ n b k l));
 }
 
 pub alike-nil : (l : List Act) → Alike (l ++ []) l
-alike-nil l = record { atoms-alike = λ a. ap (times a) (append-nil l); tests-alike = λ n b. ap (decides n b) (append-nil l) }
+alike-nil l = record {
+  atoms-alike = λ a. ap (times a) (append-nil l);
+  pieces-alike = λ v. ap (weigh v) (append-nil l);
+  tests-alike = λ n b. ap (decides n b) (append-nil l);
+}
 
 -- o is what the acts l and then o′ come to; of events in X nothing is said
 pub record Fits (X : Events) (l : List Act) (o o′ : Out) : Type 0 where
@@ -65,6 +85,7 @@ pub record Fits (X : Events) (l : List Act) (o o′ : Out) : Type 0 where
   pub terms : o .to ≡ o′ .to
   pub events : (n : ℕ) → (X n || o .gens n) ≡ (X n || o′ .gens n)
   pub counts : (a : ℕ) → o .hits a ≡ times a l + o′ .hits a
+  pub pieces : (v : Piece → ℕ) → o .parked v ≡ weigh v l + o′ .parked v
   pub told : (n : ℕ) (b : Bool) → o .tests n b ≡ (decides n b l || o′ .tests n b)
   pub waits : o .wait ≡ o′ .wait
 
@@ -73,12 +94,13 @@ abbrev pub Within : Events → Events → Out → Type 0
 Within Y X o = (n : ℕ) → Y n ≡ true → o .gens n ≡ true → X n ≡ true
 
 pub fits-same : {X : Events} {l : List Act} {o : Out} → Alike [] l → Fits X l o o
-unfolding often collect decides
+unfolding often together collect decides
 fits-same {o = o} h = record {
   flags = refl;
   terms = refl;
   events = λ n. refl;
   counts = λ a. omega (arith, h .atoms-alike a);
+  pieces = λ v. omega (arith, h .pieces-alike v);
   told = λ n b. ap (λ x. x || o .tests n b) (h .tests-alike n b);
   waits = refl;
 }
@@ -89,6 +111,7 @@ fits-as {o′ = o′} h f = record {
   terms = f .terms;
   events = f .events;
   counts = λ a. omega (arith, h .atoms-alike a, f .counts a);
+  pieces = λ v. omega (arith, h .pieces-alike v, f .pieces v);
   told = λ n b. f .told n b ∙ ap (λ x. x || o′ .tests n b) (h .tests-alike n b);
   waits = f .waits;
 }
@@ -99,6 +122,7 @@ fits-then {l = l} {k} {o″ = o″} f g = record {
   terms = f .terms ∙ g .terms;
   events = λ n. f .events n ∙ g .events n;
   counts = λ a. omega (arith, times-++ a l k, f .counts a, g .counts a);
+  pieces = λ v. omega (arith, weigh-++ v l k, f .pieces v, g .pieces v);
   told = λ n b.
       f .told n b
       ∙ (ap (λ x. decides n b l || x) (g .told n b)
@@ -132,6 +156,9 @@ fits-bind {X} {l} {o} {o′} h f = record {
   counts = λ a.
       let e : h (o .flag) (o .to) .hits a ≡ h (o′ .flag) (o′ .to) .hits a = λ i. h (f .flags i) (f .terms i) .hits a in
       omega (arith, f .counts a);
+  pieces = λ v.
+      let e : h (o .flag) (o .to) .parked v ≡ h (o′ .flag) (o′ .to) .parked v = λ i. h (f .flags i) (f .terms i) .parked v in
+      omega (arith, f .pieces v);
   told = λ n b.
       (λ i. f .told n b i || h (f .flags i) (f .terms i) .tests n b)
       ∙ or-assoc (decides n b l) (o′ .tests n b) (h (o′ .flag) (o′ .to) .tests n b);
@@ -145,6 +172,7 @@ fits-join {X} {l} {k} {o} {o′} {p} {p′} f g = record {
   terms = λ i. paired (f .flags i) (g .flags i) (f .terms i) (g .terms i);
   events = λ n. both-more (X n) (o .gens n) (o′ .gens n) (p .gens n) (p′ .gens n) (f .events n) (g .events n);
   counts = λ a. omega (arith, times-++ a l k, f .counts a, g .counts a);
+  pieces = λ v. omega (arith, weigh-++ v l k, f .pieces v, g .pieces v);
   told = λ n b.
       (λ i. f .told n b i || g .told n b i)
       ∙ (or-swap (decides n b l) (o′ .tests n b) (decides n b k) (p′ .tests n b)
@@ -162,6 +190,7 @@ fits-says {l = l} {o′ = o′} {P} {v = v} f = record {
   terms = f .terms;
   events = f .events;
   counts = f .counts;
+  pieces = f .pieces;
   told = λ n b.
       let x = tells P v n b in
       ap (λ y. x || y) (f .told n b) ∙ sym (or-assoc x (decides n b l) (o′ .tests n b));
@@ -177,6 +206,7 @@ fits-says-again {l = l} {o′ = o′} {P} {v = v} f = record {
   terms = f .terms;
   events = f .events;
   counts = f .counts;
+  pieces = f .pieces;
   told = λ n b.
       let x = tells P v n b in
       ap (λ y. x || y) (f .told n b) ∙ or-again x (decides n b l) (o′ .tests n b);
@@ -215,6 +245,7 @@ fits-hidden {X} {l} {o} {o′} s v f = record {
       subst (λ b. (b || o .gens n) ≡ (b || o′ .gens n)) (put-else s n v X e) (f .events n)
       ));
   counts = f .counts;
+  pieces = f .pieces;
   told = f .told;
   waits = f .waits;
 }

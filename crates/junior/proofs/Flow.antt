@@ -7,17 +7,18 @@ use mathlib.Core.List.{List, [], _∷_, _++_}
 use Rattle.junior.specs.declared.Flag.{Flag}
 use Rattle.junior.specs.Configuration.{Env, Config, with-event, generated, verdict, test, unknown}
 use Rattle.junior.specs.Term.{Term}
-use Rattle.junior.specs.Trace.{Place, Act, did-atom, did-generate, decided, waits, scope-answered}
-use Rattle.junior.specs.Rules.{Allowed, Result, Rewrites, r1, r1-on, r2, r3, r4, r4-on, r5, r8, r9, r10, r11, r12}
-use Rattle.junior.specs.Rules.{r13, r4-loop, r5-loop, r14, r15, r4-repeat, r5-repeat, r16, r17, r17-on, r18}
-use Rattle.junior.specs.Rules.{r19, r19-on, r20, r21, r22, r23, r24, r25, r26, r27, r28, r29, r30, r31, r31-on}
-use Rattle.junior.specs.Rules.{r32, r33, r34, r35-39, if-true, if-true-on, if-false, if-false-on}
+use Rattle.junior.specs.Trace.{Place, Act, Piece, did-atom, did-generate, did-park, decided, waits, scope-answered}
+use Rattle.junior.specs.Rules.{Allowed, Result, Rewrites, r1, r1-on, r2, r3, r4, r4-on, r5, r8, r9, r10, r11, r12, r13, r4-loop, r5-loop, r14}
+use Rattle.junior.specs.Rules.{r15, r4-repeat, r5-repeat, r16, r17, r17-on, r18, r19, r19-on, r20, r21, r22, r23, r24, r25, r26, r27, r28, r29}
+use Rattle.junior.specs.Rules.{r30, r31, r31-on, r32, r33, r34, r35-39, r40, r41, r42, r43, r44, r45, if-true, if-true-on, if-false}
+use Rattle.junior.specs.Rules.{if-false-on}
 
 -- what makes R a law of every pass, R E F l being said of acts l that lead from E to F
 pub record Flows (R : Env → Env → List Act → Type 0) : Type 0 where
   pub none : {E : Env} → R E E []
   pub acted : {E : Env} {a : ℕ} → R E E (did-atom a ∷ [])
   pub raised : {E : Env} {s : ℕ} → R E (generated s E) (did-generate s ∷ [])
+  pub parked : {E : Env} {x : Piece} → R E E (did-park x ∷ [])
   pub read : {E : Env} {P : Place} {c : Config} {b : Bool} → test c E ≡ verdict true b → R E E (decided P c b E ∷ [])
   pub waited : {E : Env} {P : Place} {c : Config} → unknown c E → R E E (waits P c E ∷ [])
   pub chained : {E F G : Env} {l k : List Act} → R E F l → R F G k → R E G (l ++ k)
@@ -71,6 +72,12 @@ module _ (R : Env → Env → List Act → Type 0) (law : Flows R) where
   flow (r33 v) = law .read v
   flow (r34 v) = law .waited v
   flow (r35-39 {P = P} {b = b} {s = s} {r = r} d) = law .scoped b s (P .node) (r .flag) (flow d)
+  flow (r40 d h) = flow d
+  flow (r41 d e) = law .chained (flow d) (flow e)
+  flow (r42 v h) = law .chained (law .read v) (law .parked)
+  flow (r43 v h) = law .chained (law .read v) (law .parked)
+  flow (r44 v) = law .read v
+  flow (r45 v) = law .waited v
   flow (if-true h d) = flow d
   flow (if-true-on d) = flow d
   flow (if-false h d) = flow d

@@ -6,10 +6,10 @@ use Rattle.junior.specs.Configuration.{Env}
 use Rattle.junior.specs.Values.{nonzero, runs-of}
 use Rattle.junior.specs.Term.{Term, prog}
 use Rattle.junior.specs.Trace.{Place}
-use Rattle.junior.specs.Rules.{Allowed, Result, Rewrites, r1, r1-on, r2, r3, r4, r4-on, r5, r8, r9, r10, r11, r12}
-use Rattle.junior.specs.Rules.{r13, r4-loop, r5-loop, r14, r15, r4-repeat, r5-repeat, r16, r17, r17-on, r18}
-use Rattle.junior.specs.Rules.{r19, r19-on, r20, r21, r22, r23, r24, r25, r26, r27, r28, r29, r30, r31, r31-on}
-use Rattle.junior.specs.Rules.{r32, r33, r34, r35-39, if-true, if-true-on, if-false, if-false-on}
+use Rattle.junior.specs.Rules.{Allowed, Result, Rewrites, r1, r1-on, r2, r3, r4, r4-on, r5, r8, r9, r10, r11, r12, r13, r4-loop, r5-loop, r14}
+use Rattle.junior.specs.Rules.{r15, r4-repeat, r5-repeat, r16, r17, r17-on, r18, r19, r19-on, r20, r21, r22, r23, r24, r25, r26, r27, r28, r29}
+use Rattle.junior.specs.Rules.{r30, r31, r31-on, r32, r33, r34, r35-39, r40, r41, r42, r43, r44, r45, if-true, if-true-on, if-false}
+use Rattle.junior.specs.Rules.{if-false-on}
 use Rattle.junior.specs.Instant.{Instant, r47, r48, r49}
 use Rattle.junior.specs.Figures.{LoopsStop}
 use Rattle.junior.proofs.Kept.{prog-again, kept}
@@ -65,6 +65,12 @@ module _ {free more : Allowed} (nine : free .rule-9 → more .rule-9) (same : fr
   freer (r33 s) o = r33 s
   freer (r34 s) o = r34 s
   freer (r35-39 d) o = r35-39 (freer d o)
+  freer (r40 d h) o = r40 (freer d o) h
+  freer (r41 d e) o = r41 (freer d o) (freer e (rw (kept d) o))
+  freer (r42 s h) o = r42 s h
+  freer (r43 s h) o = r43 s h
+  freer (r44 s) o = r44 s
+  freer (r45 s) o = r45 s
   freer (if-true {v = v} {p = p} h d) o = if-true (ap (λ w. nonzero (w v)) (sym same) ∙ h) (freer d (loops-fresh p (o .0)))
   freer (if-true-on d) o = if-true-on (freer d (o .0))
   freer (if-false {v = v} {q = q} h d) o = if-false (ap (λ w. nonzero (w v)) (sym same) ∙ h) (freer d (loops-fresh q (o .1)))

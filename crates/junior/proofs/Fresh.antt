@@ -4,7 +4,7 @@ use mathlib.Core.Path.{_≡_, refl, ap, ap₂}
 use Rattle.junior.specs.declared.Flag.the-variants.{SUSP}
 use Rattle.junior.specs.Configuration.{early-true}
 use Rattle.junior.specs.Program.{Program, Nothing, Stop, Atom, Seq, Par, Loop, Repeat, Generate, Await, When}
-use Rattle.junior.specs.Program.{Until, Control, Local, If}
+use Rattle.junior.specs.Program.{Until, Control, Local, Freezable, If}
 use Rattle.junior.specs.Term.{prog, fresh}
 use Rattle.junior.specs.Figures.{only-if, stops}
 use Rattle.junior.specs.AtRest.{AtRest}
@@ -63,6 +63,9 @@ by-form (Local s p) =
       rests = (refl, f .rests);
       reads-so = ap (Abstract.Local- s) (f .reads-so);
     }
+by-form (Freezable s p) =
+    let f = by-form p in
+    record { program-is = ap (Freezable s) (f .program-is); held-so = refl; rests = f .rests; reads-so = ap (Abstract.Freezable s) (f .reads-so) }
 by-form (If v p q) = record { program-is = refl; held-so = refl; rests = tt; reads-so = refl }
 
 pub prog-fresh : (p : Program) → prog (fresh p) ≡ p

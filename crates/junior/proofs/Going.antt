@@ -11,16 +11,15 @@ use Rattle.junior.specs.declared.Flag.{Flag}
 use Rattle.junior.specs.declared.Flag.the-variants.{SUSP, STOP, TERM}
 use Rattle.junior.specs.Flags.{γ, δ₁, δ₂}
 use Rattle.junior.specs.Configuration.{Env}
-use Rattle.junior.specs.Program.{Program, Nothing, Atom, Repeat, Generate, Await}
+use Rattle.junior.specs.Program.{Program, Nothing, Atom, Repeat, Generate, Await, Freezable}
 use Rattle.junior.specs.Values.{Times, most}
-use Rattle.junior.specs.Term.{Term, done, nothing, stop, atom, generate, await, seq0, seq2, par, loop0, loop1}
-use Rattle.junior.specs.Term.{repeat0, repeat1, when0, when1, when2, until0, until*, until2, control, local, if0, if1, if2}
-use Rattle.junior.specs.Term.{prog, fresh, leave}
+use Rattle.junior.specs.Term.{Term, done, nothing, stop, atom, generate, await, seq0, seq2, par, loop0, loop1, repeat0, repeat1, when0, when1}
+use Rattle.junior.specs.Term.{when2, until0, until*, until2, control, local, freezable0, freezable*, if0, if1, if2, prog, fresh, leave}
 use Rattle.junior.specs.Trace.{Place}
-use Rattle.junior.specs.Rules.{Allowed, Result, again, sign, Rewrites, r1, r1-on, r2, r3, r4, r4-on, r5, r8, r9, r10}
-use Rattle.junior.specs.Rules.{r11, r12, r13, r4-loop, r5-loop, r14, r15, r4-repeat, r5-repeat, r16, r17}
-use Rattle.junior.specs.Rules.{r17-on, r18, r19, r19-on, r20, r21, r22, r23, r24, r25, r26, r27, r28, r29, r30}
-use Rattle.junior.specs.Rules.{r31, r31-on, r32, r33, r34, r35-39, if-true, if-true-on, if-false, if-false-on}
+use Rattle.junior.specs.Rules.{Allowed, Result, again, sign, Rewrites, r1, r1-on, r2, r3, r4, r4-on, r5, r8, r9, r10, r11, r12, r13, r4-loop}
+use Rattle.junior.specs.Rules.{r5-loop, r14, r15, r4-repeat, r5-repeat, r16, r17, r17-on, r18, r19, r19-on, r20, r21, r22, r23, r24, r25, r26}
+use Rattle.junior.specs.Rules.{r27, r28, r29, r30, r31, r31-on, r32, r33, r34, r35-39, r40, r41, r42, r43, r44, r45, if-true, if-true-on}
+use Rattle.junior.specs.Rules.{if-false, if-false-on}
 use Rattle.junior.specs.Instant.{Instant, r47, r48, r49}
 use Rattle.junior.specs.Course.{_⊆_}
 use Rattle.junior.specs.AtRest.{AtRest, Waiting, Over}
@@ -69,6 +68,8 @@ rest-going X (until* c t q) a = absurd a
 rest-going X (until2 c p t) a = rest-going X t a
 rest-going X (control s t) a = control-going (X s) t (rest-going X t a) a
 rest-going X (local b s t) a = rest-going (put s b X) t (a .1)
+rest-going X (freezable0 s t) a = rest-going X t a
+rest-going X (freezable* s t) a = absurd a
 rest-going X (if0 v p q) a = tt
 rest-going X (if1 v t q) a = rest-going X t a
 rest-going X (if2 v p t) a = rest-going X t a
@@ -123,6 +124,8 @@ going-more (until* c t q) h g = g
 going-more (until2 c p t) h g = going-more t h g
 going-more (control s t) h g = controlled-more s t h (going-more t h) g
 going-more (local b s t) h g = going-more t (put-grows s b h) g
+going-more (freezable0 s t) h g = going-more t h g
+going-more (freezable* s t) h g = g
 going-more (if0 v p q) h g = tt
 going-more (if1 v t q) h g = going-more t h g
 going-more (if2 v p t) h g = going-more t h g
@@ -241,6 +244,12 @@ stands (r33 s) g = g
 stands (r34 s) g = g
 stands (r35-39 {E = E} {b = b} {s = s} {r = r} d) g =
     scope-stands (r .flag) (r .env .now) s b (E .now s) (r .to) (stands d g)
+stands (r40 {r = r} d h) g = under-stands r _ (λ x. x) (λ x. x) (stands d g)
+stands (r41 d e) g = stands e (stands d g)
+stands (r42 {s = s} {t = t} v h) g = (Freezable s (prog t), refl)
+stands (r43 v h) g = tt
+stands (r44 v) g = g
+stands (r45 v) g = g
 stands (if-true {p = p} {r = r} h d) g = under-stands r _ (λ x. x) (λ x. x) (stands d (fresh-going _ p))
 stands (if-true-on {r = r} d) g = under-stands r _ (λ x. x) (λ x. x) (stands d g)
 stands (if-false {q = q} {r = r} h d) g = under-stands r _ (λ x. x) (λ x. x) (stands d (fresh-going _ q))

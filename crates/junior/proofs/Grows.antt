@@ -56,6 +56,7 @@ module _ {free : Allowed} {P : Place} {t : Term} {E : Env} {r : Result} where
         none = λ s h. h;
         acted = λ s h. h;
         raised = λ {E} {s}. put-true s (E .now);
+        parked = λ s h. h;
         read = λ v s h. h;
         waited = λ v s h. h;
         chained = λ f g s h. g s (f s h);
@@ -71,6 +72,7 @@ module _ {free : Allowed} {P : Place} {t : Term} {E : Env} {r : Result} where
         none = refl;
         acted = refl;
         raised = refl;
+        parked = refl;
         read = λ v. refl;
         waited = λ v. refl;
         chained = λ f g. g ∙ f;
@@ -87,6 +89,7 @@ module _ {free : Allowed} {P : Place} {t : Term} {E : Env} {r : Result} where
         none = λ {E}. sym (or-false (E .move));
         acted = λ {E}. sym (or-false (E .move));
         raised = λ {E}. sym (or-true (E .move));
+        parked = λ {E}. sym (or-false (E .move));
         read = λ {E} v. sym (or-false (E .move));
         waited = λ {E} v. sym (or-false (E .move));
         chained = λ {E} {F} {G} {l} {k} f g.
@@ -104,6 +107,7 @@ module _ {free : Allowed} {P : Place} {t : Term} {E : Env} {r : Result} where
         none = λ q. refl;
         acted = λ q. refl;
         raised = λ q. cc;
+        parked = λ q. refl;
         read = λ v q. refl;
         waited = λ v q. refl;
         chained = λ {E} {F} {G} {l} {k} f g q.
@@ -176,6 +180,7 @@ only-generated d s =
       none = λ q h. h;
       acted = λ q h. h;
       raised = λ {E} {s = e} q h. rw (neither (eqb s e) false q .0) h;
+      parked = λ q h. h;
       read = λ v q h. h;
       waited = λ v q h. h;
       chained = λ {E} {F} {G} {l} {k} f g q h.

@@ -13,11 +13,10 @@ use Rattle.junior.specs.Program.{Program}
 use Rattle.junior.specs.Values.{Times, surely}
 use Rattle.junior.specs.Term.{Term, repeat1, prog, fresh, leave}
 use Rattle.junior.specs.Trace.{Place, Act}
-use Rattle.junior.specs.Rules.{Allowed, Result, answers, again, Rewrites, r1, r1-on, r2, r3, r4, r4-on, r5, r8, r9, r10}
-use Rattle.junior.specs.Rules.{r11, r12}
-use Rattle.junior.specs.Rules.{r13, r4-loop, r5-loop, r14, r15, r4-repeat, r5-repeat, r16, r17, r17-on, r18}
-use Rattle.junior.specs.Rules.{r19, r19-on, r20, r21, r22, r23, r24, r25, r26, r27, r28, r29, r30, r31, r31-on}
-use Rattle.junior.specs.Rules.{r32, r33, r34, r35-39, if-true, if-true-on, if-false, if-false-on}
+use Rattle.junior.specs.Rules.{Allowed, Result, answers, again, Rewrites, r1, r1-on, r2, r3, r4, r4-on, r5, r8, r9, r10, r11, r12, r13, r4-loop}
+use Rattle.junior.specs.Rules.{r5-loop, r14, r15, r4-repeat, r5-repeat, r16, r17, r17-on, r18, r19, r19-on, r20, r21, r22, r23, r24, r25, r26}
+use Rattle.junior.specs.Rules.{r27, r28, r29, r30, r31, r31-on, r32, r33, r34, r35-39, r40, r41, r42, r43, r44, r45, if-true, if-true-on}
+use Rattle.junior.specs.Rules.{if-false, if-false-on}
 use Rattle.junior.specs.Instant.{Instant, r47, r48, r49}
 use Rattle.junior.specs.Figures.{only-if, stops}
 use Rattle.junior.specs.Inside.{live, held}
@@ -148,6 +147,12 @@ stays-held (r32 s o) h = refl
 stays-held (r33 s) h = refl
 stays-held (r34 s) h = h
 stays-held (r35-39 d) h = simp live-leave (stays-held d h)
+stays-held (r40 d n) h = absurd (false≢true h)
+stays-held (r41 d e) h = absurd (false≢true h)
+stays-held (r42 s o) h = h
+stays-held (r43 s o) h = refl
+stays-held (r44 s) h = refl
+stays-held (r45 s) h = h
 stays-held (if-true {p = p} {q = q} e d) h = simp live-leave (stays-held d (held-fresh p ∙ and-eq-true-iff (stops p) (stops q) .0 h .0))
 stays-held (if-true-on d) h = simp live-leave (stays-held d h)
 stays-held (if-false {p = p} {q = q} e d) h = simp live-leave (stays-held d (held-fresh q ∙ and-eq-true-iff (stops p) (stops q) .0 h .1))

@@ -11,10 +11,11 @@ use Rattle.junior.specs.declared.Flag.the-variants.{SUSP, STOP, TERM}
 use Rattle.junior.specs.Configuration.{Env, with-event}
 use Rattle.junior.specs.Values.{Values}
 use Rattle.junior.specs.Term.{Term, done, local, prog, leave}
-use Rattle.junior.specs.Trace.{Place, inside, Act, scope-answered, atom-of, collect}
+use Rattle.junior.specs.Trace.{Place, inside, Act, scope-answered, atom-of, piece-of, collect}
 use Rattle.junior.specs.Rules.{Result, sign, left-scope}
 use Rattle.junior.specs.Course.{_⊆_}
 use Rattle.junior.specs.Order.{often, decides}
+use Rattle.junior.specs.Parked.{together}
 use Rattle.junior.proofs.Little.{neither, collect-last, put-at}
 use Rattle.junior.proofs.Settle.{Out, out, branch, hidden, scoped, settle}
 use Rattle.junior.proofs.Fits.{decides-++, Alike, Fits, Within, fits-as, at-or-else, put-else, put-within}
@@ -47,11 +48,12 @@ put-none s = fun-ext (λ n. go (eqb n s))
     go true = refl
     go false = refl
 
--- the trace's note of a Local's answer is no atom and no test
+-- the trace's note of a Local's answer is no atom, no piece and no test
 pub alike-noted : (l : List Act) (n : ℕ) (α : Flag) (b : Bool) → Alike l (l ++ (scope-answered n α b ∷ []))
 unfolding collect decides
 alike-noted l n α b = record {
   atoms-alike = λ a. ap (often a) (sym (collect-last atom-of l (scope-answered n α b) refl));
+  pieces-alike = λ v. ap (together v) (sym (collect-last piece-of l (scope-answered n α b) refl));
   tests-alike = λ m v. sym (decides-++ m v l (scope-answered n α b ∷ []) ∙ or-false (decides m v l));
 }
 
@@ -61,8 +63,8 @@ left-scoped : (value : Values) (P : Place) (X : Events) (s : ℕ) (v b now : Boo
     ≡ branch α (leave α (local (sign b α now) s t)) (settle value P (leave α (local (sign b α now) s t)) X)
 unfolding hidden settle scoped leave
 left-scoped value P X s v b now SUSP t h = ap (λ x. hidden s (settle value (inside s P) t (put s x X))) (sym (h refl))
-left-scoped value P X s v b now STOP t h = λ i. out STOP (local false s t) (put-none s i) (λ a. 0) (λ n b. false) none
-left-scoped value P X s v b now TERM t h = λ i. out TERM (done (prog (local false s t))) (put-none s i) (λ a. 0) (λ n b. false) none
+left-scoped value P X s v b now STOP t h = λ i. out STOP (local false s t) (put-none s i) (λ a. 0) (λ v. 0) (λ n b. false) none
+left-scoped value P X s v b now TERM t h = λ i. out TERM (done (prog (local false s t))) (put-none s i) (λ a. 0) (λ v. 0) (λ n b. false) none
 
 -- a Local of s at P with sign b, F being what comes of its body, which the body's pass, with answer r, agrees with
 module _ (value : Values) (X : Events) (P : Place) (E : Env) (b : Bool) (s : ℕ) (F : Events → Out) (r : Result)

@@ -4,15 +4,14 @@ use Rattle.junior.specs.declared.Flag.{Flag}
 use Rattle.junior.specs.declared.Flag.the-variants.{SUSP, STOP, TERM}
 use Prim.Native.Nat.{ℕ, zero, suc}
 use Rattle.junior.specs.Configuration.{Env}
-use Rattle.junior.specs.Program.{Program, Seq, Par, Loop, Repeat, When}
-use Rattle.junior.specs.Program.{Until, Control, Local, If}
+use Rattle.junior.specs.Program.{Program, Seq, Par, Loop, Repeat, When, Until, Control, Local, Freezable, If}
 use Rattle.junior.specs.Values.{Times}
 use Rattle.junior.specs.Term.{Term, prog, leave}
 use Rattle.junior.specs.Trace.{Place}
-use Rattle.junior.specs.Rules.{Allowed, Result, again, Rewrites, r1, r1-on, r2, r3, r4, r4-on, r5, r8, r9, r10, r11, r12}
-use Rattle.junior.specs.Rules.{r13, r4-loop, r5-loop, r14, r15, r4-repeat, r5-repeat, r16, r17, r17-on, r18}
-use Rattle.junior.specs.Rules.{r19, r19-on, r20, r21, r22, r23, r24, r25, r26, r27, r28, r29, r30, r31, r31-on}
-use Rattle.junior.specs.Rules.{r32, r33, r34, r35-39, if-true, if-true-on, if-false, if-false-on}
+use Rattle.junior.specs.Rules.{Allowed, Result, again, Rewrites, r1, r1-on, r2, r3, r4, r4-on, r5, r8, r9, r10, r11, r12, r13, r4-loop, r5-loop}
+use Rattle.junior.specs.Rules.{r14, r15, r4-repeat, r5-repeat, r16, r17, r17-on, r18, r19, r19-on, r20, r21, r22, r23, r24, r25, r26, r27, r28}
+use Rattle.junior.specs.Rules.{r29, r30, r31, r31-on, r32, r33, r34, r35-39, r40, r41, r42, r43, r44, r45, if-true, if-true-on, if-false}
+use Rattle.junior.specs.Rules.{if-false-on}
 use Rattle.junior.proofs.Fresh.{prog-fresh}
 
 pub prog-leave : (α : Flag) (t : Term) → prog (leave α t) ≡ prog t
@@ -70,6 +69,12 @@ kept (r32 {c = c} {t = t} {q = q} s h) = ap (Until c (prog t)) (prog-fresh q)
 kept (r33 s) = refl
 kept (r34 s) = refl
 kept (r35-39 {s = s} d) = simp prog-leave (ap (Local s) (kept d))
+kept (r40 {s = s} d h) = simp prog-leave (ap (Freezable s) (kept d))
+kept (r41 {s = s} d e) = kept e ∙ ap (Freezable s) (kept d)
+kept (r42 s h) = refl
+kept (r43 s h) = refl
+kept (r44 s) = refl
+kept (r45 s) = refl
 kept (if-true {v = v} {p = p} {q = q} h d) = simp prog-leave (ap (λ x. If v x q) (kept d ∙ prog-fresh p))
 kept (if-true-on {v = v} {q = q} d) = simp prog-leave (ap (λ x. If v x q) (kept d))
 kept (if-false {v = v} {p = p} {q = q} h d) = simp prog-leave (ap (If v p) (kept d ∙ prog-fresh q))

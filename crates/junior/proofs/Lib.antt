@@ -18,6 +18,7 @@ pub mod Held
 pub mod Figures
 pub mod Exists
 pub mod Instants
+pub mod Parks
 pub mod Freer
 pub mod Visits
 pub mod Lower

@@ -20,6 +20,9 @@ TERM≢SUSP e = let z : _≡_ {A = ℕ} 0 1 = cc in omega arith
 pub TERM≢STOP : TERM ≢ STOP
 TERM≢STOP e = let z : _≡_ {A = ℕ} 0 1 = cc in omega arith
 
+pub SUSP≢STOP : SUSP ≢ STOP
+SUSP≢STOP e = STOP≢SUSP (sym e)
+
 pub SUSP≢TERM : SUSP ≢ TERM
 SUSP≢TERM e = TERM≢SUSP (sym e)
 
@@ -30,22 +33,22 @@ pub neither : (a b : Bool) → (a || b) ≡ false → (a ≡ false) × (b ≡ fa
 neither true b h = absurd (false≢true (sym h))
 neither false b h = (refl, h)
 
-pub collect-++ : (f : Act → List ℕ) (l k : List Act) → collect f (l ++ k) ≡ collect f l ++ collect f k
+pub collect-++ : {A : Type 0} (f : Act → List A) (l k : List Act) → collect f (l ++ k) ≡ collect f l ++ collect f k
 unfolding collect
 collect-++ f [] k = refl
 collect-++ f (x ∷ l) k = ap (λ m. f x ++ m) (collect-++ f l k) ∙ sym (append-assoc (f x) (collect f l) (collect f k))
 
-pub collect-last : (f : Act → List ℕ) (l : List Act) (x : Act) → f x ≡ [] → collect f (l ++ (x ∷ [])) ≡ collect f l
+pub collect-last : {A : Type 0} (f : Act → List A) (l : List Act) (x : Act) → f x ≡ [] → collect f (l ++ (x ∷ [])) ≡ collect f l
 unfolding collect
 collect-last f [] x h = rw h
 collect-last f (y ∷ l) x h = ap (λ m. f y ++ m) (collect-last f l x h)
 
-both-empty : (l k : List ℕ) → l ++ k ≡ [] → (l ≡ []) × (k ≡ [])
+both-empty : {A : Type 0} (l k : List A) → l ++ k ≡ [] → (l ≡ []) × (k ≡ [])
 both-empty [] k h = (refl, h)
 both-empty (x ∷ l) k h = (cc, cc)
 
 -- where two lists of acts together have none, each has none
-pub collect-none : (f : Act → List ℕ) (l k : List Act) → collect f (l ++ k) ≡ [] → (collect f l ≡ []) × (collect f k ≡ [])
+pub collect-none : {A : Type 0} (f : Act → List A) (l k : List Act) → collect f (l ++ k) ≡ [] → (collect f l ≡ []) × (collect f k ≡ [])
 collect-none f l k h = both-empty (collect f l) (collect f k) (sym (collect-++ f l k) ∙ h)
 
 pub put-at : (s : ℕ) (b : Bool) (X : Events) → put s b X s ≡ b

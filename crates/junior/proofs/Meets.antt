@@ -1,6 +1,6 @@
 -- When a pass agrees with an outcome: the outcome is what the pass did, and then what the term that it leaves comes to. How agreement goes from
 -- the parts of a node to the node, one law for each shape of rule; the two orders of a Par's branches have the same outcome, `join`.
-use Prim.Native.Nat.{ℕ, _+_}
+use Prim.Native.Nat.{ℕ}
 use mathlib.Core.Bool.{Bool, true, false, cond, _||_, or-true}
 use mathlib.Core.Path.{_≡_, refl, ap, sym, _∙_, subst}
 use mathlib.Core.Logic.{_≢_}
@@ -57,7 +57,7 @@ told a = record { run = λ b w. let m = a .run b w in record { below = m .below;
 -- a pass in which nothing is done
 pub only-waits : {P : Place} {c : Config} {E : Env} → Alike [] (waits P c E ∷ [])
 unfolding collect decides
-only-waits = record { atoms-alike = λ a. refl; tests-alike = λ n b. refl }
+only-waits = record { atoms-alike = λ a. refl; pieces-alike = λ v. refl; tests-alike = λ n b. refl }
 
 pub stays : {value : Values} {P : Place} {X : Events} {E : Env} (α : Flag) (t : Term) {l : List Act}
     → Alike [] l

@@ -10,16 +10,17 @@ use Rattle.events.specs.Events.{Events, put}
 use Rattle.junior.specs.declared.Flag.{Flag}
 use Rattle.junior.specs.declared.Flag.the-variants.{SUSP, STOP}
 use Rattle.junior.specs.Configuration.{Env, test, fixed, eval}
+use Rattle.junior.specs.Program.{size}
 use Rattle.junior.specs.Values.{Values}
 use Rattle.junior.specs.Term.{Term, prog, fresh, leave}
 use Rattle.junior.specs.Trace.{Place, Act, root, collect}
-use Rattle.junior.specs.Rules.{Allowed, either-first, Result, Rewrites, r3, r4, r5, r8, r9, r10, r16, r22, r25}
+use Rattle.junior.specs.Rules.{Allowed, either-first, Result, Rewrites, r2, r3, r4, r5, r8, r9, r10, r16, r22, r25, r41, r42}
 use Rattle.junior.specs.Instant.{Instant, r47, r48, r49}
 use Rattle.junior.specs.Course.{_⊆_}
 use Rattle.junior.specs.Figures.{LoopsStop, per}
 use Rattle.junior.specs.AtRest.{AtRest}
 use Rattle.junior.specs.Waited.{Wait, first-wait, before-the-end, waited}
-use Rattle.junior.specs.Order.{decides, SoFar, begun, quiet, moved, often, SameOutcome, OrderFree, PassesDiffer}
+use Rattle.junior.specs.Order.{decides, SoFar, begun, quiet, moved, often, SameOutcome, OrderFree, PassesDiffer, PiecesDiffer}
 use Rattle.junior.proofs.Little.{STOP≢SUSP, TERM≢SUSP, SUSP≢TERM}
 use Rattle.junior.proofs.Kept.{kept}
 use Rattle.junior.proofs.Grows.{grows, end-kept, unchanged, reported}
@@ -37,7 +38,7 @@ use Rattle.junior.proofs.Meets.{left, branch-idle}
 use Rattle.junior.proofs.Agree.{agree}
 use Rattle.junior.proofs.Ending.{closing, EndsAs, ends-as, at-last-same}
 
--- the pass after the end from a state that waits: it changes no event, does no atom, and decides and leaves what the state settles to
+-- the pass after the end from a state that waits: it changes no event, does no atom, and decides, parks and leaves what the state settles to
 pub record Closes (value : Values) (t : Term) (E : Env) (r : Result) : Type 0 where
   pub same-events : r .env .now ≡ E .now
   pub stopped : r .flag ≡ STOP
@@ -70,6 +71,7 @@ fits-closing w α t l h = record {
   terms = refl;
   events = λ n. refl;
   counts = λ a. omega (arith, h a);
+  pieces = λ v. omega arith;
   told = λ n b. sym (or-false (decides n b l));
   waits = refl;
 }
@@ -167,6 +169,7 @@ same-outcome {value} {t} {r} {s} c d e =
       answer = c .answered ∙ (ap at-last flags ∙ sym (d .answered));
       end-state = sym (c .comes-to .terms) ∙ (ap (λ x. x .to) o ∙ d .comes-to .terms);
       equally-often = λ a. omega (arith, c .comes-to .counts a, d .comes-to .counts a, ap (λ x. x .hits a) o);
+      same-pieces = λ v. omega (arith, c .comes-to .pieces v, d .comes-to .pieces v, ap (λ x. x .parked v) o);
       decided-alike = λ n b.
           sym (or-false (decides n b (r .acts)))
           ∙ (sym (c .comes-to .told n b)
@@ -248,4 +251,11 @@ unfolding fresh prog leave put test fixed eval collect
 passes-differ = record {
   left = (_, r49 (r8 (r5 (r25 refl) SUSP≢TERM) r16) refl refl (r47 (r10 TERM≢SUSP (r4 (r22 refl refl) r3)) TERM≢SUSP), refl);
   right = (_, r47 (r9 tt r16 (r4 (r22 refl refl) r3)) TERM≢SUSP, refl);
+}
+
+pub pieces-differ : PiecesDiffer
+unfolding fresh prog size leave put test fixed eval collect
+pieces-differ = record {
+  left = (_, r47 (r8 (r41 r2 (r42 refl refl)) (r41 r2 (r42 refl refl))) TERM≢SUSP, refl);
+  right = (_, r47 (r9 tt (r41 r2 (r42 refl refl)) (r41 r2 (r42 refl refl))) TERM≢SUSP, refl);
 }

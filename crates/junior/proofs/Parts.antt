@@ -2,9 +2,8 @@
 use Prim.Native.Nat.{_≤_}
 use mathlib.Core.Path.{_≡_, refl, ap, ap₂, _∙_}
 use native.Mathlib.Omega.{arith}
-use Rattle.junior.specs.Program.{Program, Leaf, nothing, stop, atom, generate, await, One, loop, repeat, control}
-use Rattle.junior.specs.Program.{local, Two, seq, par, when, until, if, Parts, no-part, one-part, two-parts, parts}
-use Rattle.junior.specs.Program.{sizeOf, size}
+use Rattle.junior.specs.Program.{Program, Leaf, nothing, stop, atom, generate, await, One, loop, repeat, control, local, freezable, Two, seq}
+use Rattle.junior.specs.Program.{par, when, until, if, Parts, no-part, one-part, two-parts, parts, sizeOf, size}
 
 pub parts-none : {p : Program} (f : Leaf p) → parts p ≡ no-part f
 parts-none nothing = refl
@@ -18,6 +17,7 @@ parts-one (loop p) = refl
 parts-one (repeat n p) = refl
 parts-one (control s p) = refl
 parts-one (local s p) = refl
+parts-one (freezable s p) = refl
 
 pub parts-two : {p q r : Program} (f : Two p q r) → parts p ≡ two-parts f (parts q) (parts r)
 parts-two (seq p q) = refl

@@ -11,14 +11,13 @@ use Rattle.junior.specs.declared.Flag.{Flag}
 use Rattle.junior.specs.declared.Flag.the-variants.{SUSP, STOP, TERM}
 use Rattle.junior.specs.Configuration.{Config, Env}
 use Rattle.junior.specs.Program.{size}
-use Rattle.junior.specs.Term.{Term, done, nothing, stop, atom, generate, await, seq0, seq2, par, loop0, loop1}
-use Rattle.junior.specs.Term.{repeat0, repeat1, when0, when1, when2, until0, until*, until2, control, local, if0, if1, if2}
-use Rattle.junior.specs.Term.{prog, leave}
-use Rattle.junior.specs.Trace.{Place, Act, did-atom, did-generate, decided, waits, scope-answered}
-use Rattle.junior.specs.Rules.{Allowed, Result, sign, Rewrites, r1, r1-on, r2, r3, r4, r4-on, r5, r8, r9, r10, r11, r12}
-use Rattle.junior.specs.Rules.{r13, r4-loop, r5-loop, r14, r15, r4-repeat, r5-repeat, r16, r17, r17-on, r18}
-use Rattle.junior.specs.Rules.{r19, r19-on, r20, r21, r22, r23, r24, r25, r26, r27, r28, r29, r30, r31, r31-on}
-use Rattle.junior.specs.Rules.{r32, r33, r34, r35-39, if-true, if-true-on, if-false, if-false-on}
+use Rattle.junior.specs.Term.{Term, done, nothing, stop, atom, generate, await, seq0, seq2, par, loop0, loop1, repeat0, repeat1, when0, when1}
+use Rattle.junior.specs.Term.{when2, until0, until*, until2, control, local, freezable0, freezable*, if0, if1, if2, prog, leave}
+use Rattle.junior.specs.Trace.{Place, Act, did-atom, did-generate, did-park, decided, waits, scope-answered}
+use Rattle.junior.specs.Rules.{Allowed, Result, sign, Rewrites, r1, r1-on, r2, r3, r4, r4-on, r5, r8, r9, r10, r11, r12, r13, r4-loop, r5-loop}
+use Rattle.junior.specs.Rules.{r14, r15, r4-repeat, r5-repeat, r16, r17, r17-on, r18, r19, r19-on, r20, r21, r22, r23, r24, r25, r26, r27, r28}
+use Rattle.junior.specs.Rules.{r29, r30, r31, r31-on, r32, r33, r34, r35-39, r40, r41, r42, r43, r44, r45, if-true, if-true-on, if-false}
+use Rattle.junior.specs.Rules.{if-false-on}
 use Rattle.junior.specs.AtRest.{AtRest}
 use Rattle.junior.specs.Decided.{last-status, last-answers}
 use Rattle.junior.specs.Flags.{γ, δ₁, δ₂}
@@ -45,6 +44,7 @@ unfoldable pub Inside : ℕ → ℕ → List Act → Type 0
 Inside i j [] = Unit {0}
 Inside i j (did-atom a ∷ l) = Inside i j l
 Inside i j (did-generate s ∷ l) = Inside i j l
+Inside i j (did-park x ∷ l) = Inside i j l
 Inside i j (decided P c b E ∷ l) = Inside i j l
 Inside i j (waits P c E ∷ l) = Inside i j l
 Inside i j (scope-answered n α b ∷ l) = ((i ≤ n) × (n < j)) × Inside i j l
@@ -60,6 +60,7 @@ widen {i} {i′} {j} {j′} {l} h b = record { inside = go l (b .inside) }
     go [] b = tt
     go (did-atom a ∷ l) b = go l b
     go (did-generate s ∷ l) b = go l b
+    go (did-park x ∷ l) b = go l b
     go (decided P c x E ∷ l) b = go l b
     go (waits P c E ∷ l) b = go l b
     go (scope-answered n α x ∷ l) b = ((omega arith, omega arith), go l (b .1))
@@ -72,6 +73,7 @@ chain {i} {j} {l} {m} a b = record { inside = go l (a .inside) }
     go [] a = b .inside
     go (did-atom n ∷ l) a = go l a
     go (did-generate s ∷ l) a = go l a
+    go (did-park x ∷ l) a = go l a
     go (decided P c x E ∷ l) a = go l a
     go (waits P c E ∷ l) a = go l a
     go (scope-answered n α x ∷ l) a = (a .0, go l (a .1))
@@ -86,6 +88,7 @@ elsewhere {i} {j} {l} a k n o = go l (a .inside)
     go [] a = refl
     go (did-atom m ∷ l) a = go l a
     go (did-generate s ∷ l) a = go l a
+    go (did-park x ∷ l) a = go l a
     go (decided P c x E ∷ l) a = go l a
     go (waits P c E ∷ l) a = go l a
     go (scope-answered m α x ∷ l) a =
@@ -145,12 +148,18 @@ between (r33 s) = record { inside = tt }
 between (r34 s) = record { inside = tt }
 between (r35-39 {P = P} {r = r} d) =
     chain (widen (omega arith) (between d)) (record { inside = ((omega arith, omega arith), tt) })
+between (r40 d h) = widen (omega arith) (between d)
+between (r41 d e) = chain (widen (omega arith) (between d)) (widen (omega (arith, ap size (kept d))) (between e))
+between (r42 s h) = record { inside = tt }
+between (r43 s h) = record { inside = tt }
+between (r44 s) = record { inside = tt }
+between (r45 s) = record { inside = tt }
 between (if-true {p = p} h d) = widen (omega (arith, ap size (prog-fresh p))) (between d)
 between (if-true-on d) = widen (omega arith) (between d)
 between (if-false {q = q} h d) = widen (omega (arith, ap size (prog-fresh q))) (between d)
 between (if-false-on d) = widen (omega arith) (between d)
 
--- in the state of node i, each Local plus has its event present by the statuses σ; an Until* has left its body
+-- in the state of node i, each Local plus has its event present by the statuses σ; an Until* and a Freezable* have left their bodies
 unfoldable pub Open : Term → ℕ → (ℕ → Bool) → Type 0
 Open (done p) i σ = Unit {0}
 Open nothing i σ = Unit {0}
@@ -173,6 +182,8 @@ Open (until* c t q) i σ = Unit {0}
 Open (until2 c p t) i σ = Open t (suc i + size p) σ
 Open (control s t) i σ = Open t (suc i) σ
 Open (local b s t) i σ = (b ≡ true → σ i ≡ true) × Open t (suc i) σ
+Open (freezable0 s t) i σ = Open t (suc i) σ
+Open (freezable* s t) i σ = Unit {0}
 Open (if0 v p q) i σ = Unit {0}
 Open (if1 v t q) i σ = Open t (suc i) σ
 Open (if2 v p t) i σ = Open t (suc i + size p) σ
@@ -200,6 +211,8 @@ rest-open (until* c t q) i σ a = tt
 rest-open (until2 c p t) i σ a = rest-open t _ σ a
 rest-open (control s t) i σ a = rest-open t _ σ a
 rest-open (local b s t) i σ a = (λ e. absurd (false≢true (sym (a .0) ∙ e)), rest-open t _ σ (a .1))
+rest-open (freezable0 s t) i σ a = rest-open t _ σ a
+rest-open (freezable* s t) i σ a = tt
 rest-open (if0 v p q) i σ a = tt
 rest-open (if1 v t q) i σ a = rest-open t _ σ a
 rest-open (if2 v p t) i σ a = rest-open t _ σ a
@@ -237,6 +250,8 @@ open-same (until2 c p t) i a o = open-same t _ (narrow (omega arith) a) o
 open-same (control s t) i a o = open-same t _ (narrow (omega arith) a) o
 open-same (local b s t) i a o =
     (λ e. a .same i (omega arith) (omega arith) ∙ o .0 e, open-same t _ (narrow (omega arith) a) (o .1))
+open-same (freezable0 s t) i a o = open-same t _ (narrow (omega arith) a) o
+open-same (freezable* s t) i a o = tt
 open-same (if0 v p q) i a o = tt
 open-same (if1 v t q) i a o = open-same t _ (narrow (omega arith) a) o
 open-same (if2 v p t) i a o = open-same t _ (narrow (omega arith) a) o

@@ -10,11 +10,11 @@ use lib.Dec.{eqb}
 use Rattle.events.specs.Events.{Events, put}
 use Rattle.junior.specs.Configuration.{Env}
 use Rattle.junior.specs.Term.{Term}
-use Rattle.junior.specs.Trace.{Place, inside, Act, did-atom, did-generate, decided, waits, scope-answered}
-use Rattle.junior.specs.Rules.{Allowed, Result, Rewrites, r1, r1-on, r2, r3, r4, r4-on, r5, r8, r9, r10, r11, r12}
-use Rattle.junior.specs.Rules.{r13, r4-loop, r5-loop, r14, r15, r4-repeat, r5-repeat, r16, r17, r17-on, r18}
-use Rattle.junior.specs.Rules.{r19, r19-on, r20, r21, r22, r23, r24, r25, r26, r27, r28, r29, r30, r31, r31-on}
-use Rattle.junior.specs.Rules.{r32, r33, r34, r35-39, if-true, if-true-on, if-false, if-false-on}
+use Rattle.junior.specs.Trace.{Place, inside, Act, did-atom, did-generate, did-park, decided, waits, scope-answered}
+use Rattle.junior.specs.Rules.{Allowed, Result, Rewrites, r1, r1-on, r2, r3, r4, r4-on, r5, r8, r9, r10, r11, r12, r13, r4-loop, r5-loop, r14}
+use Rattle.junior.specs.Rules.{r15, r4-repeat, r5-repeat, r16, r17, r17-on, r18, r19, r19-on, r20, r21, r22, r23, r24, r25, r26, r27, r28, r29}
+use Rattle.junior.specs.Rules.{r30, r31, r31-on, r32, r33, r34, r35-39, r40, r41, r42, r43, r44, r45, if-true, if-true-on, if-false}
+use Rattle.junior.specs.Rules.{if-false-on}
 use Rattle.junior.specs.Instant.{Instant, r47, r48, r49}
 use Rattle.junior.proofs.Grows.{grows}
 
@@ -27,6 +27,7 @@ unfoldable pub Seen : ℕ → List Act → Type 0
 Seen e [] = Unit {0}
 Seen e (did-atom a ∷ l) = Seen e l
 Seen e (did-generate s ∷ l) = Seen e l
+Seen e (did-park x ∷ l) = Seen e l
 Seen e (decided P c b E ∷ l) = SeenAt e P (E .now) × Seen e l
 Seen e (waits P c E ∷ l) = SeenAt e P (E .now) × Seen e l
 Seen e (scope-answered n α b ∷ l) = Seen e l
@@ -36,6 +37,7 @@ unfolding Seen
 seen-++ e [] k a b = b
 seen-++ e (did-atom n ∷ l) k a b = seen-++ e l k a b
 seen-++ e (did-generate s ∷ l) k a b = seen-++ e l k a b
+seen-++ e (did-park x ∷ l) k a b = seen-++ e l k a b
 seen-++ e (decided P c x E ∷ l) k a b = (a .0, seen-++ e l k (a .1) b)
 seen-++ e (waits P c E ∷ l) k a b = (a .0, seen-++ e l k (a .1) b)
 seen-++ e (scope-answered n α x ∷ l) k a b = seen-++ e l k a b
@@ -95,6 +97,12 @@ module _ (e : ℕ) where
   seen (r33 v) h = (h, tt)
   seen (r34 v) h = (h, tt)
   seen (r35-39 {P = P} {E = E} {b = b} {s = s} {r = r} d) h = seen-++ e (r .acts) _ (seen d (inside-seen e s b P (E .now) h)) tt
+  seen (r40 d n) h = seen d h
+  seen (r41 {l = l} {r = r} d d′) h = seen-++ e l (r .acts) (seen d h) (seen d′ (λ o. grows d e (h o)))
+  seen (r42 v n) h = (h, tt)
+  seen (r43 v n) h = (h, tt)
+  seen (r44 v) h = (h, tt)
+  seen (r45 v) h = (h, tt)
   seen (if-true n d) h = seen d h
   seen (if-true-on d) h = seen d h
   seen (if-false n d) h = seen d h

@@ -2,7 +2,7 @@
 -- once, as before the end. What still waits then waits for the end; the term that it leaves is the one that the pass after the end leaves.
 use Prim.Native.Nat.{ℕ, zero, suc, _+_}
 use mathlib.Core.Bool.{Bool, true, false, cond, _||_, and-eq-true-iff, false≢true}
-use mathlib.Core.Path.{_≡_, refl, ap, _∙_, fun-ext, sym}
+use mathlib.Core.Path.{_≡_, refl, ap, ap₂, _∙_, fun-ext, sym}
 use mathlib.Core.Logic.{_≢_}
 use mathlib.Core.List.{[], _∷_}
 use mathlib.Core.Option.{Option, none, some}
@@ -13,16 +13,15 @@ use Rattle.junior.specs.declared.Flag.the-variants.{SUSP, STOP, TERM}
 use Rattle.junior.specs.declared.Verdict.{Verdict}
 use Rattle.junior.specs.declared.Verdict.the-variants.{Sat, Unsat, Unknown}
 use Rattle.junior.specs.Flags.{γ, δ₁, δ₂}
-use Rattle.junior.specs.Configuration.{Config, handed-in, eval, test, early-true, early-false}
-use Rattle.junior.specs.Program.{Program, Nothing, Stop, Atom, Seq, Par, Loop, Repeat, Generate, Await, When}
-use Rattle.junior.specs.Program.{Until, Control, Local, If}
+use Rattle.junior.specs.Configuration.{Config, Event, handed-in, eval, test, early-true, early-false}
+use Rattle.junior.specs.Program.{Program, Nothing, Stop, Atom, Seq, Par, Loop, Repeat, Generate, Await, When, Until, Control, Local, Freezable}
+use Rattle.junior.specs.Program.{If}
 use Rattle.junior.specs.Values.{Values, nonzero, Times, runs-of, surely}
-use Rattle.junior.specs.Term.{Term, done, nothing, stop, atom, generate, await, seq0, seq2, par, loop0, loop1}
-use Rattle.junior.specs.Term.{repeat0, repeat1, when0, when1, when2, until0, until*, until2, control, local, if0, if1, if2, prog}
-use Rattle.junior.specs.Term.{fresh, leave}
+use Rattle.junior.specs.Term.{Term, done, nothing, stop, atom, generate, await, seq0, seq2, par, loop0, loop1, repeat0, repeat1, when0, when1}
+use Rattle.junior.specs.Term.{when2, until0, until*, until2, control, local, freezable0, freezable*, if0, if1, if2, prog, fresh, leave}
 use Rattle.junior.specs.Rules.{again}
 use Rattle.junior.specs.Figures.{only-if, stops}
-use Rattle.junior.specs.Trace.{Place, first, second, inside}
+use Rattle.junior.specs.Trace.{Place, first, second, inside, Piece, piece}
 use Rattle.junior.specs.Waited.{lacks, Wait, waits-for}
 use Rattle.junior.specs.Order.{often, tells}
 use Rattle.junior.proofs.Little.{SUSP≢TERM, STOP≢TERM}
@@ -32,22 +31,23 @@ use Rattle.junior.proofs.Verdicts.{sat-early, unsat-early}
 use Rattle.junior.proofs.Held.{needed}
 use Rattle.junior.proofs.WayDown.{branch-that-waits, or-else}
 
--- what comes of a term: its flag, what it leaves, the events it generates, how often it does each atom, at which nodes it decides tests and how,
--- and the first test, with its event, that waits for the end
+-- what comes of a term: its flag, what it leaves, the events it generates, how often it does each atom, what the pieces that it parks weigh together by
+-- the weight of each, at which nodes it decides tests and how, and the first test, with its event, that waits for the end
 pub record Out : Type 0 where
   pub flag : Flag
   pub to : Term
   pub gens : Events
   pub hits : ℕ → ℕ
+  pub parked : (Piece → ℕ) → ℕ
   pub tests : ℕ → Bool → Bool
   pub wait : Option Wait
 
-abbrev pub out : Flag → Term → Events → (ℕ → ℕ) → (ℕ → Bool → Bool) → Option Wait → Out
-out α t g h d w = record { flag = α; to = t; gens = g; hits = h; tests = d; wait = w }
+abbrev pub out : Flag → Term → Events → (ℕ → ℕ) → ((Piece → ℕ) → ℕ) → (ℕ → Bool → Bool) → Option Wait → Out
+out α t g h p d w = record { flag = α; to = t; gens = g; hits = h; parked = p; tests = d; wait = w }
 
 -- it does nothing; w is what it waits for, if for anything
 abbrev pub held-by : Option Wait → Flag → Term → Out
-held-by w α t = out α t no-event (λ a. 0) (λ n b. false) w
+held-by w α t = out α t no-event (λ a. 0) (λ v. 0) (λ n b. false) w
 
 abbrev pub idle : Flag → Term → Out
 idle α t = held-by none α t
@@ -60,6 +60,7 @@ plus o p =
     (p .to)
     (λ n. o .gens n || p .gens n)
     (λ a. o .hits a + p .hits a)
+    (λ v. o .parked v + p .parked v)
     (λ n b. o .tests n b || p .tests n b)
     (or-else (o .wait) (p .wait))
 
@@ -68,7 +69,7 @@ bind o h = plus o (h (o .flag) (o .to))
 
 -- it comes to o once the test at P is decided as v
 unfoldable pub says : Place → Bool → Out → Out
-says P v o = out (o .flag) (o .to) (o .gens) (o .hits) (λ n b. tells P v n b || o .tests n b) (o .wait)
+says P v o = out (o .flag) (o .to) (o .gens) (o .hits) (o .parked) (λ n b. tells P v n b || o .tests n b) (o .wait)
 
 -- the node f, answering as its part
 abbrev pub around : (Term → Term) → Flag → Term → Out
@@ -128,6 +129,7 @@ join o p =
     (paired (o .flag) (p .flag) (o .to) (p .to))
     (λ n. o .gens n || p .gens n)
     (λ a. o .hits a + p .hits a)
+    (λ v. o .parked v + p .parked v)
     (λ n b. o .tests n b || p .tests n b)
     (branch-that-waits (o .flag) (o .wait) (p .wait))
 
@@ -143,17 +145,29 @@ steered P false s t o = says P false (held-by (some (record { node = P .node; ev
 
 -- a Local around o: its event stays inside
 unfoldable pub hidden : ℕ → Out → Out
-hidden s o = out (o .flag) (leave (o .flag) (local false s (o .to))) (put s false (o .gens)) (o .hits) (o .tests) (o .wait)
+hidden s o = out (o .flag) (leave (o .flag) (local false s (o .to))) (put s false (o .gens)) (o .hits) (o .parked) (o .tests) (o .wait)
 
 -- its event is present in the end exactly if it was, or if the body, F, generates it without it
 unfoldable pub scoped : Bool → ℕ → (Events → Out) → Events → Out
 scoped b s F X = hidden s (F (put s (b || F (put s false X) .gens s) X))
 
+-- a Freezable of s at P answers α and parks its body, which stopped at t; or, the event being absent, it waits, as w says, and stops at the end
+unfoldable pub frozen : Place → ℕ → Bool → Option Wait → Flag → Term → Out
+frozen P s true w α t =
+    says P true (out α (done (Freezable s (prog t))) no-event (λ a. 0) (λ v. v (piece s (first P .node) t)) (λ n b. false) none)
+frozen P s false w α t = says P false (held-by w SUSP (freezable0 s t))
+
+-- a Freezable, by its body's answer: a body that waits stops at the end, and what is parked is parked then; the wait is the body's
+abbrev pub once-frozen : Place → ℕ → Bool → Option Wait → Flag → Term → Out
+once-frozen P s b w SUSP t = frozen P s b none SUSP t
+once-frozen P s b w STOP t = frozen P s b w TERM t
+once-frozen P s b w TERM t = idle TERM (done (Freezable s (prog t)))
+
 -- nothing before h
 pub bind-idle : (α : Flag) (t : Term) (h : Flag → Term → Out) → bind (idle α t) h ≡ h α t
 unfolding bind
 bind-idle α t h =
-    ap (λ k. out (h α t .flag) (h α t .to) (h α t .gens) k (h α t .tests) (h α t .wait)) (fun-ext (λ a. omega arith))
+    ap₂ (λ k p. out (h α t .flag) (h α t .to) (h α t .gens) k p (h α t .tests) (h α t .wait)) (fun-ext (λ a. omega arith)) (fun-ext (λ v. omega arith))
 
 -- what stops doesn't come to an end, shape by shape
 once-unended : (f : Term → Term) (k : Out) (α : Flag) (t : Term)
@@ -216,14 +230,14 @@ module _ (value : Values) where
   unfoldable pub starts : Place → Program → Events → Out
   starts P Nothing X = idle TERM (done Nothing)
   starts P Stop X = idle STOP (done Stop)
-  starts P (Atom a) X = out TERM (done (Atom a)) no-event (λ n. often n (a ∷ [])) (λ n b. false) none
+  starts P (Atom a) X = out TERM (done (Atom a)) no-event (λ n. often n (a ∷ [])) (λ v. 0) (λ n b. false) none
   starts P (Seq p q) X =
       bind (starts (first P) p X) (once-ended (λ x. seq0 x q) (bind (starts (second P p) q X) (around (seq2 p))))
   starts P (Par p q) X = join (starts (first P) p X) (starts (second P p) q X)
   -- that the body ends at once can't be: any answer but TERM does
   starts P (Loop p) X = bind (starts (first P) p X) (once-ended loop1 (idle STOP (loop0 p)))
   starts P (Repeat n p) X = repeated n (runs-of value n) p (starts (first P) p X)
-  starts P (Generate s) X = out TERM (done (Generate s)) (put s true no-event) (λ a. 0) (λ n b. false) none
+  starts P (Generate s) X = out TERM (done (Generate s)) (put s true no-event) (λ a. 0) (λ v. 0) (λ n b. false) none
   starts P (Await c) X =
       tested P (reads c X) (idle TERM (done (Await c))) (idle STOP (await c)) (own-wait P c X) (eval c X) (done (Await c)) (await c)
   starts P (When c p q) X =
@@ -240,6 +254,7 @@ module _ (value : Values) where
       bind (starts (first P) p X) (once-stopped P c q (starts (second P p) q X) (own-wait P c X) (eval c X) (reads c X))
   starts P (Control s p) X = steered P (X s) s (fresh p) (starts (first P) p X)
   starts P (Local s p) X = scoped false s (starts (inside s P) p) X
+  starts P (Freezable s p) X = bind (starts (first P) p X) (once-frozen P s (X s) (own-wait P (Event s) X))
   starts P (If v p q) X =
       cond
       (nonzero (value v))
@@ -272,6 +287,8 @@ module _ (value : Values) where
   settle P (until2 c p t) X = bind (settle (second P p) t X) (around (until2 c p))
   settle P (control s t) X = steered P (X s) s t (settle (first P) t X)
   settle P (local b s t) X = scoped b s (settle (inside s P) t) X
+  settle P (freezable0 s t) X = bind (settle (first P) t X) (once-frozen P s (X s) (own-wait P (Event s) X))
+  settle P (freezable* s t) X = once-frozen P s (X s) (own-wait P (Event s) X) STOP t
   settle P (if0 v p q) X = starts P (If v p q) X
   settle P (if1 v t q) X = bind (settle (first P) t X) (around (λ x. if1 v x q))
   settle P (if2 v p t) X = bind (settle (second P p) t X) (around (if2 v p))
@@ -307,6 +324,7 @@ module _ (value : Values) where
       )
   settle-fresh P (Control s p) X = λ i. steered P (X s) s (fresh p) (settle-fresh (first P) p X i)
   settle-fresh P (Local s p) X = λ i. scoped false s (λ Y. settle-fresh (inside s P) p Y i) X
+  settle-fresh P (Freezable s p) X = λ i. bind (settle-fresh (first P) p X i) (once-frozen P s (X s) (own-wait P (Event s) X))
   settle-fresh P (If v p q) X = refl
 
   pub settle-again : (P : Place) (n : Times) (k : ℕ) (p : Program) (X : Events)
@@ -357,6 +375,7 @@ module _ (value : Values) where
       (λ v. starts-unended (second P p) q X (needed (sat-early c (handed-in X) refl v) (k .1)))
   starts-unended P (Control s p) X h = steered-unended P (X s) s (fresh p) _ (starts-unended (first P) p X h)
   starts-unended P (Local s p) X h = starts-unended (inside s P) p _ h
+  starts-unended P (Freezable s p) X h = absurd (false≢true h)
   starts-unended P (If v p q) X h =
       let k = and-eq-true-iff (stops p) (stops q) .0 h in
       let o = bind (starts (first P) p X) (around (λ x. if1 v x q)) in

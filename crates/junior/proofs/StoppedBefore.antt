@@ -6,8 +6,8 @@ use native.Mathlib.Nat.{mul-le-mul}
 use native.Mathlib.Omega.{arith}
 use Rattle.junior.specs.Values.{most, surely}
 use Rattle.junior.specs.Configuration.{early-true, early-false}
-use Rattle.junior.specs.Program.{Program, Nothing, Stop, Atom, Seq, Par, Loop, Repeat, Generate, Await, When, Until}
-use Rattle.junior.specs.Program.{Control, Local, If}
+use Rattle.junior.specs.Program.{Program, Nothing, Stop, Atom, Seq, Par, Loop, Repeat, Generate, Await, When, Until, Control, Local, Freezable}
+use Rattle.junior.specs.Program.{If}
 use Rattle.junior.specs.Figures.{only-if, stops, times, figure}
 use Rattle.junior.specs.StoppedBefore.{stopped-before, figure-before}
 use Rattle.junior.proofs.Held.{either}
@@ -35,6 +35,7 @@ still-stops (When c p q) h =
 still-stops (Until c p q) h = both {a = stopped-before p} (still-stops p) (λ x. enough (early-true c) (still-stops q x)) h
 still-stops (Control s p) h = still-stops p h
 still-stops (Local s p) h = still-stops p h
+still-stops (Freezable s p) h = h
 still-stops (If v p q) h = both {a = stopped-before p} (still-stops p) (still-stops q) h
 
 -- how often a body counts that stopped before only if it stops now
@@ -61,4 +62,5 @@ module _ (k : Program → ℕ) where
   no-larger (Until c p q) = omega (arith, no-larger p, no-larger q)
   no-larger (Control s p) = omega (arith, no-larger p)
   no-larger (Local s p) = omega (arith, no-larger p)
+  no-larger (Freezable s p) = omega (arith, no-larger p)
   no-larger (If v p q) = omega (arith, no-larger p, no-larger q)

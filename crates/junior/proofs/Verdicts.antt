@@ -227,6 +227,23 @@ pub absent : (s : ℕ) (E : Env) → test (Event s) E ≡ Unsat → E .now s ≡
 unfolding eval
 absent s E v = lasts (Event s) E (E .now) v (as-it-is E)
 
+-- one event is found unsat only once the end is declared, and unknown only before, while it isn't present
+pub unsat-at-end : (s : ℕ) (E : Env) → test (Event s) E ≡ Unsat → E .eoi ≡ true
+unsat-at-end s E v = go (E .now s) (E .eoi) (rw (test-event s E) at v)
+  where
+    go : (b e : Bool) → verdict (b || e) b ≡ Unsat → e ≡ true
+    go true e h = cc
+    go false true h = refl
+    go false false h = cc
+
+pub not-yet : (s : ℕ) (E : Env) → test (Event s) E ≡ Unknown → (E .now s ≡ false) × (E .eoi ≡ false)
+not-yet s E v = go (E .now s) (E .eoi) (rw (test-event s E) at v)
+  where
+    go : (b e : Bool) → verdict (b || e) b ≡ Unknown → (b ≡ false) × (e ≡ false)
+    go true e h = (cc, cc)
+    go false true h = (cc, cc)
+    go false false h = (refl, refl)
+
 -- a verdict that a configuration can have early, true and false being possible so
 abbrev Early : Bool → Bool → Verdict → Type 0
 Early can-true can-false Sat = can-true ≡ true

@@ -8,14 +8,14 @@ use native.Mathlib.Nat.{le-trans, mul-le-mul-right, zero-mul, suc-mul}
 use lib.ListN.{length}
 use Rattle.events.specs.Events.{Events}
 use Rattle.junior.specs.Configuration.{Env, handed-in}
-use Rattle.junior.specs.Program.{Program, Repeat, Until}
+use Rattle.junior.specs.Program.{Program, Repeat, Until, Freezable}
 use Rattle.junior.specs.Values.{most}
 use Rattle.junior.specs.Term.{Term, prog, fresh}
 use Rattle.junior.specs.Trace.{Place}
-use Rattle.junior.specs.Rules.{Allowed, Result, Rewrites, r1, r1-on, r2, r3, r4, r4-on, r5, r8, r9, r10, r11, r12, r13}
-use Rattle.junior.specs.Rules.{r4-loop, r5-loop, r14, r15, r4-repeat, r5-repeat, r16, r17, r17-on, r18, r19}
-use Rattle.junior.specs.Rules.{r19-on, r20, r21, r22, r23, r24, r25, r26, r27, r28, r29, r30, r31, r31-on, r32}
-use Rattle.junior.specs.Rules.{r33, r34, r35-39, if-true, if-true-on, if-false, if-false-on}
+use Rattle.junior.specs.Rules.{Allowed, Result, Rewrites, r1, r1-on, r2, r3, r4, r4-on, r5, r8, r9, r10, r11, r12, r13, r4-loop, r5-loop, r14}
+use Rattle.junior.specs.Rules.{r15, r4-repeat, r5-repeat, r16, r17, r17-on, r18, r19, r19-on, r20, r21, r22, r23, r24, r25, r26, r27, r28, r29}
+use Rattle.junior.specs.Rules.{r30, r31, r31-on, r32, r33, r34, r35-39, r40, r41, r42, r43, r44, r45, if-true, if-true-on, if-false}
+use Rattle.junior.specs.Rules.{if-false-on}
 use Rattle.junior.specs.Instant.{Instant, r47, r48, r49}
 use Rattle.junior.specs.Figures.{stops, LoopsStop, figure, every, G, W}
 use Rattle.junior.specs.AtRest.{AtRest}
@@ -95,6 +95,13 @@ module _ (k : Program → ℕ) where
   within-pot (r33 s) o = omega arith
   within-pot (r34 s) o = omega arith
   within-pot (r35-39 d) o = omega (arith, within-pot d o)
+  within-pot (r40 d n) o = omega (arith, within-pot d o)
+  within-pot (r41 {s = s} d e) o =
+      omega (arith, within-pot d o, within-pot e (rw (kept d) o), ap (λ x. k (Freezable s x)) (kept d))
+  within-pot (r42 s h) o = omega arith
+  within-pot (r43 s h) o = omega arith
+  within-pot (r44 s) o = omega arith
+  within-pot (r45 s) o = omega arith
   within-pot (if-true {p = p} h d) o = omega (arith, fresh-within p _ (within-pot d (loops-fresh p (o .0))))
   within-pot (if-true-on d) o = omega (arith, within-pot d (o .0))
   within-pot (if-false {q = q} h d) o = omega (arith, fresh-within q _ (within-pot d (loops-fresh q (o .1))))

@@ -14,11 +14,11 @@ use Rattle.junior.specs.Configuration.{Env}
 use Rattle.junior.specs.Program.{size}
 use Rattle.junior.specs.Values.{Values}
 use Rattle.junior.specs.Term.{Term, prog}
-use Rattle.junior.specs.Trace.{Place, Act, did-atom, did-generate, decided, waits, scope-answered, collect}
-use Rattle.junior.specs.Rules.{left-first, Result, Rewrites, r1, r1-on, r2, r3, r4, r4-on, r5, r8, r9, r10, r11, r12}
-use Rattle.junior.specs.Rules.{r13, r4-loop, r5-loop, r14, r15, r4-repeat, r5-repeat, r16, r17, r17-on, r18}
-use Rattle.junior.specs.Rules.{r19, r19-on, r20, r21, r22, r23, r24, r25, r26, r27, r28, r29, r30, r31, r31-on}
-use Rattle.junior.specs.Rules.{r32, r33, r34, r35-39, if-true, if-true-on, if-false, if-false-on}
+use Rattle.junior.specs.Trace.{Place, Act, did-atom, did-generate, did-park, decided, waits, scope-answered, collect}
+use Rattle.junior.specs.Rules.{left-first, Result, Rewrites, r1, r1-on, r2, r3, r4, r4-on, r5, r8, r9, r10, r11, r12, r13, r4-loop, r5-loop}
+use Rattle.junior.specs.Rules.{r14, r15, r4-repeat, r5-repeat, r16, r17, r17-on, r18, r19, r19-on, r20, r21, r22, r23, r24, r25, r26, r27, r28}
+use Rattle.junior.specs.Rules.{r29, r30, r31, r31-on, r32, r33, r34, r35-39, r40, r41, r42, r43, r44, r45, if-true, if-true-on, if-false}
+use Rattle.junior.specs.Rules.{if-false-on}
 use Rattle.junior.specs.Waited.{lacks, Wait, waits-for, first-wait}
 use Rattle.junior.proofs.Little.{STOP≢SUSP, TERM≢SUSP, collect-++, collect-last}
 use Rattle.junior.proofs.Fresh.{prog-fresh}
@@ -30,6 +30,7 @@ use Rattle.junior.proofs.WayDown.{Within, within-none, within-own, wide
 abbrev pub node-that-waits : Act → List ℕ
 node-that-waits (did-atom a) = []
 node-that-waits (did-generate s) = []
+node-that-waits (did-park x) = []
 node-that-waits (decided P c b E) = []
 node-that-waits (waits P c E) = P .node ∷ []
 node-that-waits (scope-answered n α b) = []
@@ -156,6 +157,12 @@ in-order (r33 v) = none-wait refl
 in-order (r34 v) = one-waits (omega arith) refl
 in-order (r35-39 {r = r} d) =
     same-nodes (collect-last node-that-waits (r .acts) _ refl) (within (omega arith) (in-order d))
+in-order (r40 d h) = within (omega arith) (in-order d)
+in-order (r41 d e) = behind (in-order d) STOP≢SUSP (within (omega (arith, ap size (kept d))) (in-order e))
+in-order (r42 v h) = none-wait refl
+in-order (r43 v h) = none-wait refl
+in-order (r44 v) = none-wait refl
+in-order (r45 v) = one-waits (omega arith) refl
 in-order (if-true {p = p} h d) = within (omega (arith, ap size (prog-fresh p))) (in-order d)
 in-order (if-true-on d) = within (omega arith) (in-order d)
 in-order (if-false {q = q} h d) = within (omega (arith, ap size (prog-fresh q))) (in-order d)
@@ -166,6 +173,7 @@ unfoldable pub first-met : List Act → Option Wait
 first-met [] = none
 first-met (did-atom a ∷ l) = first-met l
 first-met (did-generate s ∷ l) = first-met l
+first-met (did-park x ∷ l) = first-met l
 first-met (decided P c b E ∷ l) = first-met l
 first-met (waits P c E ∷ l) = or-else (waits-for (P .node) (lacks c (E .now))) (first-met l)
 first-met (scope-answered n α b ∷ l) = first-met l
@@ -179,6 +187,7 @@ unfolding first-wait first-met collect Rise
 met-from i j [] a = (refl, within-none)
 met-from i j (did-atom n ∷ l) a = met-from i j l a
 met-from i j (did-generate s ∷ l) a = met-from i j l a
+met-from i j (did-park x ∷ l) a = met-from i j l a
 met-from i j (decided P c b E ∷ l) a = met-from i j l a
 met-from i j (waits P c E ∷ l) a = go (lacks c (E .now)) (met-from (suc (P .node)) j l (a .1))
   where

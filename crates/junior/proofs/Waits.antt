@@ -10,11 +10,11 @@ use Rattle.junior.specs.declared.Flag.the-variants.{SUSP, STOP, TERM}
 use Rattle.junior.specs.Flags.{γ}
 use Rattle.junior.specs.Configuration.{Config, Event, Env, unknown}
 use Rattle.junior.specs.Term.{Term}
-use Rattle.junior.specs.Trace.{Place, Act, did-atom, did-generate, decided, waits, scope-answered}
-use Rattle.junior.specs.Rules.{Allowed, Result, Rewrites, r1, r1-on, r2, r3, r4, r4-on, r5, r8, r9, r10, r11, r12}
-use Rattle.junior.specs.Rules.{r13, r4-loop, r5-loop, r14, r15, r4-repeat, r5-repeat, r16, r17, r17-on, r18}
-use Rattle.junior.specs.Rules.{r19, r19-on, r20, r21, r22, r23, r24, r25, r26, r27, r28, r29, r30, r31, r31-on}
-use Rattle.junior.specs.Rules.{r32, r33, r34, r35-39, if-true, if-true-on, if-false, if-false-on}
+use Rattle.junior.specs.Trace.{Place, Act, did-atom, did-generate, did-park, decided, waits, scope-answered}
+use Rattle.junior.specs.Rules.{Allowed, Result, Rewrites, r1, r1-on, r2, r3, r4, r4-on, r5, r8, r9, r10, r11, r12, r13, r4-loop, r5-loop, r14}
+use Rattle.junior.specs.Rules.{r15, r4-repeat, r5-repeat, r16, r17, r17-on, r18, r19, r19-on, r20, r21, r22, r23, r24, r25, r26, r27, r28, r29}
+use Rattle.junior.specs.Rules.{r30, r31, r31-on, r32, r33, r34, r35-39, r40, r41, r42, r43, r44, r45, if-true, if-true-on, if-false}
+use Rattle.junior.specs.Rules.{if-false-on}
 use Rattle.junior.specs.Waited.{lower, lacks, Wait, waits-for, first-wait}
 use Rattle.junior.proofs.Lower.{found, found-some, found-none, lower-none, lower-found, lower-assoc}
 use Rattle.junior.proofs.Lacking.{lacks-found}
@@ -28,6 +28,7 @@ unfolding first-wait
 first-wait-++ [] k = refl
 first-wait-++ (did-atom a ∷ l) k = first-wait-++ l k
 first-wait-++ (did-generate s ∷ l) k = first-wait-++ l k
+first-wait-++ (did-park x ∷ l) k = first-wait-++ l k
 first-wait-++ (decided P c b E ∷ l) k = first-wait-++ l k
 first-wait-++ (waits P c E ∷ l) k =
     let w = waits-for (P .node) (lacks c (E .now)) in
@@ -131,6 +132,12 @@ waits-exactly (r33 v) = refl
 waits-exactly (r34 {P = P} {E = E} {c = c} v) = waiting P c E v
 waits-exactly (r35-39 {P = P} {s = s} {r = r} d) =
     ap found (first-wait-scope (r .acts) (P .node) (r .flag) (r .env .now s)) ∙ waits-exactly d
+waits-exactly (r40 d h) = waits-exactly d
+waits-exactly (r41 {l = l} {r = r} d e) = chained l (r .acts) (waits-exactly d) (waits-exactly e)
+waits-exactly (r42 v h) = refl
+waits-exactly (r43 v h) = refl
+waits-exactly (r44 v) = refl
+waits-exactly (r45 {P = P} {E = E} {s = s} v) = waiting P (Event s) E v
 waits-exactly (if-true h d) = waits-exactly d
 waits-exactly (if-true-on d) = waits-exactly d
 waits-exactly (if-false h d) = waits-exactly d

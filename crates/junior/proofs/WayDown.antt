@@ -13,14 +13,13 @@ use Rattle.junior.specs.declared.Flag.the-variants.{SUSP, STOP, TERM}
 use Rattle.junior.specs.Flags.{γ, δ₁, δ₂}
 use Rattle.junior.specs.Configuration.{Event, Env}
 use Rattle.junior.specs.Program.{size}
-use Rattle.junior.specs.Term.{Term, done, nothing, stop, atom, generate, await, seq0, seq2, par, loop0, loop1}
-use Rattle.junior.specs.Term.{repeat0, repeat1, when0, when1, when2, until0, until*, until2, control, local, if0, if1, if2}
-use Rattle.junior.specs.Term.{prog}
+use Rattle.junior.specs.Term.{Term, done, nothing, stop, atom, generate, await, seq0, seq2, par, loop0, loop1, repeat0, repeat1, when0, when1}
+use Rattle.junior.specs.Term.{when2, until0, until*, until2, control, local, freezable0, freezable*, if0, if1, if2, prog}
 use Rattle.junior.specs.Trace.{Place, waits, event-of, collect, generations}
-use Rattle.junior.specs.Rules.{Allowed, Result, Rewrites, r1, r1-on, r2, r3, r4, r4-on, r5, r8, r9, r10, r11, r12}
-use Rattle.junior.specs.Rules.{r13, r4-loop, r5-loop, r14, r15, r4-repeat, r5-repeat, r16, r17, r17-on, r18}
-use Rattle.junior.specs.Rules.{r19, r19-on, r20, r21, r22, r23, r24, r25, r26, r27, r28, r29, r30, r31, r31-on}
-use Rattle.junior.specs.Rules.{r32, r33, r34, r35-39, if-true, if-true-on, if-false, if-false-on}
+use Rattle.junior.specs.Rules.{Allowed, Result, Rewrites, r1, r1-on, r2, r3, r4, r4-on, r5, r8, r9, r10, r11, r12, r13, r4-loop, r5-loop, r14}
+use Rattle.junior.specs.Rules.{r15, r4-repeat, r5-repeat, r16, r17, r17-on, r18, r19, r19-on, r20, r21, r22, r23, r24, r25, r26, r27, r28, r29}
+use Rattle.junior.specs.Rules.{r30, r31, r31-on, r32, r33, r34, r35-39, r40, r41, r42, r43, r44, r45, if-true, if-true-on, if-false}
+use Rattle.junior.specs.Rules.{if-false-on}
 use Rattle.junior.specs.Waited.{lacks, Wait, waits-for, first-wait}
 use Rattle.junior.proofs.Little.{STOP≢SUSP, TERM≢SUSP, collect-none, put-at}
 use Rattle.junior.proofs.Kept.{kept}
@@ -65,6 +64,8 @@ waiting-in i (until* c t q) X = waits-for i (lacks c X)
 waiting-in i (until2 c p t) X = waiting-in (suc i + size p) t X
 waiting-in i (control s t) X = cond (X s) (waiting-in (suc i) t X) (some (record { node = i; event = s }))
 waiting-in i (local b s t) X = waiting-in (suc i) t (put s b X)
+waiting-in i (freezable0 s t) X = waiting-in (suc i) t X
+waiting-in i (freezable* s t) X = waits-for i (lacks (Event s) X)
 waiting-in i (if0 v p q) X = none
 waiting-in i (if1 v t q) X = waiting-in (suc i) t X
 waiting-in i (if2 v p t) X = waiting-in (suc i + size p) t X
@@ -118,6 +119,8 @@ inside (until* c t q) i X = within-own (lacks c X) (omega arith)
 inside (until2 c p t) i X = widen (omega arith) (inside t _ X)
 inside (control s t) i X = within-cond (X s) _ _ (widen (omega arith) (inside t _ X)) (within-own (some s) (omega arith))
 inside (local b s t) i X = widen (omega arith) (inside t _ (put s b X))
+inside (freezable0 s t) i X = widen (omega arith) (inside t _ X)
+inside (freezable* s t) i X = within-own (lacks (Event s) X) (omega arith)
 inside (if0 v p q) i X = within-none
 inside (if1 v t q) i X = widen (omega arith) (inside t _ X)
 inside (if2 v p t) i X = widen (omega arith) (inside t _ X)
@@ -277,6 +280,12 @@ finds (r35-39 {P = P} {E = E} {b = b} {s = s} {r = r} d) q f =
     let same : r .env .now s ≡ b = ap (λ F. F .now s) (unchanged d k) ∙ put-at s b (E .now) in
     rw (leave-susp, sign-kept b (r .env .now s) (r .flag) same f)
     (finds d k f ∙ sym (first-wait-scope (r .acts) (P .node) (r .flag) (r .env .now s)))
+finds (r40 d h) q f = rw leave-susp (finds d q f)
+finds (r41 {P = P} {r = r} d e) q f = behind d STOP≢SUSP r (P .node) q (λ k. finds e k f)
+finds (r42 v h) q f = absurd (TERM≢SUSP f)
+finds (r43 v h) q f = absurd (STOP≢SUSP f)
+finds (r44 v) q f = absurd (STOP≢SUSP f)
+finds (r45 {P = P} {E = E} {s = s} v) q f = sym (first-wait-one P (Event s) E)
 finds (if-true h d) q f = rw leave-susp (finds d q f)
 finds (if-true-on d) q f = rw leave-susp (finds d q f)
 finds (if-false h d) q f = rw leave-susp (finds d q f)

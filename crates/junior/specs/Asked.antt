@@ -5,13 +5,13 @@ use mathlib.Core.List.{List, [], _∷_, _++_}
 use Rattle.junior.specs.Configuration.{Env}
 use Rattle.junior.specs.Values.{Values, Times, exactly, asked}
 use Rattle.junior.specs.Program.{Program, Nothing, Stop, Atom, Seq, Par, Loop, Repeat, Generate, Await, When, Until}
-use Rattle.junior.specs.Program.{Control, Local, If}
+use Rattle.junior.specs.Program.{Control, Local, Freezable, If}
 use Rattle.junior.specs.Term.{Term, prog}
 use Rattle.junior.specs.Trace.{Place}
 use Rattle.junior.specs.Rules.{Allowed, with-values, Result, Rewrites, r1, r1-on, r2, r3, r4, r4-on, r5, r8, r9, r10, r11, r12}
 use Rattle.junior.specs.Rules.{r13, r4-loop, r5-loop, r14, r15, r4-repeat, r5-repeat, r16, r17, r17-on, r18}
 use Rattle.junior.specs.Rules.{r19, r19-on, r20, r21, r22, r23, r24, r25, r26, r27, r28, r29, r30, r31, r31-on}
-use Rattle.junior.specs.Rules.{r32, r33, r34, r35-39, if-true, if-true-on, if-false, if-false-on}
+use Rattle.junior.specs.Rules.{r32, r33, r34, r35-39, r40, r41, r42, r43, r44, r45, if-true, if-true-on, if-false, if-false-on}
 use Rattle.junior.specs.Instant.{Instant, r47, r48, r49}
 use Rattle.junior.specs.Waited.{before-the-end}
 
@@ -64,6 +64,12 @@ asks (r32 s h) = []
 asks (r33 s) = []
 asks (r34 s) = []
 asks (r35-39 d) = asks d
+asks (r40 d h) = asks d
+asks (r41 d e) = asks d ++ asks e
+asks (r42 s h) = []
+asks (r43 s h) = []
+asks (r44 s) = []
+asks (r45 s) = []
 asks (if-true {v = v} h d) = v ∷ asks d
 asks (if-true-on d) = asks d
 asks (if-false {v = v} h d) = v ∷ asks d
@@ -94,6 +100,7 @@ EachNamed so (When c p q) = EachNamed so p × EachNamed so q
 EachNamed so (Until c p q) = EachNamed so p × EachNamed so q
 EachNamed so (Control s p) = EachNamed so p
 EachNamed so (Local s p) = EachNamed so p
+EachNamed so (Freezable s p) = EachNamed so p
 EachNamed so (If v p q) = so v × EachNamed so p × EachNamed so q
 
 -- it has no If and no RepeatExt

@@ -6,7 +6,8 @@ use Rattle.junior.specs.declared.Flag.{Flag}
 use Rattle.junior.specs.declared.Flag.the-variants.{SUSP, STOP, TERM}
 use Rattle.junior.specs.Program.{Program}
 use Rattle.junior.specs.Term.{Term, done, nothing, stop, atom, generate, await, seq0, seq2, par, loop0, loop1}
-use Rattle.junior.specs.Term.{repeat0, repeat1, when0, when1, when2, until0, until*, until2, control, local, if0, if1, if2}
+use Rattle.junior.specs.Term.{repeat0, repeat1, when0, when1, when2, until0, until*, until2, control, local, freezable0, freezable*, if0, if1}
+use Rattle.junior.specs.Term.{if2}
 use Rattle.junior.specs.Values.{most}
 
 -- Par's flags each SUSP or TERM, and not both TERM
@@ -48,6 +49,8 @@ AtRest (until* c t q) = ⊥
 AtRest (until2 c p t) = AtRest t
 AtRest (control s t) = AtRest t
 AtRest (local b s t) = (b ≡ false) × AtRest t
+AtRest (freezable0 s t) = AtRest t
+AtRest (freezable* s t) = ⊥
 AtRest (if0 v p q) = Unit {0}
 AtRest (if1 v t q) = AtRest t
 AtRest (if2 v p t) = AtRest t

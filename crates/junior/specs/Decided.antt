@@ -8,7 +8,7 @@ use Rattle.events.specs.Events.{Events, put, none as no-event}
 use Rattle.junior.specs.declared.Flag.{Flag}
 use Rattle.junior.specs.declared.Flag.the-variants.{SUSP, STOP, TERM}
 use Rattle.junior.specs.Configuration.{eval}
-use Rattle.junior.specs.Trace.{Place, Act, did-atom, did-generate, decided, waits, scope-answered}
+use Rattle.junior.specs.Trace.{Place, Act, did-atom, did-generate, did-park, decided, waits, scope-answered}
 
 -- A body that answers STOP or TERM isn't run again in that activation and instant, one that answers SUSP is (`Activations`, law
 -- `activations`): so an activation's last answer is the first other than SUSP. Here: the statuses of the events of all Locals, by node, at the
@@ -22,6 +22,7 @@ unfoldable pub last-answers : List Act → (ℕ → Bool)
 last-answers [] = no-event
 last-answers (did-atom a ∷ l) = last-answers l
 last-answers (did-generate s ∷ l) = last-answers l
+last-answers (did-park x ∷ l) = last-answers l
 last-answers (decided P c b E ∷ l) = last-answers l
 last-answers (waits P c E ∷ l) = last-answers l
 last-answers (scope-answered n α b ∷ l) = last-status α n b (last-answers l)
@@ -39,6 +40,7 @@ unfoldable pub DecidedRight : Events → List Act → Type 0
 DecidedRight F [] = Unit {0}
 DecidedRight F (did-atom a ∷ l) = DecidedRight F l
 DecidedRight F (did-generate s ∷ l) = DecidedRight F l
+DecidedRight F (did-park x ∷ l) = DecidedRight F l
 DecidedRight F (decided P c b E ∷ l) = (eval c (finished F (last-answers l) P) ≡ b) × DecidedRight F l
 DecidedRight F (waits P c E ∷ l) = DecidedRight F l
 DecidedRight F (scope-answered n α b ∷ l) = DecidedRight F l

@@ -8,9 +8,11 @@ use Rattle.junior.specs.declared.Flag.{Flag}
 use Rattle.junior.specs.declared.Flag.the-variants.{SUSP, STOP, TERM}
 use Rattle.junior.specs.Configuration.{early-true, early-false}
 use Rattle.junior.specs.Values.{most, surely}
-use Rattle.junior.specs.Program.{Program, Nothing, Stop, Atom, Seq, Par, Loop, Repeat, Generate, Await, When, Until, Control, Local, If}
+use Rattle.junior.specs.Program.{Program, Nothing, Stop, Atom, Seq, Par, Loop, Repeat, Generate, Await, When, Until, Control, Local}
+use Rattle.junior.specs.Program.{Freezable, If}
 use Rattle.junior.specs.Term.{Term, done, nothing, stop, atom, generate, await, seq0, seq2, par, loop0, loop1}
-use Rattle.junior.specs.Term.{repeat0, repeat1, when0, when1, when2, until0, until*, until2, control, local, if0, if1, if2, prog}
+use Rattle.junior.specs.Term.{repeat0, repeat1, when0, when1, when2, until0, until*, until2, control, local, freezable0, freezable*, if0, if1}
+use Rattle.junior.specs.Term.{if2, prog}
 use Rattle.junior.specs.AtRest.{AtRest, Over}
 use Rattle.junior.specs.Figures.{only-if, stops, times, figure}
 
@@ -58,6 +60,8 @@ Going X (until* c t q) = AtRest t
 Going X (until2 c p t) = Going X t
 Going X (control s t) = Controlled (X s) (Going X t) t
 Going X (local b s t) = Going (put s b X) t
+Going X (freezable0 s t) = Going X t
+Going X (freezable* s t) = AtRest t
 Going X (if0 v p q) = Unit {0}
 Going X (if1 v t q) = Going X t
 Going X (if2 v p t) = Going X t
@@ -94,6 +98,8 @@ held (until* c t q) = only-if (early-true c) (stops q)
 held (until2 c p t) = held t
 held (control s t) = held t
 held (local b s t) = held t
+held (freezable0 s t) = false
+held (freezable* s t) = false
 held (if0 v p q) = stops p && stops q
 held (if1 v t q) = held t
 held (if2 v p t) = held t
@@ -132,6 +138,8 @@ pot k (until* c t q) = k (Until c (prog t) q) + figure k q
 pot k (until2 c p t) = k (Until c p (prog t)) + pot k t
 pot k (control s t) = k (Control s (prog t)) + pot k t
 pot k (local b s t) = k (Local s (prog t)) + pot k t
+pot k (freezable0 s t) = k (Freezable s (prog t)) + pot k t
+pot k (freezable* s t) = k (Freezable s (prog t))
 pot k (if0 v p q) = k (If v p q) + max (figure k p) (figure k q)
 pot k (if1 v t q) = k (If v (prog t) q) + pot k t
 pot k (if2 v p t) = k (If v p (prog t)) + pot k t

@@ -8,7 +8,7 @@ use Rattle.events.specs.Events.{Events}
 use Rattle.junior.specs.Configuration.{Config, Env, unknown, handed-in}
 use Rattle.junior.specs.Values.{Values}
 use Rattle.junior.specs.Term.{Term}
-use Rattle.junior.specs.Trace.{Place, Act, did-atom, did-generate, decided, waits, scope-answered}
+use Rattle.junior.specs.Trace.{Place, Act, did-atom, did-generate, did-park, decided, waits, scope-answered}
 use Rattle.junior.specs.Rules.{left-first, Result}
 use Rattle.junior.specs.Instant.{Instant}
 use Rattle.junior.specs.Decided.{last-answers, finished}
@@ -26,6 +26,7 @@ unfoldable pub WaitFrom : ℕ → List Act → Type 0
 WaitFrom n [] = Unit {0}
 WaitFrom n (did-atom a ∷ l) = WaitFrom n l
 WaitFrom n (did-generate s ∷ l) = WaitFrom n l
+WaitFrom n (did-park x ∷ l) = WaitFrom n l
 WaitFrom n (decided P c b E ∷ l) = WaitFrom n l
 WaitFrom n (waits P c E ∷ l) = (n ≤ P .node) × WaitFrom n l
 WaitFrom n (scope-answered m α b ∷ l) = WaitFrom n l

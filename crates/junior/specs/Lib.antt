@@ -15,6 +15,7 @@ pub mod Decided
 pub mod Activations
 pub mod Demand3
 pub mod Waited
+pub mod Parked
 pub mod Order
 pub mod Printed
 pub mod Visits

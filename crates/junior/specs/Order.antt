@@ -7,17 +7,18 @@ use mathlib.Core.Bool.{Bool, true, false, cond, not, _&&_, _||_}
 use mathlib.Core.Path.{_≡_}
 use mathlib.Core.List.{List, [], _∷_}
 use lib.Dec.{eqb}
-use Rattle.events.specs.Events.{Events, none as no-event}
+use Rattle.events.specs.Events.{Events, none as no-event, put}
 use Rattle.junior.specs.declared.Flag.the-variants.{SUSP}
 use Rattle.junior.specs.Configuration.{Env, declared-end, unmoved, handed-in, Event}
-use Rattle.junior.specs.Program.{Program, Atom, Seq, Par, Generate, Await}
+use Rattle.junior.specs.Program.{Program, Stop, Atom, Seq, Par, Generate, Await, Freezable}
 use Rattle.junior.specs.Values.{Values, zeros}
-use Rattle.junior.specs.Term.{Term, prog, fresh}
-use Rattle.junior.specs.Trace.{Place, root, Act, did-atom, did-generate, decided, waits, scope-answered, atoms}
+use Rattle.junior.specs.Term.{Term, done, prog, fresh}
+use Rattle.junior.specs.Trace.{Place, root, Piece, piece, Act, did-atom, did-generate, did-park, decided, waits, scope-answered, atoms, parks}
 use Rattle.junior.specs.Rules.{left-first, either-first, Result, Rewrites}
 use Rattle.junior.specs.Instant.{Instant}
 use Rattle.junior.specs.Figures.{G}
 use Rattle.junior.specs.Waited.{waited}
+use Rattle.junior.specs.Parked.{together}
 
 -- the instant so far: so many passes, each suspended, led from t in E to u in F, where the next pass begins
 pub data SoFar (value : Values) : ℕ → Term → Env → Term → Env → Type 0 where
@@ -48,6 +49,7 @@ unfoldable pub decides : ℕ → Bool → List Act → Bool
 decides n b [] = false
 decides n b (did-atom a ∷ l) = decides n b l
 decides n b (did-generate s ∷ l) = decides n b l
+decides n b (did-park x ∷ l) = decides n b l
 decides n b (decided P c v E ∷ l) = tells P v n b || decides n b l
 decides n b (waits P c E ∷ l) = decides n b l
 decides n b (scope-answered m α v ∷ l) = decides n b l
@@ -58,6 +60,9 @@ pub record SameOutcome (r s : Result) : Type 0 where
   pub answer : r .flag ≡ s .flag
   pub end-state : r .to ≡ s .to
   pub equally-often : (a : ℕ) → often a (atoms (r .acts)) ≡ often a (atoms (s .acts))
+  -- L8: "Demand 2 includes the store, L6 not its order": the pieces parked are the same but for their order, since whatever each of them weighs they
+  -- weigh the same together; so each occurs equally often (it weighs 1 and every other 0)
+  pub same-pieces : (weight : Piece → ℕ) → together weight (parks (r .acts)) ≡ together weight (parks (s .acts))
   -- more than was asked: every test decided in one is decided in the other, with the same value (a Control's perhaps more often)
   pub decided-alike : (n : ℕ) (b : Bool) → decides n b (r .acts) ≡ decides n b (s .acts)
 
@@ -86,3 +91,19 @@ waits-for-a-sibling = Par (Seq (Await (Event 1)) (Atom 5)) (Generate 1)
 pub record PassesDiffer : Type 0 where
   pub left : (r : Result) × Instant (left-first zeros) (fresh waits-for-a-sibling) (handed-in no-event) 2 r × (atoms (r .acts) ≡ 5 ∷ [])
   pub right : (r : Result) × Instant (either-first zeros) (fresh waits-for-a-sibling) (handed-in no-event) 1 r × (atoms (r .acts) ≡ 5 ∷ [])
+
+-- "L6 not its order": with event 0 handed in this program parks the body of the branch first that runs first
+abbrev pub parks-both : Program
+parks-both = Par (Freezable 0 Stop) (Freezable 0 Stop)
+
+abbrev pub left-piece : Piece
+left-piece = piece 0 2 (done Stop)
+
+abbrev pub right-piece : Piece
+right-piece = piece 0 4 (done Stop)
+
+pub record PiecesDiffer : Type 0 where
+  pub left : (r : Result) × Instant (left-first zeros) (fresh parks-both) (handed-in (put 0 true no-event)) 1 r
+      × (parks (r .acts) ≡ left-piece ∷ right-piece ∷ [])
+  pub right : (r : Result) × Instant (either-first zeros) (fresh parks-both) (handed-in (put 0 true no-event)) 1 r
+      × (parks (r .acts) ≡ right-piece ∷ left-piece ∷ [])

@@ -1,5 +1,5 @@
--- Programs: the thirteen forms (01, "What the kernel holds"; 000, 2.1), with L14's If and RepeatExt (001, 2.2), and what each form has: a kind,
--- an argument and parts (01, "The table").
+-- Programs: the thirteen forms (01, "What the kernel holds"; 000, 2.1), with L8's Freezable (000, 2.1) and L14's If and RepeatExt (001, 2.2), and
+-- what each form has: a kind, an argument and parts (01, "The table").
 use Prim.Native.Nat.{ℕ, _+_}
 use Rattle.junior.specs.Configuration.{Config}
 use Rattle.junior.specs.Values.{Times, exactly, asked}
@@ -15,6 +15,8 @@ pub data Program : Type 0 where
   Await : Config → Program
   When Until : Config → Program → Program → Program
   Control Local : ℕ → Program → Program
+  -- L8: "kind 13, one child, an event as argument"
+  Freezable : ℕ → Program → Program
   If : ℕ → Program → Program → Program
 
 -- an Atom's number or a Repeat's count, an event, a configuration; the number of an If's value, of a RepeatExt's with its cap
@@ -45,6 +47,7 @@ head (When c p q) = record { kind = 9; argument = configuration c }
 head (Until c p q) = record { kind = 10; argument = configuration c }
 head (Control s p) = record { kind = 11; argument = event s }
 head (Local s p) = record { kind = 12; argument = event s }
+head (Freezable s p) = record { kind = 13; argument = event s }
 head (If v p q) = record { kind = 14; argument = value v }
 
 unfoldable pub kind : Program → ℕ
@@ -66,6 +69,7 @@ pub data One : Program → Program → Type 0 where
   repeat : (n : Times) (p : Program) → One (Repeat n p) p
   control : (s : ℕ) (p : Program) → One (Control s p) p
   local : (s : ℕ) (p : Program) → One (Local s p) p
+  freezable : (s : ℕ) (p : Program) → One (Freezable s p) p
 
 pub data Two : Program → Program → Program → Type 0 where
   seq : (p q : Program) → Two (Seq p q) p q
@@ -94,6 +98,7 @@ parts (When c p q) = two-parts (when c p q) (parts p) (parts q)
 parts (Until c p q) = two-parts (until c p q) (parts p) (parts q)
 parts (Control s p) = one-part (control s p) (parts p)
 parts (Local s p) = one-part (local s p) (parts p)
+parts (Freezable s p) = one-part (freezable s p) (parts p)
 parts (If v p q) = two-parts (if v p q) (parts p) (parts q)
 
 -- the node and all below it

@@ -1,6 +1,6 @@
--- The rules of a pass: 000, rules 1 to 5 and 8 to 39, as 01, "Rules of a pass", settles them, and 001's rules for If and RepeatExt (L14). A
--- constructor carries the number of its rule, 001's, which have none, its name; one that ends in -on runs a node that was rewritten into its part
--- earlier, by the part's own rule.
+-- The rules of a pass: 000, rules 1 to 5 and 8 to 39, as 01, "Rules of a pass", settles them, rules 40 to 45 (L8: "Add Freezable as 000, rules 40 to
+-- 45"), and 001's rules for If and RepeatExt (L14). A constructor carries the number of its rule, 001's, which have none, its name; one that ends in
+-- -on runs a node that was rewritten into its part earlier, by the part's own rule.
 use Prim.Native.Nat.{ℕ, zero, suc}
 use mathlib.Core.Bool.{Bool, true, false}
 use mathlib.Core.Path.{_≡_}
@@ -11,11 +11,11 @@ use Rattle.junior.specs.declared.Flag.the-variants.{SUSP, STOP, TERM}
 use Rattle.junior.specs.Flags.{γ, δ₁, δ₂}
 use Rattle.junior.specs.Configuration.{Config, Event, Env, with-event, generated, sat, unsat, unknown}
 use Rattle.junior.specs.Values.{Values, nonzero, Times, runs-of}
-use Rattle.junior.specs.Program.{Program, Nothing, Stop, Atom, Repeat, Generate, Await}
+use Rattle.junior.specs.Program.{Program, Nothing, Stop, Atom, Repeat, Generate, Await, Freezable}
 use Rattle.junior.specs.Term.{Term, done, nothing, stop, atom, generate, await, seq0, seq2, par, loop0, loop1}
-use Rattle.junior.specs.Term.{repeat0, repeat1, when0, when1, when2, until0, until*, until2, control, local, if0, if1, if2}
-use Rattle.junior.specs.Term.{prog, fresh, leave}
-use Rattle.junior.specs.Trace.{Place, first, second, inside, Act, did-atom, did-generate, decided, waits}
+use Rattle.junior.specs.Term.{repeat0, repeat1, when0, when1, when2, until0, until*, until2, control, local, freezable0, freezable*, if0, if1}
+use Rattle.junior.specs.Term.{if2, prog, fresh, leave}
+use Rattle.junior.specs.Trace.{Place, first, second, inside, Act, piece, did-atom, did-generate, did-park, decided, waits}
 use Rattle.junior.specs.Trace.{scope-answered}
 
 -- t, E —flag→ to, env, doing acts
@@ -60,6 +60,10 @@ left-scope P b s E r =
     (leave (r .flag) (local (sign b (r .flag) (r .env .now s)) s (r .to)))
     (with-event s (E .now s) (r .env))
     (r .acts ++ (scope-answered (P .node) (r .flag) (r .env .now s) ∷ []))
+
+-- a pending Freezable of s at P finds its event present, and its body, which stopped in t, is parked
+abbrev pub freezes : Place → ℕ → Term → Env → List Act
+freezes P s t E = decided P (Event s) true E ∷ did-park (piece s (first P .node) t) ∷ []
 
 -- what a pass is given: which of two rules it may use, 9, a Par runs its right branch first, and 13, a Loop's body that ends in the pass that begins
 -- it begins again; and the box's values
@@ -209,6 +213,26 @@ pub data Rewrites (free : Allowed) : Place → Term → Env → Result → Type 
   r35-39 : {P : Place} {E : Env} {b : Bool} {s : ℕ} {t : Term} {r : Result}
       → Rewrites free (inside s P) t (with-event s b E) r
       → Rewrites free P (local b s t) E (left-scope P b s E r)
+  r40 : {P : Place} {E : Env} {s : ℕ} {t : Term} {r : Result}
+      → Rewrites free (first P) t E r → r .flag ≢ STOP
+      → Rewrites free P (freezable0 s t) E (under (freezable0 s) r)
+  r41 : {P : Place} {E E′ : Env} {s : ℕ} {t t′ : Term} {l : List Act} {r : Result}
+      → Rewrites free (first P) t E (answers STOP t′ E′ l) → Rewrites free P (freezable* s t′) E′ r
+      → Rewrites free P (freezable0 s t) E (after l r)
+  -- 42 to 45 ask whether the event is in E and whether the end is declared: its configuration is sat, unsat or unknown
+  r42 : {P : Place} {E : Env} {s : ℕ} {t : Term}
+      → sat (Event s) E → E .eoi ≡ false
+      → Rewrites free P (freezable* s t) E (answers TERM (done (Freezable s (prog t))) E (freezes P s t E))
+  -- L8: "Once the end is declared, a pending form whose event is present still parks its piece, but answers STOP and leaves Nothing"
+  r43 : {P : Place} {E : Env} {s : ℕ} {t : Term}
+      → sat (Event s) E → E .eoi ≡ true
+      → Rewrites free P (freezable* s t) E (answers STOP (done (Freezable s (prog t))) E (freezes P s t E))
+  r44 : {P : Place} {E : Env} {s : ℕ} {t : Term}
+      → unsat (Event s) E
+      → Rewrites free P (freezable* s t) E (answers STOP (freezable0 s t) E (decided P (Event s) false E ∷ []))
+  r45 : {P : Place} {E : Env} {s : ℕ} {t : Term}
+      → unknown (Event s) E
+      → Rewrites free P (freezable* s t) E (answers SUSP (freezable* s t) E (waits P (Event s) E ∷ []))
   -- 001, "Boolean Test": "the first branch is immediately run if evaluation returns true"; "the second branch is immediately run if evaluation
   -- returns false". L14: "If is chosen when reached".
   if-true : {P : Place} {E : Env} {v : ℕ} {p q : Program} {r : Result}

@@ -3,7 +3,7 @@
 use Prim.Native.Nat.{ℕ, _+_, _*_, max}
 use mathlib.Core.Bool.{Bool, true, false, _&&_, _||_}
 use Rattle.junior.specs.Program.{Program, Nothing, Stop, Atom, Seq, Par, Loop, Repeat, Generate, Await, When, Until}
-use Rattle.junior.specs.Program.{Control, Local, If}
+use Rattle.junior.specs.Program.{Control, Local, Freezable, If}
 use Rattle.junior.specs.Values.{most, surely}
 use Rattle.junior.specs.Figures.{times, per, every}
 
@@ -23,6 +23,7 @@ stopped-before (When c p q) = stopped-before p && stopped-before q
 stopped-before (Until c p q) = stopped-before p && stopped-before q
 stopped-before (Control s p) = stopped-before p
 stopped-before (Local s p) = stopped-before p
+stopped-before (Freezable s p) = false
 stopped-before (If v p q) = stopped-before p && stopped-before q
 
 -- "leaf k; Seq, Par, Until k plus both; When k plus the larger; Control, Local k plus body; Loop k plus twice body; Repeat k plus m times body, m
@@ -41,6 +42,7 @@ figure-before k (When c p q) = k (When c p q) + max (figure-before k p) (figure-
 figure-before k (Until c p q) = k (Until c p q) + (figure-before k p + figure-before k q)
 figure-before k (Control s p) = k (Control s p) + figure-before k p
 figure-before k (Local s p) = k (Local s p) + figure-before k p
+figure-before k (Freezable s p) = k (Freezable s p) + figure-before k p
 figure-before k (If v p q) = k (If v p q) + max (figure-before k p) (figure-before k q)
 
 abbrev pub G-before : Program → ℕ

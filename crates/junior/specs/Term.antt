@@ -6,7 +6,7 @@ use Rattle.junior.specs.declared.Flag.{Flag}
 use Rattle.junior.specs.declared.Flag.the-variants.{SUSP, STOP, TERM}
 use Rattle.junior.specs.Configuration.{Config}
 use Rattle.junior.specs.Program.{Program, Nothing, Stop, Atom, Seq, Par, Loop, Repeat, Generate, Await, When}
-use Rattle.junior.specs.Program.{Until, Control, Local, If}
+use Rattle.junior.specs.Program.{Until, Control, Local, Freezable, If}
 use Rattle.junior.specs.Values.{Times}
 
 pub data Term : Type 0 where
@@ -36,6 +36,8 @@ pub data Term : Type 0 where
   control : ℕ → Term → Term
   -- Local- at false, Local+ at true
   local : Bool → ℕ → Term → Term
+  -- Freezable in its body, and Freezable* (L8: "phase 1 is the pending form and isn't at rest")
+  freezable0 freezable* : ℕ → Term → Term
   -- If not begun, and gone over into its first or its second branch (L14: "If keeps When's phases")
   if0 : ℕ → Program → Program → Term
   if1 : ℕ → Term → Program → Term
@@ -64,6 +66,8 @@ prog (until* c t q) = Until c (prog t) q
 prog (until2 c p t) = Until c p (prog t)
 prog (control s t) = Control s (prog t)
 prog (local b s t) = Local s (prog t)
+prog (freezable0 s t) = Freezable s (prog t)
+prog (freezable* s t) = Freezable s (prog t)
 prog (if0 v p q) = If v p q
 prog (if1 v t q) = If v (prog t) q
 prog (if2 v p t) = If v p (prog t)
@@ -83,6 +87,7 @@ fresh (When c p q) = when0 c p q
 fresh (Until c p q) = until0 c (fresh p) q
 fresh (Control s p) = control s (fresh p)
 fresh (Local s p) = local false s (fresh p)
+fresh (Freezable s p) = freezable0 s (fresh p)
 fresh (If v p q) = if0 v p q
 
 -- "A node that answers TERM leaves Nothing, phase 3."

@@ -5,20 +5,20 @@ use mathlib.Core.Path.{_≡_}
 use mathlib.Core.List.{List, [], _∷_}
 use Rattle.events.specs.Events.{Events, none, put}
 use Rattle.junior.specs.Configuration.{Env, Event, Not, handed-in}
-use Rattle.junior.specs.Program.{Program, Stop, Atom, Seq, Par, Loop, Repeat, Generate, Await, Until}
+use Rattle.junior.specs.Program.{Program, Stop, Atom, Seq, Par, Loop, Repeat, Generate, Await, Until, Freezable}
 use Rattle.junior.specs.Values.{zeros, exactly}
 use Rattle.junior.specs.Term.{Term, prog, fresh}
 use Rattle.junior.specs.Trace.{Place}
 use Rattle.junior.specs.Rules.{Allowed, left-first, Result, Rewrites, r1, r1-on, r2, r3, r4, r4-on, r5, r8, r9, r10, r11, r12, r13}
 use Rattle.junior.specs.Rules.{r4-loop, r5-loop, r14, r15, r4-repeat, r5-repeat, r16, r17, r17-on, r18, r19}
 use Rattle.junior.specs.Rules.{r19-on, r20, r21, r22, r23, r24, r25, r26, r27, r28, r29, r30, r31, r31-on, r32}
-use Rattle.junior.specs.Rules.{r33, r34, r35-39, if-true, if-true-on, if-false, if-false-on}
+use Rattle.junior.specs.Rules.{r33, r34, r35-39, r40, r41, r42, r43, r44, r45, if-true, if-true-on, if-false, if-false-on}
 use Rattle.junior.specs.Instant.{Instant, r47, r48, r49}
 use Rattle.junior.specs.Figures.{every}
 
 module _ (k : Program → ℕ) where
   -- What a node's run runs below it: of each part that is run, the part's own node and what that runs below it. Where a node goes on
-  -- as itself (a Loop or Repeat whose body has ended, an Until whose body has stopped) that is no other run of it: the Repeat counts
+  -- as itself (a Loop or Repeat whose body has ended, an Until or Freezable whose body has stopped) that is no other run of it: the Repeat counts
   -- once, its body once a repetition.
   unfoldable pub below : {free : Allowed} {P : Place} {t : Term} {E : Env} {r : Result} → Rewrites free P t E r → ℕ
   below r1 = 0
@@ -63,6 +63,12 @@ module _ (k : Program → ℕ) where
   below (r33 s) = 0
   below (r34 s) = 0
   below (r35-39 {t = t} d) = k (prog t) + below d
+  below (r40 {t = t} d h) = k (prog t) + below d
+  below (r41 {t = t} d e) = k (prog t) + below d + below e
+  below (r42 s h) = 0
+  below (r43 s h) = 0
+  below (r44 s) = 0
+  below (r45 s) = 0
   below (if-true {p = p} h d) = k p + below d
   below (if-true-on {t = t} d) = k (prog t) + below d
   below (if-false {q = q} h d) = k q + below d
@@ -107,9 +113,10 @@ abbrev pub just-0 : Events
 just-0 = put 0 true none
 
 -- How it is counted. P: Par, Seq and both Awaits, twice; all seven; then Par, in phase 3. A Repeat: itself and three Atoms. A begun
--- Loop: itself, Seq, the Stop in phase 3, and again Seq, Await and, with the event, Stop. An Until that tests goes on as itself.
+-- Loop: itself, Seq, the Stop in phase 3, and again Seq, Await and, with the event, Stop. An Until or a Freezable that tests goes on as itself.
 pub record CountedSo : Type 0 where
   pub of-P : Visited (fresh P) ((none, 4 ∷ 4 ∷ []) ∷ (just-0, 7 ∷ []) ∷ (none, 1 ∷ []) ∷ [])
   pub of-Repeat : Visited (fresh (Repeat (exactly 3) (Atom 4))) ((none, 4 ∷ []) ∷ [])
   pub of-Loop : Visited (fresh (Loop (Seq (Await (Event 0)) Stop))) ((just-0, 4 ∷ []) ∷ (just-0, 6 ∷ []) ∷ (none, 5 ∷ 3 ∷ []) ∷ [])
   pub of-Until : Visited (fresh preempted) ((none, 2 ∷ 1 ∷ []) ∷ (none, 2 ∷ []) ∷ [])
+  pub of-Freezable : Visited (fresh (Freezable 0 Stop)) ((none, 2 ∷ 1 ∷ []) ∷ (just-0, 2 ∷ []) ∷ [])

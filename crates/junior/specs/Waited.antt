@@ -7,7 +7,7 @@ use lib.Dec.{leb, eqb}
 use Rattle.events.specs.Events.{Events}
 use Rattle.junior.specs.Configuration.{Config, Event, Not, And, Or, Env}
 use Rattle.junior.specs.Term.{Term}
-use Rattle.junior.specs.Trace.{Act, did-atom, did-generate, decided, waits, scope-answered}
+use Rattle.junior.specs.Trace.{Act, did-atom, did-generate, did-park, decided, waits, scope-answered}
 use Rattle.junior.specs.Rules.{Allowed, Result}
 use Rattle.junior.specs.Instant.{Instant, r47, r48, r49}
 
@@ -42,11 +42,12 @@ waits-for n none = none
 waits-for n (some e) = some (record { node = n; event = e })
 
 -- of the tests found unknown in these acts "the first suspended test in node order (Await, When, Until*, or Control for its own event) and
--- its event". An event is present or not as the test found it, a local one by its scope.
+-- its event". "L1's tests .. include the pending form" of a Freezable (L8). An event is present or not as the test found it, a local one by its scope.
 unfoldable pub first-wait : List Act → Option Wait
 first-wait [] = none
 first-wait (did-atom a ∷ l) = first-wait l
 first-wait (did-generate s ∷ l) = first-wait l
+first-wait (did-park x ∷ l) = first-wait l
 first-wait (decided P c b E ∷ l) = first-wait l
 first-wait (waits P c E ∷ l) = lower (λ w. w .node) (waits-for (P .node) (lacks c (E .now))) (first-wait l)
 first-wait (scope-answered n α b ∷ l) = first-wait l

@@ -6,7 +6,7 @@ use mathlib.Core.List.{List, [], _∷_}
 use mathlib.Core.Option.{Option, none, some}
 use Rattle.events.specs.Events.{Events, put, none as no-event}
 use Rattle.junior.specs.Configuration.{Event, And, Or, handed-in}
-use Rattle.junior.specs.Program.{Nothing, Seq, Par, Generate, Await, When, Until, Control, Local, Atom, Stop}
+use Rattle.junior.specs.Program.{Nothing, Seq, Par, Generate, Await, When, Until, Control, Local, Freezable, Atom, Stop}
 use Rattle.junior.specs.Values.{zeros}
 use Rattle.junior.specs.Term.{Term, fresh}
 use Rattle.junior.specs.Rules.{left-first, Result}
@@ -45,3 +45,7 @@ pub record WaitedSo : Type 0 where
   pub last-pass : Reported (fresh (Par (When (Event 1) (Await (Event 0)) Nothing) (Generate 1))) ((with [], waits 2 0) ∷ [])
   -- an Until* waits at its Until's node
   pub of-Until : Reported (fresh (Until (Event 0) Stop (Atom 5))) ((with [], waits 0 0) ∷ [])
+  -- and a Freezable* at its Freezable's (L8: "L1's tests .. include the pending form"), as long as its body isn't what waits; a body that has ended
+  -- is never pending
+  pub of-Freezable : Reported (fresh (Freezable 0 Stop)) ((with [], waits 0 0) ∷ (with (0 ∷ []), none) ∷ [])
+  pub of-its-body : Reported (fresh (Freezable 0 (Await (Event 1)))) ((with (0 ∷ []), waits 1 1) ∷ (with [], none) ∷ [])

@@ -7,7 +7,7 @@ use native.Mathlib.Omega.{arith}
 use lib.Dec.{eqb, ltb, leb}
 use borrow.Author.Tests.{eq-eqb, leb-true, ltb-false, not-false}
 use Rattle.junior.specs.Program.{Program, One, Parts, no-part, one-part, two-parts, parts, size, kind}
-use Rattle.junior.specs.Figures.{stops, LoopsStop, G, A, W}
+use Rattle.junior.specs.Figures.{stops, LoopsStop, G, A, W, F}
 use Rattle.table.specs.declared.Checked.{Checked}
 use Rattle.table.specs.declared.Checked.the-variants.{TooDeep, EndlessLoop, TooHeavy, Accepted}
 use Rattle.table.specs.Records.{nodes}
@@ -59,38 +59,46 @@ loops-stop (two-parts {q = q} {r = r} f v w) d k m h =
     (loops-of-two f a b, x)
 
 -- what the program of an accepted table has
-record Allowed (p : Program) (g a w : ℕ) : Type 0 where
+record Allowed (p : Program) (g a w f : ℕ) : Type 0 where
   loops : LoopsStop p
   G-is : g ≡ G p
   A-is : a ≡ A p
   W-is : w ≡ W p
-  few : (G p ≤ 4094) × (A p ≤ 4096) × (W p ≤ 65535)
+  F-is : f ≡ F p
+  few : (G p ≤ 4094) × (A p ≤ 4096) × (W p ≤ 65535) × (F p ≤ 16384)
 
 -- a refused answer isn't an accepted one
-not-accepted : {g a w : ℕ} (c : Checked) (n : ℕ) → numberOf c ≡ suc n → c ≡ Accepted g a w → ⊥
+not-accepted : {g a w f : ℕ} (c : Checked) (n : ℕ) → numberOf c ≡ suc n → c ≡ Accepted g a w f → ⊥
 unfolding numberOf
 not-accepted c n h e = let z = ap numberOf e in omega arith
 
-allowed : (p : Program) {g a w : ℕ} → programVerdict p ≡ Accepted g a w → Allowed p g a w
+allowed : (p : Program) {g a w f : ℕ} → programVerdict p ≡ Accepted g a w f → Allowed p g a w f
 unfolding programVerdict light numberOf
-allowed p {g} {a} {w} h =
-    let Is : Checked → Type 0 = λ c. c ≡ Accepted g a w in
+allowed p {g} {a} {w} {f} h =
+    let Is : Checked → Type 0 = λ c. c ≡ Accepted g a w f in
     let deep-one = passed Is (ltb (firstSuch deep (preorder 1 p)) (size p)) h (not-accepted (TooDeep _) 5 refl) in
     let loop-one = passed Is (ltb (firstSuch endless (preorder 1 p)) (size p)) (deep-one .1) (not-accepted (EndlessLoop _) 6 refl) in
     let (light-one, same) = chosen Is (light p) (loop-one .1) (not-accepted TooHeavy 7 refl) in
     let few-G = both {a = leb (G p) 4094} light-one in
     let few-A = both {a = leb (A p) 4096} (few-G .1) in
+    let few-W = both {a = leb (W p) 65535} (few-A .1) in
     let past = ltb-false (firstSuch endless (preorder 1 p)) (size p) (loop-one .0) in
     record {
       loops = loops-stop (parts p) 1 0 [] (rw (append-nil (preorder 1 p)) (omega arith)) .0;
       G-is = cc;
       A-is = cc;
       W-is = cc;
-      few = (leb-true (G p) 4094 (few-G .0), leb-true (A p) 4096 (few-A .0), leb-true (W p) 65535 (few-A .1));
+      F-is = cc;
+      few = (
+        leb-true (G p) 4094 (few-G .0),
+        leb-true (A p) 4096 (few-A .0),
+        leb-true (W p) 65535 (few-W .0),
+        leb-true (F p) 16384 (few-W .1),
+      );
     }
 
 -- what an accepted table has
-pub record Admitted (t : List ℕ) (g a w : ℕ) : Type 0 where
+pub record Admitted (t : List ℕ) (g a w f : ℕ) : Type 0 where
   pub loaded : Loaded t
   pub placed : Placed t 0 (treeOf t)
   pub loops : LoopsStop (treeOf t)
@@ -98,11 +106,12 @@ pub record Admitted (t : List ℕ) (g a w : ℕ) : Type 0 where
   pub G-is : g ≡ G (treeOf t)
   pub A-is : a ≡ A (treeOf t)
   pub W-is : w ≡ W (treeOf t)
+  pub F-is : f ≡ F (treeOf t)
   pub few : G (treeOf t) ≤ 4094
 
-pub admitted : (t : List ℕ) {g a w : ℕ} → verdictOf t ≡ Accepted g a w → Admitted t g a w
+pub admitted : (t : List ℕ) {g a w f : ℕ} → verdictOf t ≡ Accepted g a w f → Admitted t g a w f
 unfolding numberOf
-admitted t {g} {a} {w} h =
+admitted t h =
     let table = accepted t (ap numberOf h) in
     let good = allowed (treeOf t) (sym (table .verdict-is) ∙ h) in
     let placed = whole-placed (table .loaded) in
@@ -114,5 +123,6 @@ admitted t {g} {a} {w} h =
       G-is = good .G-is;
       A-is = good .A-is;
       W-is = good .W-is;
+      F-is = good .F-is;
       few = good .few .0;
     }

@@ -9,7 +9,7 @@ use Rattle.events.specs.Events.{Events}
 use Rattle.junior.specs.Configuration.{Env}
 use Rattle.junior.specs.Values.{Values, exactly, asked}
 use Rattle.junior.specs.Program.{Program, Nothing, Stop, Atom, Seq, Par, Loop, Repeat, Generate, Await, When, Until}
-use Rattle.junior.specs.Program.{Control, Local, If, kind}
+use Rattle.junior.specs.Program.{Control, Local, Freezable, If, kind}
 use Rattle.junior.specs.Term.{fresh, if0, if1, if2}
 use Rattle.junior.specs.Trace.{Place, first, second}
 use Rattle.junior.specs.Rules.{Allowed, Result, Rewrites, under, if-true, if-false}
@@ -27,9 +27,9 @@ use Rattle.table.proofs.Accepted.{accepted}
 use Rattle.table.proofs.Grown.{fine}
 use Rattle.table.proofs.Loaded.{whole-placed}
 use Rattle.table.proofs.Parts.{by-kind}
-use Rattle.table.proofs.Subtrees.{body, pair}
+use Rattle.table.proofs.Subtrees.{rooted, body, pair}
 use Rattle.kernel.specs.declared.Answer.{Answer}
-use Rattle.kernel.specs.Answer.{nodeOf, eventOf, Run, Answered}
+use Rattle.kernel.specs.Answer.{Rooms, nodeOf, eventOf, Run, Answered}
 use Rattle.kernel.specs.AskTheBox.{RepeatExt, AskTheBox}
 
 module _ {t : List ℕ} (a : Loaded t) where
@@ -51,27 +51,28 @@ module _ {t : List ℕ} (a : Loaded t) where
   names-below Stop i l h = tt
   names-below (Atom n) i l h = tt
   names-below (Seq p q) i l ((k, w), x, y, z) =
-      let c = pair a i l (ap children k) in
+      let c = pair (rooted a) i l (ap children k) in
       (names-below p (i + 1) (c .first-in) y, names-below q (secondAt t i) (c .second-in) z)
   names-below (Par p q) i l ((k, w), x, y, z) =
-      let c = pair a i l (ap children k) in
+      let c = pair (rooted a) i l (ap children k) in
       (names-below p (i + 1) (c .first-in) y, names-below q (secondAt t i) (c .second-in) z)
-  names-below (Loop p) i l ((k, w), x, y) = names-below p (i + 1) (body a i l (ap children k) .first-in) y
-  names-below (Repeat (exactly n) p) i l ((k, w), x, y) = (tt, names-below p (i + 1) (body a i l (ap children k) .first-in) y)
+  names-below (Loop p) i l ((k, w), x, y) = names-below p (i + 1) (body (rooted a) i l (ap children k) .first-in) y
+  names-below (Repeat (exactly n) p) i l ((k, w), x, y) = (tt, names-below p (i + 1) (body (rooted a) i l (ap children k) .first-in) y)
   names-below (Repeat (asked v n) p) i l ((k, w), (x, z), y) =
-      ((omega (arith, x), tt), names-below p (i + 1) (body a i l (ap children k) .first-in) y)
+      ((omega (arith, x), tt), names-below p (i + 1) (body (rooted a) i l (ap children k) .first-in) y)
   names-below (Generate s) i l h = tt
   names-below (Await c) i l h = tt
   names-below (When c p q) i l ((k, w), x, y, z) =
-      let c = pair a i l (ap children k) in
+      let c = pair (rooted a) i l (ap children k) in
       (names-below p (i + 1) (c .first-in) y, names-below q (secondAt t i) (c .second-in) z)
   names-below (Until c p q) i l ((k, w), x, y, z) =
-      let c = pair a i l (ap children k) in
+      let c = pair (rooted a) i l (ap children k) in
       (names-below p (i + 1) (c .first-in) y, names-below q (secondAt t i) (c .second-in) z)
-  names-below (Control s p) i l ((k, w), x, y) = names-below p (i + 1) (body a i l (ap children k) .first-in) y
-  names-below (Local s p) i l ((k, w), x, y) = names-below p (i + 1) (body a i l (ap children k) .first-in) y
+  names-below (Control s p) i l ((k, w), x, y) = names-below p (i + 1) (body (rooted a) i l (ap children k) .first-in) y
+  names-below (Local s p) i l ((k, w), x, y) = names-below p (i + 1) (body (rooted a) i l (ap children k) .first-in) y
+  names-below (Freezable s p) i l ((k, w), x, y) = names-below p (i + 1) (body (rooted a) i l (ap children k) .first-in) y
   names-below (If v p q) i l ((k, w), x, y, z) =
-      let c = pair a i l (ap children k) in
+      let c = pair (rooted a) i l (ap children k) in
       (value-below v i p q l k x, names-below p (i + 1) (c .first-in) y, names-below q (secondAt t i) (c .second-in) z)
 
 sixteen : (t : List ℕ) → numberOf (verdictOf t) ≡ 0 → EachNamed (λ v. v < 16) (treeOf t)
@@ -91,8 +92,8 @@ taken-second {free} {v = v} (if-true h d) z = absurd (omega (arith, leb-true 1 (
 taken-second (if-false {r = r} h d) z = (r, d, refl)
 
 -- a run with other values, given its instant with these
-module _ {t s : List ℕ} {X : Events} {value value′ : Values} {row s′ row′ : List ℕ} {r : Answer} where
-  with-other-values : (x : Run t s X value row s′ row′ r) → AlsoWith value′ (x .instant) → Run t s X value′ row s′ row′ r
+module _ {t s : List ℕ} {X : Events} {value value′ : Values} {lent : Rooms} {s′ : List ℕ} {left : Rooms} {r : Answer} where
+  with-other-values : (x : Run t s X value lent s′ left r) → AlsoWith value′ (x .instant) → Run t s X value′ lent s′ left r
   with-other-values x (i, same) =
       record {
         term = x .term;
@@ -110,16 +111,17 @@ module _ {t s : List ℕ} {X : Events} {value value′ : Values} {row s′ row�
         waits-event-is = x .waits-event-is ∙ ap (λ l. eventOf (first-wait l)) (sym same);
         state-is = x .state-is;
         row-is = x .row-is;
+        store-is = x .store-is;
       }
 
-  answered-alike : ((x : Run t s X value row s′ row′ r) → Run t s X value′ row s′ row′ r) → Answered t s X value row s′ row′ r
-      → Answered t s X value′ row s′ row′ r
+  answered-alike : ((x : Run t s X value lent s′ left r) → Run t s X value′ lent s′ left r) → Answered t s X value lent s′ left r
+      → Answered t s X value′ lent s′ left r
   answered-alike f a = record { outcome-is = a .outcome-is; ran = λ e. f (a .ran e); refused = a .refused }
 
-  by-begun : (x : Run t s X value row s′ row′ r) → Each (λ v. value v ≡ value′ v) (asks-in-all (x .instant)) → Run t s X value′ row s′ row′ r
+  by-begun : (x : Run t s X value lent s′ left r) → Each (λ v. value v ≡ value′ v) (asks-in-all (x .instant)) → Run t s X value′ lent s′ left r
   by-begun x a = with-other-values x (asked-only .only-what-is-begun (x .instant) value′ a)
 
-  by-named : EachNamed (λ v. value v ≡ value′ v) (treeOf t) → (x : Run t s X value row s′ row′ r) → Run t s X value′ row s′ row′ r
+  by-named : EachNamed (λ v. value v ≡ value′ v) (treeOf t) → (x : Run t s X value lent s′ left r) → Run t s X value′ lent s′ left r
   by-named n x = by-begun x (asked-only .only-what-is-named (λ v. value v ≡ value′ v) (x .instant) (rw (x .program) n))
 
 pub ask-the-box : AskTheBox

@@ -22,7 +22,7 @@ use Rattle.junior.proofs.Fresh.{fresh-at-rest, prog-fresh}
 use Rattle.junior.proofs.Going.{leaves-rest, program-kept}
 use Rattle.junior.proofs.Exists.{goes-by, begins, seq0-runs, loop0-runs, loop1-runs, repeat0-runs, again-runs}
 use Rattle.junior.proofs.Exists.{repeat1-runs, await-runs, when0-runs, if0-runs, until*-runs, until0-runs, control-runs}
-use Rattle.junior.proofs.Exists.{pass-exists}
+use Rattle.junior.proofs.Exists.{freezable*-runs, freezable0-runs, pass-exists}
 use Rattle.junior.proofs.Figures.{loops-fresh}
 use Rattle.junior.proofs.Instants.{ends-by, ends-within, ends}
 use Rattle.table.specs.declared.Checked.{Checked}
@@ -37,13 +37,17 @@ use Rattle.table.specs.Verdict.{preorder, firstSuch, light, programVerdict, nod
 use Rattle.state.specs.StateBytes.{below, stateBytes}
 use Rattle.state.proofs.Parts.{fresh-zeros}
 use Rattle.state.specs.Resting.{zeroNode, zeroNodes, phaseRests, flagsRest, countRests, rests}
+use Rattle.state.specs.Pieces.{piecesBytes}
+use Rattle.store.specs.Store.{isBody, pieceGood, piecesGood, storeGood, storeRoom, adding}
+use Rattle.table.specs.Part.{partTable}
 use Rattle.kernel.specs.declared.Outcome.{Outcome}
 use Rattle.kernel.specs.declared.Outcome.the-variants.{Ran, Table}
-use Rattle.kernel.specs.Answer.{outcomeNumber, outcomeIndex, onAccepted, startOutcome, instantOutcome, startedRoom}
+use Rattle.kernel.specs.Answer.{outcomeNumber, outcomeIndex, onAccepted, startOutcome, storeOutcome, instantOutcome, startedRoom}
 use Rattle.kernel.specs.Answer.{valuesOf, Started}
-use Rattle.kernel.specs.Bench.{Line, Entry, accepted, refused, not-started, not-run, resumed, Checks, Starts, Answers}
-use Rattle.kernel.specs.Bench.{Follow, Alone, word-of, words-of, set, turned-down, asking, Shown, All, phases, K1-to-K12}
+use Rattle.kernel.specs.Bench.{Line, Entry, parking, refused, not-started, not-run, resumed, Checks, Starts, Answers}
+use Rattle.kernel.specs.Bench.{Follow, Alone, word-of, words-of, set, turned-down, asking, storing, Shown, All, phases, K1-to-K12}
 use Rattle.kernel.specs.Bench.{more-of-the-forms, loops, resumed-rooms, tests, figures, harmless-loops, waiting-tests, asking-the-box}
+use Rattle.kernel.specs.Bench.{parked-pieces, refused-stores}
 use Rattle.kernel.specs.Bench.{many-events, refused-tables, refused-rooms, not-at-rest, bench-list}
 use Rattle.kernel.proofs.Accepted.{admitted}
 use Rattle.kernel.proofs.Outcomes.{start-ran}
@@ -52,56 +56,56 @@ use Rattle.kernel.proofs.Lines.{downFrom, soughtOutcome, sought-outcome
 use Rattle.kernel.proofs.Lines.{outcome-past-rest, only-answers, run-answers, refused-answers}
 
 -- what is seen of the instants of these lines, from the term x at rest with b behind it in the room
-told-by : List ℕ → ℕ → List ℕ → (x : Term) → LoopsStop (prog x) → AtRest x → (y : Line)
+told-by : List ℕ → ℕ → ℕ → List ℕ → (x : Term) → LoopsStop (prog x) → AtRest x → (y : Line)
     → (y .answer .outcome ≡ Ran) ⊎ (y .answer .outcome ≢ Ran)
     → ((u : Term) → LoopsStop (prog u) → AtRest u → List Seen)
     → List Seen
-told-by t a b x o r y (inl e) later =
+told-by t a f b x o r y (inl e) later =
     let (n, u, i) = ends (left-first (valuesOf (y .values))) x o r (members (y .handed)) in
-    seen-run y b (past-rest t a y) n u (waited i) ∷ later (u .to) (rw (program-kept i) o) (leaves-rest i r)
-told-by t a b x o r y (inr e) later = seen-refused y (stateBytes x ++ b) (past-rest t a y) ∷ later x o r
+    seen-run y b (past-rest t a f y) n u (waited i) ∷ later (u .to) (rw (program-kept i) o) (leaves-rest i r)
+told-by t a f b x o r y (inr e) later = seen-refused y (stateBytes x ++ b) (past-rest t a f y) ∷ later x o r
 
-told : List ℕ → ℕ → List ℕ → (x : Term) → LoopsStop (prog x) → AtRest x → List Line → List Seen
-told t a b x o r [] = []
-told t a b x o r (y ∷ l) = told-by t a b x o r y (ran-or-not (y .answer .outcome)) (λ u p q. told t a b u p q l)
+told : List ℕ → ℕ → ℕ → List ℕ → (x : Term) → LoopsStop (prog x) → AtRest x → List Line → List Seen
+told t a f b x o r [] = []
+told t a f b x o r (y ∷ l) = told-by t a f b x o r y (ran-or-not (y .answer .outcome)) (λ u p q. told t a f b u p q l)
 
-follows : (t : List ℕ) {g a w : ℕ} → verdictOf t ≡ Accepted g a w → (b : List ℕ) (x : Term) → prog x ≡ treeOf t
+follows : (t : List ℕ) {g a w f : ℕ} → verdictOf t ≡ Accepted g a w f → (b : List ℕ) (x : Term) → prog x ≡ treeOf t
     → (o : LoopsStop (prog x)) (r : AtRest x) (l : List Line)
-    → told t a b x o r l ≡ map seen l
+    → told t a f b x o r l ≡ map seen l
     → Follow t (stateBytes x ++ b) l
 unfolding told told-by Follow
 follows t v b x e o r [] h = tt
-follows t {a = a} v b x e o r (y ∷ l) h =
+follows t {a = a} {f = f} v b x e o r (y ∷ l) h =
     go (ran-or-not (y .answer .outcome)) (λ u e o r. follows t v b u e o r l) h
   where
     go : (c : (y .answer .outcome ≡ Ran) ⊎ (y .answer .outcome ≢ Ran))
         → ((u : Term) → prog u ≡ treeOf t → (p : LoopsStop (prog u)) (q : AtRest u)
-        → told t a b u p q l ≡ map seen l
+        → told t a f b u p q l ≡ map seen l
         → Follow t (stateBytes u ++ b) l)
-        → told-by t a b x o r y c (λ u p q. told t a b u p q l) ≡ seen y ∷ map seen l
+        → told-by t a f b x o r y c (λ u p q. told t a f b u p q l) ≡ seen y ∷ map seen l
         → Answers t (stateBytes x ++ b) y × Follow t (y .state) l
-    go (inl ran) f h =
+    go (inl ran) later-on h =
         let (n, u, i) = ends (left-first (valuesOf (y .values))) x o r (members (y .handed)) in
-        let now : seen-run y b (past-rest t a y) n u (waited i) ≡ seen y = cc in
-        let later : told t a b (u .to) (rw (program-kept i) o) (leaves-rest i r) l ≡ map seen l = cc in (
+        let now : seen-run y b (past-rest t a f y) n u (waited i) ≡ seen y = cc in
+        let later : told t a f b (u .to) (rw (program-kept i) o) (leaves-rest i r) l ≡ map seen l = cc in (
           run-answers t v b x e r y i ran now,
-          subst (λ s. Follow t s l) (ap (λ z. z .state) now) (f (u .to) (program-kept i ∙ e) _ _ later),
+          subst (λ s. Follow t s l) (ap (λ z. z .state) now) (later-on (u .to) (program-kept i ∙ e) _ _ later),
         )
-    go (inr not) f h =
-        let now : seen-refused y (stateBytes x ++ b) (past-rest t a y) ≡ seen y = cc in
-        let later : told t a b x o r l ≡ map seen l = cc in (
-          refused-answers t (stateBytes x ++ b) y (past-rest t a y) (outcome-past-rest t v b x e r y) not now,
-          subst (λ s. Follow t s l) (ap (λ z. z .state) now) (f x e o r later),
+    go (inr not) later-on h =
+        let now : seen-refused y (stateBytes x ++ b) (past-rest t a f y) ≡ seen y = cc in
+        let later : told t a f b x o r l ≡ map seen l = cc in (
+          refused-answers t (stateBytes x ++ b) y (past-rest t a f y) (outcome-past-rest t v b x e r y) not now,
+          subst (λ s. Follow t s l) (ap (λ z. z .state) now) (later-on x e o r later),
         )
 
 starts-by : {t s s′ : List ℕ} {o : Outcome} {n i : ℕ} → Started t s s′ o → outcomeNumber o ≡ n → outcomeIndex o ≡ i → Starts t s o n i s′
 starts-by a n i = record { started = a; only = λ q. one-start q a; number-is = n; index-is = i }
 
 -- the program of an accepted table, fresh
-fresh-loops : (t : List ℕ) {g a w : ℕ} → verdictOf t ≡ Accepted g a w → LoopsStop (prog (fresh (treeOf t)))
+fresh-loops : (t : List ℕ) {g a w f : ℕ} → verdictOf t ≡ Accepted g a w f → LoopsStop (prog (fresh (treeOf t)))
 fresh-loops t v = loops-fresh (treeOf t) (admitted t v .loops)
 
-starts : (t : List ℕ) {g a w : ℕ} → verdictOf t ≡ Accepted g a w
+starts : (t : List ℕ) {g a w f : ℕ} → verdictOf t ≡ Accepted g a w f
     → Starts t (replicate (4 * nodes t + 1) 255) Ran 0 0 (replicate (4 * nodes t) 0 ++ (255 ∷ []))
 unfolding startedRoom outcomeNumber outcomeIndex
 starts t v =
@@ -139,10 +143,10 @@ stand-alone t (y ∷ l) h = go (ran-or-not (y .answer .outcome)) (stand-alone t 
 
 -- a verdict accepts, or it is the outcome of every call
 abbrev Accepts : Checked → Type 0
-Accepts c = (g : ℕ) × (a : ℕ) × (w : ℕ) × (c ≡ Accepted g a w)
+Accepts c = (g : ℕ) × (a : ℕ) × (w : ℕ) × (f : ℕ) × (c ≡ Accepted g a w f)
 
 abbrev Refuses : Checked → Type 0
-Refuses c = (go : ℕ → Outcome) → onAccepted c go ≡ Table c
+Refuses c = (go : ℕ → ℕ → Outcome) → onAccepted c go ≡ Table c
 
 unfoldable judged : (c : Checked) → Accepts c ⊎ Refuses c
 judged BadLength = inr (λ go. refl)
@@ -153,7 +157,7 @@ judged (BadNode i) = inr (λ go. refl)
 judged (TooDeep i) = inr (λ go. refl)
 judged (EndlessLoop i) = inr (λ go. refl)
 judged TooHeavy = inr (λ go. refl)
-judged (Accepted g a w) = inl (g, a, w, refl)
+judged (Accepted g a w f) = inl (g, a, w, f, refl)
 
 -- what is to be seen of an entry: the verdict and the instants; a verdict that refuses, its number, index and figures; the outcome of a
 -- start, its number and index, and the room after it; the instants alone
@@ -165,8 +169,8 @@ data View : Type 0 where
 
 -- by its table's verdict, where it must be accepted and where it must not; else there is nothing to see
 if-accepted : (t : List ℕ) → List Line → Accepts (verdictOf t) ⊎ Refuses (verdictOf t) → View
-if-accepted t l (inl (g, a, w, v)) =
-    of-accepted (Accepted g a w) (told t a (255 ∷ []) (fresh (treeOf t)) (fresh-loops t v) (fresh-at-rest (treeOf t)) l)
+if-accepted t l (inl (g, a, w, f, v)) =
+    of-accepted (Accepted g a w f) (told t a f (255 ∷ []) (fresh (treeOf t)) (fresh-loops t v) (fresh-at-rest (treeOf t)) l)
 if-accepted t l (inr e) = of-alone []
 
 if-refused : (c : Checked) → Accepts c ⊎ Refuses c → View
@@ -175,7 +179,7 @@ if-refused c (inr e) = of-refused c (numberOf c) (indexOf c) (figuresOf c)
 
 -- an entry as it computes, and as the list has it; of one from a given room nothing is to be seen without the term that stands there
 computed : Entry → View
-computed (accepted t g a w l) = if-accepted t l (judged (verdictOf t))
+computed (parking t g a w f l) = if-accepted t l (judged (verdictOf t))
 computed (refused t c n i) = if-refused (verdictOf t) (judged (verdictOf t))
 computed (not-started t s o n i) =
     let q = startOutcome t s in
@@ -184,22 +188,23 @@ computed (not-run t l) = of-alone (told-alone t l)
 computed (resumed t s l) = of-alone []
 
 listed : Entry → View
-listed (accepted t g a w l) = of-accepted (Accepted g a w) (map seen l)
+listed (parking t g a w f l) = of-accepted (Accepted g a w f) (map seen l)
 listed (refused t c n i) = of-refused c n i no-figures
 listed (not-started t s o n i) = of-start o n i s
 listed (not-run t l) = of-alone (map seen l)
 listed (resumed t s l) = of-start Ran 0 0 s
 
 -- on a refused table
-module _ (t : List ℕ) (c : Checked) {n i : ℕ} (h : Checks t c n i 0 0 0) (away : Refuses c) where
+module _ (t : List ℕ) (c : Checked) {n i : ℕ} (h : Checks t c n i 0 0 0 0) (away : Refuses c) where
   no-start : (s : List ℕ) → Starts t s (Table c) n i s
   unfolding startOutcome startedRoom outcomeNumber outcomeIndex
   no-start s =
       starts-by (record { outcome-is = rw (h .verdict-is, away _); room-is = refl }) (h .number-is) (h .index-is)
 
-  no-instant : (s : List ℕ) (X : EventSet) (values row : List ℕ) → Answers t s (asking values (turned-down X row s (Table c) n i))
+  no-instant : (s : List ℕ) (X : EventSet) (values row store : List ℕ)
+      → Answers t s (asking values (storing store store (turned-down X row s (Table c) n i)))
   unfolding instantOutcome outcomeNumber outcomeIndex word-of words-of fit
-  no-instant s X values row =
+  no-instant s X values row store =
       let nowhere : members (set []) ≡ none = marks-zeros (places / 64) in
       only-answers
       (record {
@@ -224,20 +229,20 @@ module _ (t : List ℕ) (c : Checked) {n i : ℕ} (h : Checks t c n i 0 0 0) (aw
       (h .number-is)
       (h .index-is)
 
-show-accepted : (t : List ℕ) (g a w : ℕ) (l : List Line) (c : Accepts (verdictOf t) ⊎ Refuses (verdictOf t))
-    → if-accepted t l c ≡ of-accepted (Accepted g a w) (map seen l)
-    → Shown (accepted t g a w l)
+show-accepted : (t : List ℕ) (g a w f : ℕ) (l : List Line) (c : Accepts (verdictOf t) ⊎ Refuses (verdictOf t))
+    → if-accepted t l c ≡ of-accepted (Accepted g a w f) (map seen l)
+    → Shown (parking t g a w f l)
 unfolding if-accepted Shown numberOf indexOf figuresOf
-show-accepted t g a w l (inl (g′, a′, w′, v)) e =
+show-accepted t g a w f l (inl (g′, a′, w′, f′, v)) e =
     let p = treeOf t in
-    let lines : told t a′ (255 ∷ []) (fresh p) (fresh-loops t v) (fresh-at-rest p) l ≡ map seen l = cc in
+    let lines : told t a′ f′ (255 ∷ []) (fresh p) (fresh-loops t v) (fresh-at-rest p) l ≡ map seen l = cc in
     let zero-bytes : stateBytes (fresh p) ≡ replicate (4 * nodes t) 0 = fresh-zeros p ∙ ap (λ n. replicate (4 * n) 0) (admitted t v .whole) in (
       record { verdict-is = v ∙ cc; number-is = refl; index-is = refl; figures-are = refl },
       starts t v,
       subst (λ z. Follow t (z ++ (255 ∷ [])) l) zero-bytes
           (follows t v (255 ∷ []) (fresh p) (prog-fresh p) (fresh-loops t v) (fresh-at-rest p) l lines),
     )
-show-accepted t g a w l (inr r) e = absurd (let z : _≡_ {A = ℕ} 0 1 = cc in omega arith)
+show-accepted t g a w f l (inr r) e = absurd (let z : _≡_ {A = ℕ} 0 1 = cc in omega arith)
 
 show-refused : (t : List ℕ) (c : Checked) (n i : ℕ) (d : Accepts (verdictOf t) ⊎ Refuses (verdictOf t))
     → if-refused (verdictOf t) d ≡ of-refused c n i no-figures
@@ -249,13 +254,13 @@ show-refused t c n i (inr r) e =
     let number : numberOf (verdictOf t) ≡ n = cc in
     let index : indexOf (verdictOf t) ≡ i = cc in
     let figures : figuresOf (verdictOf t) ≡ no-figures = cc in
-    let h : Checks t c n i 0 0 0 = record { verdict-is = v; number-is = rw v at number; index-is = rw v at index; figures-are = rw v at figures } in
+    let h : Checks t c n i 0 0 0 0 = record { verdict-is = v; number-is = rw v at number; index-is = rw v at index; figures-are = rw v at figures } in
     let away : Refuses c = rw v at r in
     (h, no-start t c h away, no-instant t c h away)
 
 shows : (e : Entry) → computed e ≡ listed e → Shown e
 unfolding computed listed Shown
-shows (accepted t g a w l) e = show-accepted t g a w l (judged (verdictOf t)) e
+shows (parking t g a w f l) e = show-accepted t g a w f l (judged (verdictOf t)) e
 shows (refused t c n i) e = show-refused t c n i (judged (verdictOf t)) e
 shows (not-started t s o n i) e =
     let outcome : startOutcome t s ≡ o = cc in
@@ -267,9 +272,9 @@ shows (not-run t l) e = stand-alone t l cc
 shows (resumed t s l) e = absurd (let z : _≡_ {A = ℕ} 0 1 = cc in omega arith)
 
 -- one from a given room, by the term x that stands there
-resumes : (t : List ℕ) {g a w : ℕ} → verdictOf t ≡ Accepted g a w → (x : Term) → prog x ≡ treeOf t
+resumes : (t : List ℕ) {g a w f : ℕ} → verdictOf t ≡ Accepted g a w f → (x : Term) → prog x ≡ treeOf t
     → (o : LoopsStop (prog x)) (r : AtRest x) (l : List Line)
-    → told t a (255 ∷ []) x o r l ≡ map seen l
+    → told t a f (255 ∷ []) x o r l ≡ map seen l
     → All Shown (resumed t (stateBytes x ++ (255 ∷ [])) l ∷ [])
 unfolding All Shown
 resumes t v x e o r l h = (follows t v (255 ∷ []) x e o r l h, tt)
@@ -291,7 +296,8 @@ unfolding computed listed if-accepted if-refused judged told told-by told-alone 
     size kind stops early-true early-false figure outcomeNumber outcomeIndex startOutcome startedRoom instantOutcome rests phaseRests flagsRest
     countRests zeroNode zeroNodes lowest howMany marks put test fixed eval prog fresh leave collect below ends ends-within ends-by pass-exists begins goes-by
     seq0-runs loop0-runs loop1-runs repeat0-runs repeat1-runs again-runs await-runs when0-runs if0-runs until0-runs until*-runs control-runs
-    LoopsStop AtRest first-wait before-the-end lacks
+    LoopsStop AtRest first-wait before-the-end lacks storeOutcome storeGood piecesGood pieceGood isBody storeRoom adding piecesBytes partTable
+    freezable0-runs freezable*-runs
 bench =
     and-all K1-to-K12 _ (all-show K1-to-K12 refl)
     (and-all more-of-the-forms _ (all-show more-of-the-forms refl)
@@ -303,8 +309,10 @@ bench =
     (and-all waiting-tests _ (all-show waiting-tests refl)
     (and-all many-events _ (all-show many-events refl)
     (and-all asking-the-box _ (all-show asking-the-box refl)
+    (and-all parked-pieces _ (all-show parked-pieces refl)
+    (and-all refused-stores _ (all-show refused-stores refl)
     (and-all refused-tables _ (all-show refused-tables refl)
-    (and-all refused-rooms _ (all-show refused-rooms refl) (all-show not-at-rest refl))))))))))))
+    (and-all refused-rooms _ (all-show refused-rooms refl) (all-show not-at-rest refl))))))))))))))
   where
     resumed-shown : All Shown resumed-rooms
     resumed-shown =

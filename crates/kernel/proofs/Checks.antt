@@ -1,5 +1,6 @@
--- The twelve checks, each by the test that the definitions make: it fails exactly if the test is false, and with one index.
-use Prim.Native.Nat.{ℕ, zero, suc, _+_, _*_, _≤_, _<_}
+-- The fourteen checks, each by the test that the definitions make: it fails exactly if the test is false, and with one index. For the two of the store
+-- that holds once the checks before it are passed.
+use Prim.Native.Nat.{ℕ, zero, suc, _+_, _*_, _≤_, _<_, min}
 use mathlib.Core.Bool.{Bool, true, false, cond, not, _&&_, and-false, false≢true}
 use mathlib.Core.Path.{_≡_, refl, ap, sym, _∙_}
 use mathlib.Core.Logic.{_≢_, _⊎_, inl, inr}
@@ -14,25 +15,32 @@ use Rattle.events.specs.Events.{Events, lowest}
 use Rattle.events.specs.Members.{places}
 use Rattle.events.proofs.Events.{before-lowest, at-lowest, lowest-is}
 use Rattle.junior.specs.Program.{Program, Loop, Parts, no-part, one-part, two-parts, parts, size, kind}
-use Rattle.junior.specs.Figures.{stops, G, A, W}
+use Rattle.junior.specs.Figures.{stops, G, A, W, F}
+use Rattle.junior.specs.Trace.{Piece}
 use Rattle.table.specs.declared.Checked.the-variants.{BadLength, BadCounts, BadDistances, BadConfiguration, BadNode}
 use Rattle.table.specs.declared.Checked.the-variants.{TooDeep, EndlessLoop, TooHeavy}
 use Rattle.table.specs.Records.{nodes, configurations, events, back-to-nodes, back-to-configurations}
 use Rattle.table.specs.Good.{goodConfiguration, goodNode}
 use Rattle.table.specs.Spells.{treeOf}
+use Rattle.table.specs.Inside.{Loaded}
 use Rattle.table.specs.Verdict.{lengthGood, countsGood, distancesGood, Node, preorder, firstSuch, deep, endlessParts}
 use Rattle.table.specs.Verdict.{endless, light, numberOf, indexOf}
 use Rattle.table.proofs.Laid.{both}
 use Rattle.table.proofs.Parts.{loop-of-kind}
 use Rattle.table.proofs.Order.{length-preorder}
 use Rattle.state.specs.Resting.{rests, blamed}
+use Rattle.store.specs.Store.{inUse, storeGood, storeRoom}
+use Rattle.store.specs.Stored.{Stored}
+use Rattle.store.proofs.GoodStore.{stored}
+use Rattle.store.proofs.Room.{no-room, no-store}
 use Rattle.kernel.specs.declared.Outcome.{Outcome}
 use Rattle.kernel.specs.declared.Outcome.the-variants.{Table, StateRoom, NotAtRest, UnlistedEvent, AtomRoom}
-use Rattle.kernel.specs.Answer.{outcomeNumber, outcomeIndex, hasRoom, unlisted}
+use Rattle.kernel.specs.declared.Outcome.the-variants.{BadStore, StoreRoom}
+use Rattle.kernel.specs.Answer.{Bytes, outcomeNumber, outcomeIndex, hasRoom, unlisted}
 use Rattle.kernel.specs.Demand1.{Handed, LowestBad, LowestNode, Endless, Check, its-length, its-counts}
 use Rattle.kernel.specs.Demand1.{its-distances}
 use Rattle.kernel.specs.Demand1.{its-configurations, its-nodes, its-depth, its-loops, its-figures, state-room}
-use Rattle.kernel.specs.Demand1.{state-at-rest, listed-events, atom-room, number, Fails}
+use Rattle.kernel.specs.Demand1.{state-at-rest, listed-events, atom-room, good-store, store-room, number, Fails}
 
 -- the test of a check, and the outcome where it is false
 abbrev pub ok : Check → Handed → Bool
@@ -48,6 +56,8 @@ ok state-room h = hasRoom (h .table) (h .state)
 ok state-at-rest h = not (ltb (blamed (h .table) (h .state)) (nodes (h .table)))
 ok listed-events h = not (ltb (unlisted (h .table) (h .handed-in)) places)
 ok atom-room h = leb (A (treeOf (h .table))) (length (h .row))
+ok good-store h = storeGood (h .table) (h .store)
+ok store-room h = leb (F (treeOf (h .table))) (storeRoom (h .store))
 
 abbrev pub refusal : Check → Handed → Outcome
 refusal its-length h = Table BadLength
@@ -62,6 +72,8 @@ refusal state-room h = StateRoom
 refusal state-at-rest h = NotAtRest (blamed (h .table) (h .state))
 refusal listed-events h = UnlistedEvent (unlisted (h .table) (h .handed-in))
 refusal atom-room h = AtomRoom
+refusal good-store h = BadStore
+refusal store-room h = StoreRoom
 
 pub numbered : (c : Check) (h : Handed) → outcomeNumber (refusal c h) ≡ number c
 unfolding outcomeNumber numberOf
@@ -77,6 +89,25 @@ numbered state-room h = refl
 numbered state-at-rest h = refl
 numbered listed-events h = refl
 numbered atom-room h = refl
+numbered good-store h = refl
+numbered store-room h = refl
+
+-- what the checks before a check have shown, where it is asked for
+abbrev pub Shown : Check → Handed → Type 0
+Shown its-length h = Unit {0}
+Shown its-counts h = Unit {0}
+Shown its-distances h = Unit {0}
+Shown its-configurations h = Unit {0}
+Shown its-nodes h = Unit {0}
+Shown its-depth h = Unit {0}
+Shown its-loops h = Unit {0}
+Shown its-figures h = Unit {0}
+Shown state-room h = Unit {0}
+Shown state-at-rest h = Unit {0}
+Shown listed-events h = Unit {0}
+Shown atom-room h = Unit {0}
+Shown good-store h = Loaded (h .table) × Bytes (h .store)
+Shown store-room h = (2 + inUse (h .store) ≤ length (h .store)) × (inUse (h .store) < 65536)
 
 -- a fact that is so exactly if a test is false
 record Says (b : Bool) (P : Type 0) : Type 0 where
@@ -226,39 +257,60 @@ distances-says h = or-says (eq-says _ _) (or-says (eq-says _ _) (eq-says _ _))
 
 figures-says : (h : Handed)
     → Says (ok its-figures h)
-    ((4094 < G (treeOf (h .table))) ⊎ ((4096 < A (treeOf (h .table))) ⊎ (65535 < W (treeOf (h .table)))))
+    ((4094 < G (treeOf (h .table)))
+    ⊎ ((4096 < A (treeOf (h .table))) ⊎ ((65535 < W (treeOf (h .table))) ⊎ (16384 < F (treeOf (h .table))))))
 unfolding light
 figures-says h =
-    or-says (le-says (G (treeOf (h .table))) 4094) (or-says (le-says (A (treeOf (h .table))) 4096) (le-says (W (treeOf (h .table))) 65535))
+    or-says (le-says (G (treeOf (h .table))) 4094)
+    (or-says (le-says (A (treeOf (h .table))) 4096)
+    (or-says (le-says (W (treeOf (h .table))) 65535) (le-says (F (treeOf (h .table))) 16384)))
+
+-- 25: no list of pieces stands in a store that isn't good
+store-says : (h : Handed) → Shown good-store h → Says (ok good-store h) ((l : List Piece) → Stored (h .table) (h .store) l → ⊥)
+store-says h (loaded, low) = record { so = λ e l. no-store loaded e; back = λ none. go none (ok good-store h) refl }
+  where
+    go : ((l : List Piece) → Stored (h .table) (h .store) l → ⊥) → (b : Bool) → ok good-store h ≡ b → ok good-store h ≡ false
+    go none true e = let (l, there) = stored loaded low e in absurd (none l there)
+    go none false e = e
+
+-- 13
+room-says : (s : List ℕ) (f : ℕ) → 2 + inUse s ≤ length s → inUse s < 65536 → Says (leb f (storeRoom s)) (min (length s) 65537 < 2 + inUse s + f)
+unfolding storeRoom
+room-says s f l u =
+    record { so = λ e. no-room s f l (leb-false f (storeRoom s) e); back = λ h. lt-leb f (storeRoom s) (omega arith) }
 
 -- where the test is false the check fails
-pub fails : (c : Check) (h : Handed) → ok c h ≡ false → Fails c h (outcomeIndex (refusal c h))
+pub fails : (c : Check) (h : Handed) → Shown c h → ok c h ≡ false → Fails c h (outcomeIndex (refusal c h))
 unfolding outcomeIndex indexOf
-fails its-length h e = (length-says h .so e, refl)
-fails its-counts h e = (counts-says h .so e, refl)
-fails its-distances h e = (distances-says h .so e, refl)
-fails its-configurations h e = lowest-bad (goodConfiguration (h .table)) (configurations (h .table)) e
-fails its-nodes h e = lowest-bad (goodNode (h .table)) (nodes (h .table)) e
-fails its-depth h e = lowest-in deep-test (treeOf (h .table)) e
-fails its-loops h e = lowest-in endless-test (treeOf (h .table)) e
-fails its-figures h e = (figures-says h .so e, refl)
-fails state-room h e = (leb-false (4 * nodes (h .table)) (length (h .state)) e, refl)
-fails state-at-rest h e = lowest-bad (rests (h .table) (h .state)) (nodes (h .table)) e
-fails listed-events h e = lowest-unlisted (h .handed-in) (events (h .table)) places e
-fails atom-room h e = (leb-false (A (treeOf (h .table))) (length (h .row)) e, refl)
+fails its-length h shown e = (length-says h .so e, refl)
+fails its-counts h shown e = (counts-says h .so e, refl)
+fails its-distances h shown e = (distances-says h .so e, refl)
+fails its-configurations h shown e = lowest-bad (goodConfiguration (h .table)) (configurations (h .table)) e
+fails its-nodes h shown e = lowest-bad (goodNode (h .table)) (nodes (h .table)) e
+fails its-depth h shown e = lowest-in deep-test (treeOf (h .table)) e
+fails its-loops h shown e = lowest-in endless-test (treeOf (h .table)) e
+fails its-figures h shown e = (figures-says h .so e, refl)
+fails state-room h shown e = (leb-false (4 * nodes (h .table)) (length (h .state)) e, refl)
+fails state-at-rest h shown e = lowest-bad (rests (h .table) (h .state)) (nodes (h .table)) e
+fails listed-events h shown e = lowest-unlisted (h .handed-in) (events (h .table)) places e
+fails atom-room h shown e = (leb-false (A (treeOf (h .table))) (length (h .row)) e, refl)
+fails good-store h shown e = (store-says h shown .so e, refl)
+fails store-room h (all, low) e = (room-says (h .store) (F (treeOf (h .table))) all low .so e, refl)
 
 -- and nowhere else, with no other index
-pub failing : (c : Check) (h : Handed) (i : ℕ) → Fails c h i → (ok c h ≡ false) × (i ≡ outcomeIndex (refusal c h))
+pub failing : (c : Check) (h : Handed) → Shown c h → (i : ℕ) → Fails c h i → (ok c h ≡ false) × (i ≡ outcomeIndex (refusal c h))
 unfolding outcomeIndex indexOf
-failing its-length h i (b, e) = (length-says h .back b, e)
-failing its-counts h i (b, e) = (counts-says h .back b, e)
-failing its-distances h i (b, e) = (distances-says h .back b, e)
-failing its-configurations h i b = only-bad (goodConfiguration (h .table)) (configurations (h .table)) i b
-failing its-nodes h i b = only-bad (goodNode (h .table)) (nodes (h .table)) i b
-failing its-depth h i b = only-in deep-test (treeOf (h .table)) i b
-failing its-loops h i b = only-in endless-test (treeOf (h .table)) i b
-failing its-figures h i (b, e) = (figures-says h .back b, e)
-failing state-room h i (b, e) = (lt-leb (4 * nodes (h .table)) (length (h .state)) b, e)
-failing state-at-rest h i b = only-bad (rests (h .table) (h .state)) (nodes (h .table)) i b
-failing listed-events h i (a, b, c, d) = only-unlisted (h .handed-in) (events (h .table)) places i a b c d
-failing atom-room h i (b, e) = (lt-leb (A (treeOf (h .table))) (length (h .row)) b, e)
+failing its-length h shown i (b, e) = (length-says h .back b, e)
+failing its-counts h shown i (b, e) = (counts-says h .back b, e)
+failing its-distances h shown i (b, e) = (distances-says h .back b, e)
+failing its-configurations h shown i b = only-bad (goodConfiguration (h .table)) (configurations (h .table)) i b
+failing its-nodes h shown i b = only-bad (goodNode (h .table)) (nodes (h .table)) i b
+failing its-depth h shown i b = only-in deep-test (treeOf (h .table)) i b
+failing its-loops h shown i b = only-in endless-test (treeOf (h .table)) i b
+failing its-figures h shown i (b, e) = (figures-says h .back b, e)
+failing state-room h shown i (b, e) = (lt-leb (4 * nodes (h .table)) (length (h .state)) b, e)
+failing state-at-rest h shown i b = only-bad (rests (h .table) (h .state)) (nodes (h .table)) i b
+failing listed-events h shown i (a, b, c, d) = only-unlisted (h .handed-in) (events (h .table)) places i a b c d
+failing atom-room h shown i (b, e) = (lt-leb (A (treeOf (h .table))) (length (h .row)) b, e)
+failing good-store h shown i (b, e) = (store-says h shown .back b, e)
+failing store-room h (all, low) i (b, e) = (room-says (h .store) (F (treeOf (h .table))) all low .back b, e)

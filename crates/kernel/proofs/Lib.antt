@@ -1,6 +1,7 @@
 -- Laws, in the order in which they lean on one another.
 pub mod Unlisted
 pub mod Accepted
+pub mod FreePart
 pub mod Outcomes
 pub mod ValueWords
 pub mod Passing

@@ -17,7 +17,7 @@ use Rattle.events.proofs.Events.{lowest-is}
 use Rattle.events.proofs.Sets.{members-past}
 use Rattle.junior.specs.Configuration.{handed-in}
 use Rattle.junior.specs.Term.{Term, prog}
-use Rattle.junior.specs.Trace.{atoms, generations}
+use Rattle.junior.specs.Trace.{atoms, generations, parks}
 use Rattle.junior.specs.Rules.{left-first, Result}
 use Rattle.junior.specs.Instant.{Instant}
 use Rattle.junior.specs.AtRest.{AtRest}
@@ -31,11 +31,14 @@ use Rattle.table.specs.Verdict.{verdictOf}
 use Rattle.table.proofs.Laid.{both}
 use Rattle.state.specs.StateBytes.{stateBytes}
 use Rattle.state.proofs.Parts.{len-bytes}
+use Rattle.state.specs.Pieces.{piecesBytes}
 use Rattle.state.specs.Resting.{blamed}
 use Rattle.state.proofs.Blameless.{resting}
+use Rattle.store.specs.Store.{adding}
 use Rattle.kernel.specs.declared.Outcome.{Outcome}
 use Rattle.kernel.specs.declared.Outcome.the-variants.{Ran, StateRoom, NotAtRest, UnlistedEvent, AtomRoom}
-use Rattle.kernel.specs.Answer.{outcomeNumber, outcomeIndex, onAccepted, hasRoom, instantOutcome, ended, nodeOf, eventOf, valuesOf, Answered}
+use Rattle.kernel.specs.Answer.{Rooms, rooms, outcomeNumber, outcomeIndex, onAccepted, hasRoom, storeOutcome, instantOutcome, ended, nodeOf, eventOf}
+use Rattle.kernel.specs.Answer.{valuesOf, Answered}
 use Rattle.kernel.specs.Bench.{Line, Answers}
 use Rattle.kernel.proofs.Accepted.{admitted}
 use Rattle.kernel.proofs.Outcomes.{instant-is}
@@ -83,20 +86,23 @@ sought-is X =
 abbrev soughtUnlisted : List ℕ → Events → ℕ
 soughtUnlisted t X = sought (λ e. X e && leb (events t) e)
 
-abbrev pub soughtOutcome : List ℕ → List ℕ → Events → List ℕ → Outcome
-soughtOutcome t s X row =
-    onAccepted (verdictOf t) (λ a.
+abbrev pub soughtOutcome : List ℕ → List ℕ → Events → Rooms → Outcome
+soughtOutcome t s X lent =
+    onAccepted (verdictOf t) (λ a f.
     cond
     (hasRoom t s)
     (cond
     (ltb (blamed t s) (nodes t))
     (NotAtRest (blamed t s))
-    (cond (ltb (soughtUnlisted t X) places) (UnlistedEvent (soughtUnlisted t X)) (cond (leb a (length row)) Ran AtomRoom)))
+    (cond
+    (ltb (soughtUnlisted t X) places)
+    (UnlistedEvent (soughtUnlisted t X))
+    (cond (leb a (length (lent .row))) (storeOutcome t (lent .store) f) AtomRoom)))
     StateRoom)
 
-pub sought-outcome : (t s : List ℕ) (X : Events) (row : List ℕ) → soughtOutcome t s X row ≡ instantOutcome t s X row
+pub sought-outcome : (t s : List ℕ) (X : Events) (lent : Rooms) → soughtOutcome t s X lent ≡ instantOutcome t s X lent
 unfolding instantOutcome
-sought-outcome t s X row = rw (sought-is (λ e. X e && leb (events t) e))
+sought-outcome t s X lent = rw (sought-is (λ e. X e && leb (events t) e))
 
 -- Sets: two are the same if they are so in their places and neither has an event without one.
 
@@ -172,7 +178,7 @@ pub record Seen : Type 0 where
   pub waits-node : ℕ
   pub waits-event : ℕ
   pub state : List ℕ
-  pub row : List ℕ
+  pub left : Rooms
   pub handed-whole : Bool
   pub reported-whole : Bool
   pub generated-placed : Bool
@@ -191,7 +197,7 @@ seen y = record {
   waits-node = y .answer .waits .node;
   waits-event = y .answer .waits .event;
   state = y .state;
-  row = y .row;
+  left = y .left;
   handed-whole = whole (y .handed);
   reported-whole = whole (y .answer .events);
   generated-placed = true;
@@ -212,7 +218,7 @@ seen-run y b o n r w = record {
   waits-node = nodeOf w;
   waits-event = eventOf w;
   state = stateBytes (r .to) ++ b;
-  row = atoms (r .acts) ++ drop (length (atoms (r .acts))) (y .lent);
+  left = rooms (atoms (r .acts) ++ drop (length (atoms (r .acts))) (y .lent .row)) (adding (piecesBytes (parks (r .acts))) (y .lent .store));
   handed-whole = true;
   reported-whole = true;
   generated-placed = placed (generations (r .acts));
@@ -233,28 +239,28 @@ seen-refused y s o = record {
   waits-node = 4096;
   waits-event = places;
   state = s;
-  row = y .lent;
+  left = y .lent;
   handed-whole = whole (y .handed);
   reported-whole = true;
   generated-placed = true;
 }
 
--- a table accepted with A = a; a state room that a term at rest stands in: only events and row are left to be refused
-abbrev pub past-rest : List ℕ → ℕ → Line → Outcome
-past-rest t a y =
+-- a table accepted with A = a and F = f; a state room that a term at rest stands in: only events, row and store are left to be refused
+abbrev pub past-rest : List ℕ → ℕ → ℕ → Line → Outcome
+past-rest t a f y =
     cond
     (ltb (soughtUnlisted t (members (y .handed))) places)
     (UnlistedEvent (soughtUnlisted t (members (y .handed))))
-    (cond (leb a (length (y .lent))) Ran AtomRoom)
+    (cond (leb a (length (y .lent .row))) (storeOutcome t (y .lent .store) f) AtomRoom)
 
 -- the room in which x stands has 4N bytes of it in front
-room-long : (t : List ℕ) {g a w : ℕ} → verdictOf t ≡ Accepted g a w → (x : Term) → prog x ≡ treeOf t → length (stateBytes x) ≡ 4 * nodes t
+room-long : (t : List ℕ) {g a w f : ℕ} → verdictOf t ≡ Accepted g a w f → (x : Term) → prog x ≡ treeOf t → length (stateBytes x) ≡ 4 * nodes t
 room-long t v x e = rw (len-bytes x, e, admitted t v .whole)
 
-pub outcome-past-rest : (t : List ℕ) {g a w : ℕ} → verdictOf t ≡ Accepted g a w → (b : List ℕ) (x : Term) → prog x ≡ treeOf t
+pub outcome-past-rest : (t : List ℕ) {g a w f : ℕ} → verdictOf t ≡ Accepted g a w f → (b : List ℕ) (x : Term) → prog x ≡ treeOf t
     → AtRest x
     → (y : Line)
-    → past-rest t a y ≡ instantOutcome t (stateBytes x ++ b) (members (y .handed)) (y .lent)
+    → past-rest t a f y ≡ instantOutcome t (stateBytes x ++ b) (members (y .handed)) (y .lent)
 outcome-past-rest t v b x e rest y =
     let s : List ℕ = stateBytes x ++ b in
     let long = room-long t v x e in
@@ -268,20 +274,20 @@ outcome-past-rest t v b x e rest y =
     )
 
 -- a line that is seen so is what instant answers, and nothing else
-pub only-answers : {t s : List ℕ} {y : Line} → Answered t s (members (y .handed)) (valuesOf (y .values)) (y .lent) (y .state) (y .row) (y .answer)
+pub only-answers : {t s : List ℕ} {y : Line} → Answered t s (members (y .handed)) (valuesOf (y .values)) (y .lent) (y .state) (y .left) (y .answer)
     → Whole (y .answer .events)
     → outcomeNumber (y .answer .outcome) ≡ y .number
     → outcomeIndex (y .answer .outcome) ≡ y .index
     → Answers t s y
 only-answers a w n i = record { answered = a; only = λ u q. one-instant u w q a; number-is = n; index-is = i }
 
-pub run-answers : (t : List ℕ) {g a w : ℕ} → verdictOf t ≡ Accepted g a w → (b : List ℕ) (x : Term) → prog x ≡ treeOf t
+pub run-answers : (t : List ℕ) {g a w f : ℕ} → verdictOf t ≡ Accepted g a w f → (b : List ℕ) (x : Term) → prog x ≡ treeOf t
     → AtRest x
     → (y : Line)
     → {n : ℕ} {r : Result}
     → (i : Instant (left-first (valuesOf (y .values))) x (handed-in (members (y .handed))) n r)
     → y .answer .outcome ≡ Ran
-    → seen-run y b (past-rest t a y) n r (waited i) ≡ seen y
+    → seen-run y b (past-rest t a f y) n r (waited i) ≡ seen y
     → Answers t (stateBytes x ++ b) y
 run-answers t v b x e rest y {n} {r} i ran s =
     let long = room-long t v x e in
@@ -313,7 +319,8 @@ run-answers t v b x e rest y {n} {r} i ran s =
         waits-node-is = sym (ap (λ z. z .waits-node) s) ∙ ap nodeOf reports;
         waits-event-is = sym (ap (λ z. z .waits-event) s) ∙ ap eventOf reports;
         state-is = rw (drop-at (stateBytes x) b (4 * nodes t) long) (sym (ap (λ z. z .state) s));
-        row-is = rw atoms-are (sym (ap (λ z. z .row) s));
+        row-is = rw atoms-are (sym (ap (λ z. z .left .row) s));
+        store-is = sym (ap (λ z. z .left .store) s);
       };
       refused = λ k. absurd (k ran);
     })
@@ -344,7 +351,7 @@ refused-answers t s y o i n e =
           waits-event-is = sym (ap (λ z. z .waits-event) e);
         },
         sym (ap (λ z. z .state) e),
-        sym (ap (λ z. z .row) e),
+        sym (ap (λ z. z .left) e),
       );
     })
     reported

@@ -12,7 +12,7 @@ use Rattle.junior.specs.Configuration.{handed-in}
 use Rattle.junior.specs.Program.{Program, Generate, Argument, no-argument, number, event, configuration, value, capped, argument, kind}
 use Rattle.junior.specs.Program.{Leaf, nothing, stop, atom, generate, await, Parts, no-part, one-part, two-parts, parts}
 use Rattle.junior.specs.Term.{Term, prog}
-use Rattle.junior.specs.Trace.{Act, did-atom, did-generate, decided, waits, scope-answered, collect, generations}
+use Rattle.junior.specs.Trace.{Act, did-atom, did-generate, did-park, decided, waits, scope-answered, collect, generations}
 use Rattle.junior.specs.Rules.{Allowed, Result}
 use Rattle.junior.specs.Instant.{Instant}
 use Rattle.junior.specs.AtRest.{AtRest}
@@ -27,7 +27,7 @@ use Rattle.table.specs.Verdict.{verdictOf}
 use Rattle.table.specs.Inside.{Loaded}
 use Rattle.table.proofs.Grown.{fine}
 use Rattle.table.proofs.Parts.{partCount, by-kind, children-are, figures-of-none, weightless-one, weightless-two}
-use Rattle.table.proofs.Subtrees.{body, pair}
+use Rattle.table.proofs.Subtrees.{rooted, body, pair}
 use Rattle.kernel.proofs.Accepted.{admitted}
 
 module _ (e : ℕ) where
@@ -53,6 +53,7 @@ module _ (e : ℕ) where
       go : (b : Bool) → cond b 1 0 + cost raises l ≡ 0 → among e (generations l) ≡ false → (b || among e (generations l)) ≡ false
       go true z more = absurd (omega arith)
       go false z more = more
+  none-raised (did-park x ∷ l) h = none-raised l (omega arith)
   none-raised (decided P c b E ∷ l) h = none-raised l (omega arith)
   none-raised (waits P c E ∷ l) h = none-raised l (omega arith)
   none-raised (scope-answered n α b ∷ l) h = none-raised l (omega arith)
@@ -82,9 +83,9 @@ module _ (e : ℕ) where
     weightless (no-part f) i l ((k, w), x) = figures-of-none {e = 0} f .figure-is raises ∙ leaf-weightless i l k f x
     weightless (one-part f v) i l ((k, w), x, y) =
         weightless-one f raises (not-raised (one-part f v) (omega arith))
-        (weightless v (i + 1) (body a i l (ap children k ∙ children-are (one-part f v)) .first-in) y)
+        (weightless v (i + 1) (body (rooted a) i l (ap children k ∙ children-are (one-part f v)) .first-in) y)
     weightless (two-parts f v w) i l ((k, s), x, y, z) =
-        let c = pair a i l (ap children k ∙ children-are (two-parts f v w)) in
+        let c = pair (rooted a) i l (ap children k ∙ children-are (two-parts f v w)) in
         weightless-two f raises (not-raised (two-parts f v w) (omega arith))
         (weightless v (i + 1) (c .first-in) y) (weightless w (secondAt t i) (c .second-in) z)
 
@@ -92,7 +93,7 @@ module _ (e : ℕ) where
     unfolding Spells
     all-weightless p i l h = weightless (parts p) i l h
 
-pub reports-listed : (t : List ℕ) {g a w : ℕ} → verdictOf t ≡ Accepted g a w → {free : Allowed} {x : Term} {X : Events} {n : ℕ} {r : Result}
+pub reports-listed : (t : List ℕ) {g a w f : ℕ} → verdictOf t ≡ Accepted g a w f → {free : Allowed} {x : Term} {X : Events} {n : ℕ} {r : Result}
     → prog x ≡ treeOf t
     → AtRest x
     → Instant free x (handed-in X) n r

@@ -6,15 +6,16 @@ use Rattle.events.specs.Events.{Events}
 use Rattle.junior.specs.Values.{Values}
 use Rattle.junior.proofs.NeverRoundTwice.{never-round-twice as by-the-rules}
 use Rattle.kernel.specs.declared.Answer.{Answer}
-use Rattle.kernel.specs.Answer.{Answered}
+use Rattle.kernel.specs.Answer.{Rooms, Answered}
 use Rattle.kernel.specs.Demand2.{Premises}
 use Rattle.kernel.specs.NeverRoundTwice.{NeverRoundTwice}
 use Rattle.kernel.proofs.Accepted.{admitted}
-use Rattle.kernel.proofs.Demand2.{runs, stands, gives}
+use Rattle.kernel.proofs.Demand2.{runs, stands, pieces-of, gives}
 
-pub never-round-twice : {t s : List ℕ} {X : Events} {value : Values} {row s′ row′ : List ℕ} {a : Answer} → Premises t s X row
-    → Answered t s X value row s′ row′ a
-    → NeverRoundTwice t s X value row s′ row′ a
+pub never-round-twice : {t s : List ℕ} {X : Events} {value : Values} {lent : Rooms} {s′ : List ℕ} {left : Rooms} {a : Answer}
+    → Premises t s X lent
+    → Answered t s X value lent s′ left a
+    → NeverRoundTwice t s X value lent s′ left a
 never-round-twice {t} p o =
     let r = o .ran (o .outcome-is ∙ sym (runs p)) in
     record {
@@ -22,5 +23,6 @@ never-round-twice {t} p o =
       stands = stands r;
       result = r .result;
       instant = by-the-rules .instant (rw (r .program) (admitted t (p .accepted) .loops)) (r .instant);
+      pieces = pieces-of p .0;
       gives = gives p r;
     }

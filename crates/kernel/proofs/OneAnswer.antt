@@ -12,7 +12,7 @@ use Rattle.events.proofs.Sets.{same-members}
 use Rattle.junior.specs.Values.{Values}
 use Rattle.junior.specs.Configuration.{Env}
 use Rattle.junior.specs.Term.{Term}
-use Rattle.junior.specs.Trace.{atoms}
+use Rattle.junior.specs.Trace.{atoms, parks}
 use Rattle.junior.specs.Rules.{left-first, Result}
 use Rattle.junior.specs.Instant.{Instant}
 use Rattle.junior.specs.Waited.{waited}
@@ -22,12 +22,14 @@ use Rattle.table.specs.declared.Checked.{Checked}
 use Rattle.table.specs.Records.{nodes}
 use Rattle.table.specs.Verdict.{verdictOf}
 use Rattle.state.specs.StateBytes.{stateBytes}
+use Rattle.state.specs.Pieces.{piecesBytes}
 use Rattle.state.proofs.OneTerm.{one-term}
+use Rattle.store.specs.Store.{adding}
 use Rattle.kernel.specs.declared.Outcome.{Outcome}
 use Rattle.kernel.specs.declared.Outcome.the-variants.{Ran, Table, StateRoom, NotAtRest, UnlistedEvent}
-use Rattle.kernel.specs.declared.Outcome.the-variants.{AtomRoom}
+use Rattle.kernel.specs.declared.Outcome.the-variants.{AtomRoom, BadStore, StoreRoom}
 use Rattle.kernel.specs.declared.Answer.{Answer}
-use Rattle.kernel.specs.Answer.{startedRoom, ended, nodeOf, eventOf, Run, Refused, Started, Answered}
+use Rattle.kernel.specs.Answer.{Rooms, startedRoom, ended, nodeOf, eventOf, Run, Refused, Started, Answered}
 use Rattle.kernel.specs.Exports.{instant-length, startPlaces, instantPlaces, StartedInPlaces, AnsweredInPlaces}
 
 pub one-check : (t : List ℕ) (q r : Checked) → q ≡ verdictOf t → r ≡ verdictOf t → q ≡ r
@@ -54,6 +56,10 @@ same-answer q r a b c d e f g h k =
       waits = record { node = h i; event = k i };
     }
 
+-- and so are two pairs of rooms
+same-rooms : (x y : Rooms) → x .row ≡ y .row → x .store ≡ y .store → x ≡ y
+same-rooms x y a b = λ i. record { row = a i; store = b i }
+
 -- from one term, however that is said, instants report one test
 same-waited : {value : Values} {x y : Term} {E : Env} {m n : ℕ} {r s : Result} → x ≡ y
     → (i : Instant (left-first value) x E m r) (j : Instant (left-first value) y E n s)
@@ -71,13 +77,15 @@ ran-or-not StateRoom = inr (λ e. let z : _≡_ {A = ℕ} 0 1 = cc in omega arit
 ran-or-not (NotAtRest i) = inr (λ e. let z : _≡_ {A = ℕ} 0 1 = cc in omega arith)
 ran-or-not (UnlistedEvent n) = inr (λ e. let z : _≡_ {A = ℕ} 0 1 = cc in omega arith)
 ran-or-not AtomRoom = inr (λ e. let z : _≡_ {A = ℕ} 0 1 = cc in omega arith)
+ran-or-not BadStore = inr (λ e. let z : _≡_ {A = ℕ} 0 1 = cc in omega arith)
+ran-or-not StoreRoom = inr (λ e. let z : _≡_ {A = ℕ} 0 1 = cc in omega arith)
 
 module _ {q r : Answer} (f : Whole (q .events)) (g : Whole (r .events)) (o : q .outcome ≡ r .outcome) where
   -- two that ran: the state has one term, and the rules one result
-  same-run : {t s : List ℕ} {X : Events} {value : Values} {row s₁ s₂ row₁ row₂ : List ℕ} → Run t s X value row s₁ row₁ q
-      → Run t s X value row s₂ row₂ r
-      → (q ≡ r) × (s₁ ≡ s₂) × (row₁ ≡ row₂)
-  same-run {t} {s} {row = row} x y =
+  same-run : {t s : List ℕ} {X : Events} {value : Values} {lent : Rooms} {s₁ s₂ : List ℕ} {left₁ left₂ : Rooms} → Run t s X value lent s₁ left₁ q
+      → Run t s X value lent s₂ left₂ r
+      → (q ≡ r) × (s₁ ≡ s₂) × (left₁ ≡ left₂)
+  same-run {t} {s} {lent = lent} {left₁ = left₁} {left₂ = left₂} x y =
       let term-is = one-term (y .term) (x .term) (y .program ∙ sym (x .program)) (sym (y .bytes) ∙ x .bytes) in
       let (passes-are, result-is) = one-outcome (x .instant) (rw term-is at (y .instant)) in
       let reports = same-waited (sym term-is) (x .instant) (y .instant) in
@@ -92,9 +100,11 @@ module _ {q r : Answer} (f : Whole (q .events)) (g : Whole (r .events)) (o : q .
             (x .waits-node-is ∙ (ap nodeOf reports ∙ sym (y .waits-node-is)))
             (x .waits-event-is ∙ (ap eventOf reports ∙ sym (y .waits-event-is))),
         x .state-is ∙ (ap (λ z. stateBytes (z .to) ++ drop (4 * nodes t) s) result-is ∙ sym (y .state-is)),
-        x .row-is
-            ∙ (ap (λ z. atoms (z .acts) ++ drop (q .atoms) row) result-is
-            ∙ (ap (λ n. atoms (y .result .acts) ++ drop n row) atoms-are ∙ sym (y .row-is))),
+        same-rooms left₁ left₂
+            (x .row-is
+            ∙ (ap (λ z. atoms (z .acts) ++ drop (q .atoms) (lent .row)) result-is
+            ∙ (ap (λ n. atoms (y .result .acts) ++ drop n (lent .row)) atoms-are ∙ sym (y .row-is))))
+            (x .store-is ∙ (ap (λ z. adding (piecesBytes (parks (z .acts))) (lent .store)) result-is ∙ sym (y .store-is))),
       )
 
   same-refusal : Refused q → Refused r → q ≡ r
@@ -105,21 +115,21 @@ module _ {q r : Answer} (f : Whole (q .events)) (g : Whole (r .events)) (o : q .
       (x .waits-node-is ∙ sym (y .waits-node-is)) (x .waits-event-is ∙ sym (y .waits-event-is))
 
 -- what a running program holds as a set of events is Whole (`whole` in crate events, proofs/Sets)
-pub one-instant : {t s : List ℕ} {X : Events} {value : Values} {row s₁ s₂ row₁ row₂ : List ℕ} {q r : Answer} → Whole (q .events) → Whole (r .events)
-    → Answered t s X value row s₁ row₁ q
-    → Answered t s X value row s₂ row₂ r
-    → (q ≡ r) × (s₁ ≡ s₂) × (row₁ ≡ row₂)
-one-instant {s₁ = s₁} {s₂ = s₂} {row₁ = row₁} {row₂ = row₂} {q = q} {r = r} f g a b = go (ran-or-not (q .outcome))
+pub one-instant : {t s : List ℕ} {X : Events} {value : Values} {lent : Rooms} {s₁ s₂ : List ℕ} {left₁ left₂ : Rooms} {q r : Answer} → Whole (q .events) → Whole (r .events)
+    → Answered t s X value lent s₁ left₁ q
+    → Answered t s X value lent s₂ left₂ r
+    → (q ≡ r) × (s₁ ≡ s₂) × (left₁ ≡ left₂)
+one-instant {s₁ = s₁} {s₂ = s₂} {left₁ = left₁} {left₂ = left₂} {q = q} {r = r} f g a b = go (ran-or-not (q .outcome))
   where
     same : q .outcome ≡ r .outcome
     same = a .outcome-is ∙ sym (b .outcome-is)
 
-    go : (q .outcome ≡ Ran) ⊎ (q .outcome ≢ Ran) → (q ≡ r) × (s₁ ≡ s₂) × (row₁ ≡ row₂)
+    go : (q .outcome ≡ Ran) ⊎ (q .outcome ≢ Ran) → (q ≡ r) × (s₁ ≡ s₂) × (left₁ ≡ left₂)
     go (inl e) = same-run f g same (a .ran e) (b .ran (sym same ∙ e))
     go (inr n) =
-        let (x, x-state, x-row) = a .refused n in
-        let (y, y-state, y-row) = b .refused (λ e. n (same ∙ e)) in
-        (same-refusal f g same x y, x-state ∙ sym y-state, x-row ∙ sym y-row)
+        let (x, x-state, x-rooms) = a .refused n in
+        let (y, y-state, y-rooms) = b .refused (λ e. n (same ∙ e)) in
+        (same-refusal f g same x y, x-state ∙ sym y-state, x-rooms ∙ sym y-rooms)
 
 -- the same of the calls for C: an answer's places are what any array of 64-bit numbers is
 pub record Places (n : ℕ) (l : List ℕ) : Type 0 where
@@ -138,11 +148,11 @@ whole-in-places p a l e =
       fits = λ q. let n = suc (suc (suc (suc (suc (suc (suc (suc (suc q)))))))) in rw (ap (λ z. getD z n 0) e) at (l .fits n);
     }
 
-pub one-instant-in-places : {t s words values row s₁ s₂ row₁ row₂ p₁ p₂ : List ℕ} → Places instant-length p₁ → Places instant-length p₂
-    → AnsweredInPlaces t s words values row s₁ row₁ p₁
-    → AnsweredInPlaces t s words values row s₂ row₂ p₂
-    → (p₁ ≡ p₂) × (s₁ ≡ s₂) × (row₁ ≡ row₂)
+pub one-instant-in-places : {t s words values : List ℕ} {lent : Rooms} {s₁ s₂ : List ℕ} {left₁ left₂ : Rooms} {p₁ p₂ : List ℕ} → Places instant-length p₁ → Places instant-length p₂
+    → AnsweredInPlaces t s words values lent s₁ left₁ p₁
+    → AnsweredInPlaces t s words values lent s₂ left₂ p₂
+    → (p₁ ≡ p₂) × (s₁ ≡ s₂) × (left₁ ≡ left₂)
 one-instant-in-places {p₁ = p₁} {p₂ = p₂} f g a b =
-    let (r, s, row) =
+    let (r, s, left) =
     one-instant (whole-in-places p₁ (a .answer) f (a .written)) (whole-in-places p₂ (b .answer) g (b .written)) (a .answered) (b .answered) in
-    (a .written ∙ (ap instantPlaces r ∙ sym (b .written)), s, row)
+    (a .written ∙ (ap instantPlaces r ∙ sym (b .written)), s, left)

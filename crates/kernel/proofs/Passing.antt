@@ -21,10 +21,10 @@ use Rattle.junior.specs.Values.{Values}
 use Rattle.junior.specs.Configuration.{Env, handed-in, unmoved, declared-end}
 use Rattle.junior.specs.Program.{Program, size}
 use Rattle.junior.specs.Term.{Term, prog, done}
-use Rattle.junior.specs.Trace.{Act, root, atom-of, atoms, collect}
+use Rattle.junior.specs.Trace.{Act, root, atom-of, piece-of, atoms, parks, collect}
 use Rattle.junior.specs.Rules.{left-first, Result, answers, after, Rewrites}
 use Rattle.junior.specs.Instant.{Instant, r47, r48, r49}
-use Rattle.junior.specs.Figures.{per, G}
+use Rattle.junior.specs.Figures.{per, parking, G}
 use Rattle.junior.specs.Inside.{pot}
 use Rattle.junior.specs.Waited.{Wait, first-wait, before-the-end, waited}
 use Rattle.junior.proofs.Little.{collect-++}
@@ -39,18 +39,22 @@ use Rattle.junior.proofs.Waited.{one-waited}
 use Rattle.table.specs.Records.{nodes}
 use Rattle.table.proofs.Tree.{size-pos}
 use Rattle.state.specs.StateBytes.{zeros, below, stateBytes}
+use Rattle.state.specs.Pieces.{piecesBytes}
 use Rattle.state.proofs.Parts.{len-bytes}
-use Rattle.steps.specs.Running.{atoms-done, envOf, valuesIn, Any, Ready, Ran, Wrote, something-moved, end-declared}
+use Rattle.state.proofs.Pieces.{pieces-++}
+use Rattle.store.specs.Store.{two}
+use Rattle.steps.specs.Running.{atoms-done, bytes-parked, envOf, valuesIn, Rooms, rooms-of, Any, Ready, Ran, Wrote, something-moved, end-declared}
 use Rattle.table.specs.Reading.{event-words}
 use Rattle.steps.specs.Numbers.{moved-at, ended-at, places-of-row, wordsOf, tallyOf, firstNumbers, nextNumbers, Numbers}
 use Rattle.steps.specs.Flags.{flagOf}
 use Rattle.steps.specs.Kinds.{all-seen}
 use Rattle.steps.specs.Lent.{lent, Stands, Went, CanRun, HasRun}
-use Rattle.steps.proofs.Done.{wrote-long, few, values-apart}
+use Rattle.steps.proofs.Done.{few, room-after, values-apart}
 use Rattle.steps.proofs.Row.{still, tally-1, tally-2, first-words, first-tally, first-holds, next-words, next-holds}
-use Rattle.kernel.specs.declared.Answer.{Answer}
-use Rattle.kernel.specs.Answer.{Run, ended as ended-by, nodeOf, eventOf}
-use Rattle.kernel.specs.Passes.{wordValues, Startable, Reported, LeadsIfStill, WaitsAfter}
+use Rattle.kernel.specs.declared.passes.Ending.{Ending}
+use Rattle.kernel.specs.Answer.{ended as ended-by, nodeOf, eventOf}
+use Rattle.kernel.specs.Passes.{wordValues, Startable, RanFree, Reported, LeadsIfStill, WaitsAfter}
+use Rattle.kernel.proofs.FreePart.{begun-empty}
 use Rattle.waiting.specs.declared.Wait as W
 use Rattle.waiting.specs.Down.{StandsAt, Leads}
 
@@ -84,7 +88,13 @@ next-done : (l : List ℕ) → atoms-done (next-tally l) ≡ atoms-done l
 next-done [] = refl
 next-done (a ∷ l) = refl
 
--- atoms written behind others
+next-parked : (l : List ℕ) → bytes-parked (next-tally l) ≡ bytes-parked l
+next-parked [] = refl
+next-parked (a ∷ []) = refl
+next-parked (a ∷ b ∷ []) = refl
+next-parked (a ∷ b ∷ c ∷ l) = refl
+
+-- numbers written behind others
 wrote-on : {xs row row′ : List ℕ} {at at′ : ℕ} (ys row₀ : List ℕ) → Wrote xs row at row′ at′ → at ≡ length ys
     → row ≡ ys ++ drop (length ys) row₀
     → row′ ≡ (ys ++ xs) ++ drop (length (ys ++ xs)) row₀
@@ -114,23 +124,26 @@ pub record Names (w : W.Wait) (o : Option Wait) : Type 0 where
 abbrev Soon : Term → ℕ → Term → Bool → Type 0
 Soon t₀ passes t ended = passes + cond ended 0 (pot (per 7) t) ≤ G (prog t₀) + cond ended 1 0
 
--- from t₀ with X and these values handed in, over the row row₀: the state, the words, the row and the tally after so many passes
-pub record Underway (table : List ℕ) (t₀ : Term) (X : Events) (value : Values) (row₀ state words row tally : List ℕ) (passes : ℕ) : Type 0 where
+-- from t₀ with X and these values handed in, over the rooms rooms₀: the state, the words, the rooms and the tally after so many passes
+pub record Underway (table : List ℕ) (t₀ : Term) (X : Events) (value : Values) (rooms₀ : Rooms) (state words : List ℕ) (rooms : Rooms)
+    (tally : List ℕ) (passes : ℕ) : Type 0 where
   pub term : Term
   pub acts : List Act
-  pub ready : Ready 0 table 0 state words row tally term
+  pub ready : Ready 0 table 0 state words rooms tally term
   pub same-program : prog term ≡ prog t₀
   pub same-values : valuesIn tally ≡ value
   pub onward : Onward value t₀ X passes acts term (envOf words tally)
   pub done-is : atoms-done tally ≡ length (atoms acts)
-  pub row-is : row ≡ atoms acts ++ drop (length (atoms acts)) row₀
+  pub row-is : rooms .row ≡ atoms acts ++ drop (length (atoms acts)) (rooms₀ .row)
+  pub parked-is : bytes-parked tally ≡ length (piecesBytes (parks acts))
+  pub store-is : rooms .store ≡ piecesBytes (parks acts) ++ drop (length (piecesBytes (parks acts))) (rooms₀ .store)
   pub still : envOf words tally .move ≡ false
   pub soon : Soon t₀ passes term (envOf words tally .eoi)
   pub named : Option Wait
   pub tells : Tells value t₀ X term (envOf words tally) named
 
-module _ {table : List ℕ} {t₀ : Term} {X : Events} {value : Values} {row₀ state words row tally : List ℕ} {passes : ℕ}
-    (u : Underway table t₀ X value row₀ state words row tally passes) where
+module _ {table : List ℕ} {t₀ : Term} {X : Events} {value : Values} {rooms₀ : Rooms} {state words : List ℕ} {rooms : Rooms} {tally : List ℕ}
+    {passes : ℕ} (u : Underway table t₀ X value rooms₀ state words rooms tally passes) where
   pub few-passes : passes ≤ G (prog t₀) + 1
   few-passes = go (envOf words tally .eoi) (u .soon)
     where
@@ -138,7 +151,8 @@ module _ {table : List ℕ} {t₀ : Term} {X : Events} {value : Values} {row₀ 
       go true h = omega arith
       go false h = omega arith
 
-  module _ {state′ words′ row′ tally′ : List ℕ} {α : Flag} (ran : Ran root (u .term) words row tally state′ words′ row′ tally′ α) where
+  module _ {state′ words′ : List ℕ} {rooms′ : Rooms} {tally′ : List ℕ} {α : Flag}
+      (ran : Ran root (u .term) words rooms tally state′ words′ rooms′ tally′ α) where
     -- the acts of all passes
     abbrev pub all-acts : List Act
     all-acts = u .acts ++ ran .acts
@@ -146,12 +160,25 @@ module _ {table : List ℕ} {t₀ : Term} {X : Events} {value : Values} {row₀ 
     all-atoms : atoms all-acts ≡ atoms (u .acts) ++ atoms (ran .acts)
     all-atoms = collect-++ atom-of (u .acts) (ran .acts)
 
-    pub row-after : row′ ≡ atoms all-acts ++ drop (length (atoms all-acts)) row₀
-    row-after = rw all-atoms (wrote-on (atoms (u .acts)) row₀ (ran .wrote) (u .done-is) (u .row-is))
+    pub row-after : rooms′ .row ≡ atoms all-acts ++ drop (length (atoms all-acts)) (rooms₀ .row)
+    row-after = rw all-atoms (wrote-on (atoms (u .acts)) (rooms₀ .row) (ran .wrote .atoms-in) (u .done-is) (u .row-is))
 
     pub done-after : atoms-done tally′ ≡ length (atoms all-acts)
     done-after =
-        rw (all-atoms, length-append (atoms (u .acts)) (atoms (ran .acts))) (rw (u .done-is) at (ran .wrote .done-is))
+        rw (all-atoms, length-append (atoms (u .acts)) (atoms (ran .acts))) (rw (u .done-is) at (ran .wrote .atoms-in .done-is))
+
+    -- and the pieces
+    all-pieces : piecesBytes (parks all-acts) ≡ piecesBytes (parks (u .acts)) ++ piecesBytes (parks (ran .acts))
+    all-pieces = ap piecesBytes (collect-++ piece-of (u .acts) (ran .acts)) ∙ pieces-++ (parks (u .acts)) (parks (ran .acts))
+
+    pub store-after : rooms′ .store ≡ piecesBytes (parks all-acts) ++ drop (length (piecesBytes (parks all-acts))) (rooms₀ .store)
+    store-after =
+        rw all-pieces (wrote-on (piecesBytes (parks (u .acts))) (rooms₀ .store) (ran .wrote .pieces-in) (u .parked-is) (u .store-is))
+
+    pub parked-after : bytes-parked tally′ ≡ length (piecesBytes (parks all-acts))
+    parked-after =
+        rw (all-pieces, length-append (piecesBytes (parks (u .acts))) (piecesBytes (parks (ran .acts))))
+        (rw (u .parked-is) at (ran .wrote .pieces-in .done-is))
 
     -- by the values that were handed in
     by-values : Rewrites (left-first value) root (u .term) (envOf words tally) (answers α (ran .to) (envOf words′ tally′) (ran .acts))
@@ -175,7 +202,8 @@ module _ {table : List ℕ} {t₀ : Term} {X : Events} {value : Values} {row₀ 
         go false e = sym (u .tells .undeclared e)
 
   -- a pass that suspends leads to the next
-  module _ {state′ words′ row′ tally′ : List ℕ} (ran : Ran root (u .term) words row tally state′ words′ row′ tally′ SUSP) where
+  module _ {state′ words′ : List ℕ} {rooms′ : Rooms} {tally′ : List ℕ}
+      (ran : Ran root (u .term) words rooms tally state′ words′ rooms′ tally′ SUSP) where
     not-ended : envOf words tally .eoi ≡ false
     not-ended = go (envOf words tally .eoi) refl
       where
@@ -183,23 +211,20 @@ module _ {table : List ℕ} {t₀ : Term} {X : Events} {value : Values} {row₀ 
         go true e = absurd (ended (ran .rewrites) e refl)
         go false e = e
 
-    room-left : atoms-done tally′ + pot (per 2) (ran .to) ≤ length row′
-    room-left =
-        let spent = few ran (u .ready .loops) in
-        let same = wrote-long (ran .wrote) (omega (arith, u .ready .room)) in
-        omega (arith, u .ready .room, ran .wrote .done-is)
-
-    ready-again : Ready 0 table 0 state′ words′ row′ (next-tally tally′) (ran .to)
-    ready-again = record {
-      placed = rw (kept (ran .rewrites)) (u .ready .placed);
-      loops = rw (kept (ran .rewrites)) (u .ready .loops);
-      wide = rw (ran .lengths .of-words) (u .ready .wide);
-      tallied = simp length-set (ran .lengths .of-tally ∙ u .ready .tallied);
-      long = ap length (ran .bytes) ∙ len-bytes (ran .to);
-      bytes = ran .bytes;
-      going = goes-on (ran .rewrites) (u .ready .going) refl;
-      room = rw (next-done tally′) room-left;
-    }
+    ready-again : Ready 0 table 0 state′ words′ rooms′ (next-tally tally′) (ran .to)
+    ready-again =
+        let left = room-after (u .ready) ran (ran .to) (λ k. omega (arith, few k ran (u .ready .loops))) in
+        record {
+          placed = rw (kept (ran .rewrites)) (u .ready .placed);
+          loops = rw (kept (ran .rewrites)) (u .ready .loops);
+          wide = rw (ran .lengths .of-words) (u .ready .wide);
+          tallied = simp length-set (ran .lengths .of-tally ∙ u .ready .tallied);
+          long = ap length (ran .bytes) ∙ len-bytes (ran .to);
+          bytes = ran .bytes;
+          going = goes-on (ran .rewrites) (u .ready .going) refl;
+          room = rw (next-done tally′) (left .in-row);
+          store-room = rw (next-parked tally′) (left .in-store);
+        }
 
     off : envOf words′ tally′ .eoi ≡ false
     off = end-kept (ran .rewrites) ∙ not-ended
@@ -254,7 +279,7 @@ module _ {table : List ℕ} {t₀ : Term} {X : Events} {value : Values} {row₀ 
     tells-again : (m : Bool) → envOf words′ tally′ .move ≡ m → Tells value t₀ X (ran .to) (envOf words′ (next-tally tally′)) (next-named m)
     tells-again m e = subst (λ F. Tells value t₀ X (ran .to) F (next-named m)) (sym (next m e)) (tells-next m e)
 
-    pub goes : Underway table t₀ X value row₀ state′ words′ row′ (next-tally tally′) (passes + 1)
+    pub goes : Underway table t₀ X value rooms₀ state′ words′ rooms′ (next-tally tally′) (passes + 1)
     goes = record {
       term = ran .to;
       acts = all-acts ran;
@@ -264,6 +289,8 @@ module _ {table : List ℕ} {t₀ : Term} {X : Events} {value : Values} {row₀ 
       onward = onward-again _ refl;
       done-is = next-done tally′ ∙ done-after ran;
       row-is = row-after ran;
+      parked-is = next-parked tally′ ∙ parked-after ran;
+      store-is = store-after ran;
       still = still-again _ refl;
       soon = soon-again _ refl;
       named = next-named (envOf words′ tally′ .move);
@@ -282,9 +309,10 @@ module _ {table : List ℕ} {t₀ : Term} {X : Events} {value : Values} {row₀ 
         (w, record { term = ran .to; stands = stands-there; leads = led }, first)
 
 -- before the first pass
-pub begins : {table state row : List ℕ} (words : List ℕ) (low high : ℕ) (b : Startable table state row) → 64 * length words ≡ places
-    → Underway table (b .term) (marks words) (wordValues low high) row state words row (0 ∷ 0 ∷ 0 ∷ low ∷ high ∷ []) 0
-unfolding collect
+pub begins : {table state row free : List ℕ} (words : List ℕ) (low high : ℕ) (b : Startable table state row free) → 64 * length words ≡ places
+    → Underway table (b .term) (marks words) (wordValues low high) (rooms-of row free) state words (rooms-of row free)
+    (0 ∷ 0 ∷ 0 ∷ 0 ∷ low ∷ high ∷ []) 0
+unfolding collect piecesBytes
 begins words low high b wide =
     let t = b .term in
     record {
@@ -299,12 +327,15 @@ begins words low high b wide =
         bytes = b .bytes;
         going = rest-going (marks words) t (b .at-rest);
         room = omega (arith, pot-at-rest (per 2) t (b .at-rest), b .room);
+        store-room = omega (arith, pot-at-rest parking t (b .at-rest), b .store-room);
       };
       same-program = refl;
       same-values = refl;
       onward = λ n r i. rw (zero-add n) i;
       done-is = refl;
       row-is = refl;
+      parked-is = refl;
+      store-is = refl;
       still = refl;
       soon = omega (arith, pot-at-rest (per 7) t (b .at-rest));
       named = none;
@@ -316,53 +347,64 @@ ended-bytes : (p : Program) → set (zeros p) 0 3 ≡ stateBytes (done p)
 unfolding below
 ended-bytes p = let e : 4 * size p ≡ suc (suc (suc (suc (4 * size p - 4)))) = omega (arith, size-pos p) in ap (λ n. set (replicate n 0) 0 3) e
 
-module _ {table : List ℕ} {t₀ : Term} {X : Events} {value : Values} {row₀ state words row tally : List ℕ} {passes : ℕ}
-    (u : Underway table t₀ X value row₀ state words row tally passes) {state′ words′ row′ tally′ : List ℕ} where
-  pub marked-ended : (ran : Ran root (u .term) words row tally state′ words′ row′ tally′ TERM) → set state′ 0 3 ≡ stateBytes (ran .to)
+module _ {table : List ℕ} {t₀ : Term} {X : Events} {value : Values} {rooms₀ : Rooms} {state words : List ℕ} {rooms : Rooms} {tally : List ℕ}
+    {passes : ℕ} (u : Underway table t₀ X value rooms₀ state words rooms tally passes) {state′ words′ : List ℕ} {rooms′ : Rooms}
+    {tally′ : List ℕ} where
+  pub marked-ended : (ran : Ran root (u .term) words rooms tally state′ words′ rooms′ tally′ TERM) → set state′ 0 3 ≡ stateBytes (ran .to)
   unfolding prog
   marked-ended ran =
       let (p, e) = stands (ran .rewrites) (u .ready .going) in
       rw (ran .bytes, e) (ended-bytes p)
 
   -- node 0 has bytes
-  pub some-bytes : Ran root (u .term) words row tally state′ words′ row′ tally′ TERM → 0 < length state′
+  pub some-bytes : Ran root (u .term) words rooms tally state′ words′ rooms′ tally′ TERM → 0 < length state′
   some-bytes ran =
       let p = prog (ran .to) in
       let n = ap length (ran .bytes) ∙ length-replicate {A = ℕ} (4 * size p) 0 in
       omega (arith, size-pos p)
 
 -- the answer of an instant that has ended
-pub run-of : {t s row₀ state words row tally : List ℕ} {X : Events} {passes : ℕ} {value : Values} (b : Startable t s row₀)
-    (u : Underway t (b .term) X value row₀ state words row tally passes) {state′ words′ row′ tally′ : List ℕ} {α : Flag}
-    (ran : Ran root (u .term) words row tally state′ words′ row′ tally′ α)
+pub run-of : {t s row₀ free₀ state words : List ℕ} {rooms : Rooms} {tally : List ℕ} {X : Events} {passes : ℕ} {value : Values}
+    (b : Startable t s row₀ free₀) (u : Underway t (b .term) X value (rooms-of row₀ free₀) state words rooms tally passes)
+    {state′ words′ : List ℕ} {rooms′ : Rooms} {tally′ : List ℕ} {α : Flag}
+    (ran : Ran root (u .term) words rooms tally state′ words′ rooms′ tally′ α)
     → α ≢ SUSP
     → {s′ : List ℕ} → s′ ≡ stateBytes (ran .to)
     → {events : EventSet} → events .words ≡ words′
     → {waits : W.Wait} → Names waits (u .named)
-    → {r : Answer} → Reported events (atoms-done tally′) (ended-by α) (passes + 1) waits r
-    → Run t s X value row₀ s′ row′ r
-run-of {t} {s} {row₀ = row₀} {words = words} {tally = tally} {X} {value = value} b u {words′ = words′} {row′} {tally′} {α} ran h {s′} e w n {r} o =
+    → {r : Ending} → Reported events (atoms-done tally′) (bytes-parked tally′) (ended-by α) (passes + 1) waits r
+    → RanFree t s X value row₀ free₀ s′ (rooms′ .row) (rooms′ .store) r
+run-of {t} {s} {row₀ = row₀} {free₀ = free₀} {words = words} {tally = tally} {X} {value = value} b u {words′ = words′} {rooms′ = rooms′} {tally′} {α}
+    ran h {s′} e w n {r} o =
     let all : take (4 * nodes t) s ≡ s = take-all (4 * nodes t) s (omega (arith, b .long)) in
     let none : drop (4 * nodes t) s ≡ [] = drop-of-length-le s {i = 4 * nodes t} (omega (arith, b .long)) in
-    let instant : Instant (left-first value) (b .term) (handed-in X) (r .passes) (answers α (ran .to) (envOf words′ tally′) (all-acts u ran)) =
+    let instant : Instant (left-first value) (b .term) (handed-in X) (r .answer .passes) (answers α (ran .to) (envOf words′ tally′) (all-acts u ran)) =
     rw (o .passes-are) (ends u ran h) in
     let told = reported u ran h instant in
+    let pieces = piecesBytes (parks (all-acts u ran)) in
     record {
-      term = b .term;
-      program = b .program;
-      bytes = all ∙ b .bytes;
-      at-rest = b .at-rest;
-      result = answers α (ran .to) (envOf words′ tally′) (all-acts u ran);
-      instant = instant;
-      events-are = ap members (o .events-are) ∙ ap marks w;
-      count-is = o .count-is ∙ ap (λ l. howMany places (marks l)) w;
-      lowest-is = o .lowest-is ∙ ap (λ l. lowest places (marks l)) w;
-      atoms-are = o .atoms-are ∙ done-after u ran;
-      finished-is = o .finished-is;
-      waits-node-is = ap (λ x. x .node) (o .waits-are) ∙ (n .node-is ∙ ap nodeOf (sym told));
-      waits-event-is = ap (λ x. x .event) (o .waits-are) ∙ (n .event-is ∙ ap eventOf (sym told));
-      state-is = e ∙ (sym (append-nil (stateBytes (ran .to))) ∙ ap (λ l. stateBytes (ran .to) ++ l) (sym none));
-      row-is = row-after u ran ∙ ap (λ n. atoms (all-acts u ran) ++ drop n row₀) (sym (o .atoms-are ∙ done-after u ran));
+      outcome-is = o .outcome-is;
+      run = record {
+        term = b .term;
+        program = b .program;
+        bytes = all ∙ b .bytes;
+        at-rest = b .at-rest;
+        result = answers α (ran .to) (envOf words′ tally′) (all-acts u ran);
+        instant = instant;
+        events-are = ap members (o .events-are) ∙ ap marks w;
+        count-is = o .count-is ∙ ap (λ l. howMany places (marks l)) w;
+        lowest-is = o .lowest-is ∙ ap (λ l. lowest places (marks l)) w;
+        atoms-are = o .atoms-are ∙ done-after u ran;
+        finished-is = o .finished-is;
+        waits-node-is = ap (λ x. x .node) (o .waits-are) ∙ (n .node-is ∙ ap nodeOf (sym told));
+        waits-event-is = ap (λ x. x .event) (o .waits-are) ∙ (n .event-is ∙ ap eventOf (sym told));
+        state-is = e ∙ (sym (append-nil (stateBytes (ran .to))) ∙ ap (λ l. stateBytes (ran .to) ++ l) (sym none));
+        row-is = row-after u ran ∙ ap (λ n. atoms (all-acts u ran) ++ drop n row₀) (sym (o .atoms-are ∙ done-after u ran));
+        store-is =
+            ap (λ (n : ℕ). two n ++ rooms′ .store) (o .parked-is ∙ parked-after u ran)
+            ∙ (ap (λ (l : List ℕ). two (length pieces) ++ l) (store-after u ran) ∙ sym (begun-empty pieces free₀));
+      };
+      parked-is = o .parked-is ∙ parked-after u ran;
     }
 
 -- the tally of the row between two passes
@@ -384,33 +426,36 @@ pub handed-values : (table words : List ℕ) → length words ≡ event-words �
 handed-values table words l low high base e = ap valuesIn (ap tallyOf e ∙ first-tally table words l low high base)
 
 -- before the first pass, by the row
-pub begins-by : {table state row : List ℕ} (words : List ℕ) (low high : ℕ) (b : Startable table state row) → length words ≡ event-words
+pub begins-by : {table state row free : List ℕ} (words : List ℕ) (low high : ℕ) (b : Startable table state row free) → length words ≡ event-words
     → {m : List ℕ} → m ≡ firstNumbers words low high (6 * nodes table)
-    → (u : Underway table (b .term) (marks (wordsOf m)) (valuesIn (tallyOf m)) row state (wordsOf m) row (tallyOf m) 0) × Numbers table m × (u .named ≡ none)
+    → (u : Underway table (b .term) (marks (wordsOf m)) (valuesIn (tallyOf m)) (rooms-of row free) state (wordsOf m) (rooms-of row free) (tallyOf m) 0)
+    × Numbers table m
+    × (u .named ≡ none)
 unfolding begins
 begins-by {table} words low high b l e =
     let base = 6 * nodes table in
     rw (e, first-words table words l low high base, first-tally table words l low high base)
     (begins words low high b (ap (λ n. 64 * n) l), first-holds table words l low high base refl, refl)
 
-module _ {table : List ℕ} {t₀ : Term} {X : Events} {value : Values} {row₀ state m row : List ℕ} {passes : ℕ}
-    (u : Underway table t₀ X value row₀ state (wordsOf m) row (tallyOf m) passes) (n : Numbers table m) where
+module _ {table : List ℕ} {t₀ : Term} {X : Events} {value : Values} {rooms₀ : Rooms} {state m : List ℕ} {rooms : Rooms} {passes : ℕ}
+    (u : Underway table t₀ X value rooms₀ state (wordsOf m) rooms (tallyOf m) passes) (n : Numbers table m) where
   -- node 0 can be run: its bytes are all of the state
-  whole : Stands all-seen Any (lent table state m row) 0 [] state []
+  whole : Stands all-seen Any (lent table state m rooms) 0 [] state []
   whole = record {
     around = record { split = sym (append-nil state); starts = refl };
     numbers = n;
     live = (u .term, tt, u .ready);
   }
 
-  pub can-pass : CanRun all-seen Any (lent table state m row) 0
+  pub can-pass : CanRun all-seen Any (lent table state m rooms) 0
   can-pass = ([], state, [], whole)
 
-  module _ {state′ m′ row′ : List ℕ} {r : ℕ} (run : HasRun all-seen Any (lent table state m row) 0 (lent table state′ m′ row′) r) where
-    went : Went all-seen Any (lent table state m row) 0 [] state [] (lent table state′ m′ row′) r
+  module _ {state′ m′ : List ℕ} {rooms′ : Rooms} {r : ℕ}
+      (run : HasRun all-seen Any (lent table state m rooms) 0 (lent table state′ m′ rooms′) r) where
+    went : Went all-seen Any (lent table state m rooms) 0 [] state [] (lent table state′ m′ rooms′) r
     went = run [] state [] whole
 
-    pub ran-by : {α : Flag} → flagOf r ≡ α → Ran root (u .term) (wordsOf m) row (tallyOf m) state′ (wordsOf m′) row′ (tallyOf m′) α
+    pub ran-by : {α : Flag} → flagOf r ≡ α → Ran root (u .term) (wordsOf m) rooms (tallyOf m) state′ (wordsOf m′) rooms′ (tallyOf m′) α
     ran-by e =
         let all : went .part′ ≡ state′ = sym (went .around .split ∙ append-nil (went .part′)) in
         rw (all, e) at (went .runs (u .term) tt (u .ready) root refl)
@@ -419,7 +464,7 @@ module _ {table : List ℕ} {t₀ : Term} {X : Events} {value : Values} {row₀ 
     row-holds = still n (went .kept)
 
     -- what is found after a pass that suspended
-    module _ (ran : Ran root (u .term) (wordsOf m) row (tallyOf m) state′ (wordsOf m′) row′ (tallyOf m′) SUSP) where
+    module _ (ran : Ran root (u .term) (wordsOf m) rooms (tallyOf m) state′ (wordsOf m′) rooms′ (tallyOf m′) SUSP) where
       names-after : {before after : W.Wait} → Names before (u .named) → WaitsAfter table state′ m′ before after
           → Names after (next-named u ran (ltb 0 (getD m′ moved-at 0)))
       names-after {before} {after} n a = go (ltb 0 (getD m′ moved-at 0)) refl
@@ -442,7 +487,7 @@ module _ {table : List ℕ} {t₀ : Term} {X : Events} {value : Values} {row₀ 
 
     -- neither STOP nor TERM: another pass
     pub goes-by : r ≢ 1 → r ≢ 2
-        → (v : Underway table t₀ X value row₀ state′ (wordsOf (nextNumbers m′)) row′ (tallyOf (nextNumbers m′)) (passes + 1))
+        → (v : Underway table t₀ X value rooms₀ state′ (wordsOf (nextNumbers m′)) rooms′ (tallyOf (nextNumbers m′)) (passes + 1))
         × ((before after : W.Wait) → Names before (u .named) → WaitsAfter table state′ m′ before after → Names after (v .named))
     unfolding goes ran-by went
     goes-by x y =

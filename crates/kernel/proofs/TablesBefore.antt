@@ -82,12 +82,12 @@ module _ (t : List ℕ) where
   still-argues i (capped v cap) x = absurd x
 
   still-spells : {p : Program} (v : Parts p) (i : ℕ) → SpellsBefore t i v → SpellsParts t i v
-  still-spells {p} (no-part f) i (h, x) = (h, still-argues i (argument p) x)
-  still-spells {p} (one-part f q) i (h, x, y) = (h, still-argues i (argument p) x, still-spells q _ y)
-  still-spells {p} (two-parts f q r) i (h, x, y, z) = (h, still-argues i (argument p) x, still-spells q _ y, still-spells r _ z)
+  still-spells {p} (no-part f) i ((h, few), x) = (h, still-argues i (argument p) x)
+  still-spells {p} (one-part f q) i ((h, few), x, y) = (h, still-argues i (argument p) x, still-spells q _ y)
+  still-spells {p} (two-parts f q r) i ((h, few), x, y, z) = (h, still-argues i (argument p) x, still-spells q _ y, still-spells r _ z)
 
 pub read-as-before : (t : List ℕ) {p : Program} {g a w : ℕ} → AcceptedBefore t p g a w
-    → (verdictOf t ≡ Accepted g a w) × (treeOf t ≡ p)
+    → (verdictOf t ≡ Accepted g a w 0) × (treeOf t ≡ p)
 unfolding goodConfiguration countsGood Spells
 read-as-before t {p} b =
     let (n-least, n-most) = b .n-range in

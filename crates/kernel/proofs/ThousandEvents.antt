@@ -25,13 +25,15 @@ use Rattle.table.specs.Inside.{Loaded}
 use Rattle.table.proofs.Accepted.{accepted}
 use Rattle.table.proofs.Laid.{both, Kind, event, negation, conjunction, disjunction, fine}
 use Rattle.state.specs.Resting.{blamed}
+use Rattle.store.specs.Store.{storeGood}
 use Rattle.kernel.specs.declared.Outcome.{Outcome}
 use Rattle.kernel.specs.declared.Outcome.the-variants.{Ran, StateRoom, NotAtRest, UnlistedEvent}
 use Rattle.kernel.specs.declared.Answer.{Answer}
-use Rattle.kernel.specs.Answer.{hasRoom, instantOutcome, eventOf, Answered}
+use Rattle.kernel.specs.Answer.{Rooms, hasRoom, instantOutcome, eventOf, Answered}
 use Rattle.kernel.specs.TablesBefore.{places-before, HandedBefore, AcceptedBefore, outcomeBefore, eventBefore}
 use Rattle.kernel.specs.TablesBefore.{AnswerBefore, AnsweredBefore}
 use Rattle.kernel.specs.ThousandEvents.{SomeEvent, PartedRecord, ButForNone, SameAnswer, ThousandEvents}
+use Rattle.kernel.proofs.Outcomes.{store-ran}
 use Rattle.kernel.proofs.Listed.{reports-listed}
 use Rattle.kernel.proofs.OneAnswer.{ran-or-not}
 use Rattle.kernel.proofs.TablesBefore.{read-as-before}
@@ -94,20 +96,20 @@ event-alike none = inr (refl, refl)
 event-alike (some w) = inl refl
 
 module _ {t : List ℕ} {p : Program} {g a w : ℕ} (b : AcceptedBefore t p g a w) where
-  accepted-now : verdictOf t ≡ Accepted g a w
+  accepted-now : verdictOf t ≡ Accepted g a w 0
   accepted-now = read-as-before t b .0
 
-  module _ (s : List ℕ) (X : Events) (row : List ℕ) (few : HandedBefore X) where
-    same-outcome : instantOutcome t s X row ≡ outcomeBefore t a s X row
+  module _ (s : List ℕ) (X : Events) (lent : Rooms) (few : HandedBefore X) (good : storeGood t (lent .store) ≡ true) where
+    same-outcome : instantOutcome t s X lent ≡ outcomeBefore t a s X (lent .row)
     unfolding instantOutcome outcomeBefore
     same-outcome =
-        rw accepted-now
+        rw (accepted-now, sym (store-ran t (lent .store) 0 good (omega arith)))
         (ap (λ o. cond (hasRoom t s) (cond (ltb (blamed t s) (nodes t)) (NotAtRest (blamed t s)) o) StateRoom)
         (listed-alike _ (same-lowest (λ e. X e && leb (events t) e) (λ e l. rw (few e l)))))
 
-    module _ {values : Values} {s′ row′ : List ℕ} {r : Answer} (q : Answered t s X values row s′ row′ r) where
+    module _ {values : Values} {s′ : List ℕ} {left : Rooms} {r : Answer} (q : Answered t s X values lent s′ left r) where
       abbrev Before : Type 0
-      Before = (before : AnswerBefore) × AnsweredBefore p t a s X values row s′ row′ before × SameAnswer r before
+      Before = (before : AnswerBefore) × AnsweredBefore p t a s X values (lent .row) s′ (left .row) before × SameAnswer r before
 
       ran-before : r .outcome ≡ Ran → Before
       ran-before e =
@@ -189,7 +191,7 @@ module _ {t : List ℕ} {p : Program} {g a w : ℕ} (b : AcceptedBefore t p g a 
                   event-is = refl;
                 },
                 state,
-                kept,
+                ap (λ l. l .row) kept,
               );
             },
             record {
@@ -244,15 +246,16 @@ thousand-events =
       places-are = refl;
       v-at-most = λ t e. accepted t e .loaded .framed .v-most;
       v-of-all = (refl, refl, refl);
-      none-lowest = λ {t} {s} {X} {values} {row} {s′} {row′} {r} q e. lowest-none q e (ran-or-not (r .outcome));
+      none-lowest = λ {t} {s} {X} {values} {lent} {s′} {left} {r} q e. lowest-none q e (ran-or-not (r .outcome));
       none-refused = λ q n. (q .refused n .0 .lowest-is, q .refused n .0 .waits-event-is);
       none-waited = λ x e. x .waits-event-is ∙ ap eventOf e;
       records = λ t j e h. good-record (accepted t e .loaded) j h;
       read-as-before = λ t b. read-as-before t b;
-      answers-as-before = λ {s = s} {X = X} {row = row} b few q. as-before b s X row few q;
+      answers-as-before = λ {s = s} {X = X} {lent = lent} b few good q. as-before b s X lent few good q;
     }
   where
-    lowest-none : {t s : List ℕ} {X : Events} {values : Values} {row s′ row′ : List ℕ} {r : Answer} → Answered t s X values row s′ row′ r
+    lowest-none : {t s : List ℕ} {X : Events} {values : Values} {lent : Rooms} {s′ : List ℕ} {left : Rooms} {r : Answer}
+        → Answered t s X values lent s′ left r
         → members (r .events) ≡ no-event → (r .outcome ≡ Ran) ⊎ (r .outcome ≢ Ran) → r .lowest ≡ 1024
     lowest-none q e (inl ran) =
         let x = q .ran ran in

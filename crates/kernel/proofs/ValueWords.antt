@@ -79,6 +79,6 @@ by-bytes bytes low high f g = fun-ext (λ v. go v (ltb v 8) refl (ltb v 16) refl
         rw (word-is, byte-is) (g (v - 8) (omega arith) ∙ ap (λ n. getD bytes n 0) e)
     go v false x false y =
         let above = ltb-false v 16 y in
-        let past : getD (0 ∷ 0 ∷ 0 ∷ low ∷ high ∷ []) (3 + v / 8) 0 ≡ 0 =
-        List·getD-eq-default (0 ∷ 0 ∷ 0 ∷ low ∷ high ∷ []) 0 {n = 3 + v / 8} (omega arith) in
+        let past : getD (0 ∷ 0 ∷ 0 ∷ 0 ∷ low ∷ high ∷ []) (4 + v / 8) 0 ≡ 0 =
+        List·getD-eq-default (0 ∷ 0 ∷ 0 ∷ 0 ∷ low ∷ high ∷ []) 0 {n = 4 + v / 8} (omega arith) in
         rw past (ap (λ n. n % 256) (zero-div (2 ^ (8 * (v % 8)))))

@@ -1,5 +1,5 @@
 -- What start and instant answer, and what they leave in the lent rooms (01, "Refusal numbers" and "Rules of a pass").
-use Prim.Native.Nat.{ℕ, _*_}
+use Prim.Native.Nat.{ℕ, _*_, _<_}
 use mathlib.Core.Bool.{Bool, true, false, cond, _&&_}
 use mathlib.Core.Path.{_≡_}
 use mathlib.Core.Logic.{_≢_}
@@ -14,7 +14,7 @@ use Rattle.junior.specs.declared.Flag.the-variants.{SUSP, STOP, TERM}
 use Rattle.junior.specs.Values.{Values}
 use Rattle.junior.specs.Configuration.{handed-in}
 use Rattle.junior.specs.Term.{Term, prog}
-use Rattle.junior.specs.Trace.{atoms}
+use Rattle.junior.specs.Trace.{atoms, parks}
 use Rattle.junior.specs.Rules.{left-first, Result}
 use Rattle.junior.specs.Instant.{Instant}
 use Rattle.junior.specs.AtRest.{AtRest}
@@ -26,10 +26,12 @@ use Rattle.table.specs.Records.{nodes, events}
 use Rattle.table.specs.Spells.{treeOf}
 use Rattle.table.specs.Verdict.{verdictOf, numberOf, indexOf}
 use Rattle.state.specs.StateBytes.{stateBytes}
+use Rattle.state.specs.Pieces.{piecesBytes}
 use Rattle.state.specs.Resting.{blamed}
+use Rattle.store.specs.Store.{storeGood, storeRoom, adding}
 use Rattle.kernel.specs.declared.Outcome.{Outcome}
 use Rattle.kernel.specs.declared.Outcome.the-variants.{Ran, Table, StateRoom, NotAtRest, UnlistedEvent}
-use Rattle.kernel.specs.declared.Outcome.the-variants.{AtomRoom}
+use Rattle.kernel.specs.declared.Outcome.the-variants.{AtomRoom, BadStore, StoreRoom}
 use Rattle.kernel.specs.declared.Answer.{Answer}
 
 -- this paper's number and index of each outcome
@@ -40,6 +42,8 @@ outcomeNumber StateRoom = 9
 outcomeNumber (NotAtRest i) = 10
 outcomeNumber (UnlistedEvent e) = 11
 outcomeNumber AtomRoom = 12
+outcomeNumber BadStore = 25
+outcomeNumber StoreRoom = 13
 
 unfoldable pub outcomeIndex : Outcome → ℕ
 outcomeIndex Ran = 0
@@ -48,9 +52,11 @@ outcomeIndex StateRoom = 0
 outcomeIndex (NotAtRest i) = i
 outcomeIndex (UnlistedEvent e) = e
 outcomeIndex AtomRoom = 0
+outcomeIndex BadStore = 0
+outcomeIndex StoreRoom = 0
 
--- a refused table is the outcome; an accepted one, with A atoms at most, goes on
-abbrev pub onAccepted : Checked → (ℕ → Outcome) → Outcome
+-- a refused table is the outcome; an accepted one, with A atoms and F bytes of parked pieces at most, goes on
+abbrev pub onAccepted : Checked → (ℕ → ℕ → Outcome) → Outcome
 onAccepted BadLength go = Table BadLength
 onAccepted BadCounts go = Table BadCounts
 onAccepted BadDistances go = Table BadDistances
@@ -59,7 +65,7 @@ onAccepted (BadNode i) go = Table (BadNode i)
 onAccepted (TooDeep i) go = Table (TooDeep i)
 onAccepted (EndlessLoop i) go = Table (EndlessLoop i)
 onAccepted TooHeavy go = Table TooHeavy
-onAccepted (Accepted g a w) go = go a
+onAccepted (Accepted g a w f) go = go a f
 
 -- 9: the state room
 abbrev pub hasRoom : List ℕ → List ℕ → Bool
@@ -67,22 +73,41 @@ hasRoom t s = leb (4 * nodes t) (length s)
 
 -- start meets 1 to 9
 unfoldable pub startOutcome : List ℕ → List ℕ → Outcome
-startOutcome t s = onAccepted (verdictOf t) (λ a. cond (hasRoom t s) Ran StateRoom)
+startOutcome t s = onAccepted (verdictOf t) (λ a f. cond (hasRoom t s) Ran StateRoom)
 
 -- 11: the lowest event handed in at or above V; `places` if none is
 abbrev pub unlisted : List ℕ → Events → ℕ
 unlisted t X = lowest places (λ e. X e && leb (events t) e)
 
--- an instant meets 1 to 12
-unfoldable pub instantOutcome : List ℕ → List ℕ → Events → List ℕ → Outcome
-instantOutcome t s X row =
-    onAccepted (verdictOf t) (λ a.
+-- the rooms that an instant writes into beside the state: the row of atoms, and the store of parked pieces (L8)
+pub record Rooms : Type 0 where
+  pub row : List ℕ
+  pub store : List ℕ
+
+abbrev pub rooms : List ℕ → List ℕ → Rooms
+rooms row store = record { row = row; store = store }
+
+-- what stands in a room of bytes, as any running program has it
+abbrev pub Bytes : List ℕ → Type 0
+Bytes s = (i : ℕ) → getD s i 0 < 256
+
+-- 25, "after 12", then 13, "exactly when the store's length, at most 65,537 of it, less 2 and all pieces is below F"
+unfoldable pub storeOutcome : List ℕ → List ℕ → ℕ → Outcome
+storeOutcome t store f = cond (storeGood t store) (cond (leb f (storeRoom store)) Ran StoreRoom) BadStore
+
+-- an instant meets 1 to 12, 25, 13
+unfoldable pub instantOutcome : List ℕ → List ℕ → Events → Rooms → Outcome
+instantOutcome t s X lent =
+    onAccepted (verdictOf t) (λ a f.
     cond
     (hasRoom t s)
     (cond
     (ltb (blamed t s) (nodes t))
     (NotAtRest (blamed t s))
-    (cond (ltb (unlisted t X) places) (UnlistedEvent (unlisted t X)) (cond (leb a (length row)) Ran AtomRoom)))
+    (cond
+    (ltb (unlisted t X) places)
+    (UnlistedEvent (unlisted t X))
+    (cond (leb a (length (lent .row))) (storeOutcome t (lent .store) f) AtomRoom)))
     StateRoom)
 
 -- the state room after a start: fresh, and past 4N bytes as it was
@@ -93,6 +118,8 @@ startedRoom StateRoom t s = s
 startedRoom (NotAtRest i) t s = s
 startedRoom (UnlistedEvent e) t s = s
 startedRoom AtomRoom t s = s
+startedRoom BadStore t s = s
+startedRoom StoreRoom t s = s
 
 -- the whole of what start answers
 pub record Started (t s s′ : List ℕ) (r : Outcome) : Type 0 where
@@ -118,7 +145,7 @@ abbrev pub valuesOf : List ℕ → Values
 valuesOf bytes v = cond (ltb v 16) (getD bytes v 0) 0
 
 -- an instant was run: the term that stands in the state's bytes, the instant that the rules give it, and all of it in the answer and the rooms
-pub record Run (t s : List ℕ) (X : Events) (value : Values) (row s′ row′ : List ℕ) (r : Answer) : Type 0 where
+pub record Run (t s : List ℕ) (X : Events) (value : Values) (lent : Rooms) (s′ : List ℕ) (left : Rooms) (r : Answer) : Type 0 where
   pub term : Term
   pub program : prog term ≡ treeOf t
   pub bytes : take (4 * nodes t) s ≡ stateBytes term
@@ -133,7 +160,9 @@ pub record Run (t s : List ℕ) (X : Events) (value : Values) (row s′ row′ :
   pub waits-node-is : r .waits .node ≡ nodeOf (waited instant)
   pub waits-event-is : r .waits .event ≡ eventOf (waited instant)
   pub state-is : s′ ≡ stateBytes (result .to) ++ drop (4 * nodes t) s
-  pub row-is : row′ ≡ atoms (result .acts) ++ drop (r .atoms) row
+  pub row-is : left .row ≡ atoms (result .acts) ++ drop (r .atoms) (lent .row)
+  -- "A parked piece goes into a lent store", behind those that are there
+  pub store-is : left .store ≡ adding (piecesBytes (parks (result .acts))) (lent .store)
 
 -- an instant was refused: every other field 0 or false, the set empty, `places` for the lowest; of L1, "node 4,096 and event 256 if .. the call
 -- refused", with L10's none
@@ -148,8 +177,8 @@ pub record Refused (r : Answer) : Type 0 where
   pub waits-event-is : r .waits .event ≡ places
 
 -- the whole of what an instant answers
-pub record Answered (t s : List ℕ) (X : Events) (value : Values) (row s′ row′ : List ℕ) (r : Answer) : Type 0 where
-  pub outcome-is : r .outcome ≡ instantOutcome t s X row
-  pub ran : r .outcome ≡ Ran → Run t s X value row s′ row′ r
+pub record Answered (t s : List ℕ) (X : Events) (value : Values) (lent : Rooms) (s′ : List ℕ) (left : Rooms) (r : Answer) : Type 0 where
+  pub outcome-is : r .outcome ≡ instantOutcome t s X lent
+  pub ran : r .outcome ≡ Ran → Run t s X value lent s′ left r
   -- nothing is written
-  pub refused : r .outcome ≢ Ran → Refused r × (s′ ≡ s) × (row′ ≡ row)
+  pub refused : r .outcome ≢ Ran → Refused r × (s′ ≡ s) × (left ≡ lent)

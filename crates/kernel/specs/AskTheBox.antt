@@ -19,7 +19,7 @@ use Rattle.table.specs.Spells.{Spells, treeOf}
 use Rattle.table.specs.Verdict.{verdictOf, numberOf}
 use Rattle.state.specs.StateBytes.{head}
 use Rattle.kernel.specs.declared.Answer.{Answer}
-use Rattle.kernel.specs.Answer.{Run, Answered}
+use Rattle.kernel.specs.Answer.{Rooms, Run, Answered}
 
 abbrev pub RepeatExt : ℕ → ℕ → Program → Program
 RepeatExt v cap p = Repeat (asked v cap) p
@@ -66,15 +66,15 @@ pub record AskTheBox : Type 1 where
       → (head (repeat0 (asked v cap) p) ≡ head (repeat0 (exactly n) p)) × (head (repeat1 (asked v cap) k t) ≡ head (repeat1 (exactly n) k t))
   pub count-below : (v cap k : ℕ) (t : Term) → AtRest (repeat1 (asked v cap) k t) → k < cap
   -- "Refusals: .. none new": nothing in an answer, and in no room, depends on a value that no If or RepeatExt which the instant begins names
-  pub only-what-is-begun : {t s : List ℕ} {X : Events} {value value′ : Values} {row s′ row′ : List ℕ} {r : Answer}
-      → (x : Run t s X value row s′ row′ r)
+  pub only-what-is-begun : {t s : List ℕ} {X : Events} {value value′ : Values} {lent : Rooms} {s′ : List ℕ} {left : Rooms} {r : Answer}
+      → (x : Run t s X value lent s′ left r)
       → Each (λ v. value v ≡ value′ v) (asks-in-all (x .instant))
-      → Run t s X value′ row s′ row′ r
-  pub only-what-is-named : {t s : List ℕ} {X : Events} {value value′ : Values} {row s′ row′ : List ℕ} {r : Answer}
+      → Run t s X value′ lent s′ left r
+  pub only-what-is-named : {t s : List ℕ} {X : Events} {value value′ : Values} {lent : Rooms} {s′ : List ℕ} {left : Rooms} {r : Answer}
       → EachNamed (λ v. value v ≡ value′ v) (treeOf t)
-      → Answered t s X value row s′ row′ r
-      → Answered t s X value′ row s′ row′ r
-  pub without-the-forms : {t s : List ℕ} {X : Events} {value value′ : Values} {row s′ row′ : List ℕ} {r : Answer}
+      → Answered t s X value lent s′ left r
+      → Answered t s X value′ lent s′ left r
+  pub without-the-forms : {t s : List ℕ} {X : Events} {value value′ : Values} {lent : Rooms} {s′ : List ℕ} {left : Rooms} {r : Answer}
       → NamesNone (treeOf t)
-      → Answered t s X value row s′ row′ r
-      → Answered t s X value′ row s′ row′ r
+      → Answered t s X value lent s′ left r
+      → Answered t s X value′ lent s′ left r

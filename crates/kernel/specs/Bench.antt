@@ -17,26 +17,26 @@ use Rattle.table.specs.Bytes.{node, configuration, trailer}
 use Rattle.waiting.specs.declared.Wait.{Wait}
 use Rattle.kernel.specs.declared.Outcome.{Outcome}
 use Rattle.kernel.specs.declared.Outcome.the-variants.{Ran, Table, StateRoom, NotAtRest, UnlistedEvent}
-use Rattle.kernel.specs.declared.Outcome.the-variants.{AtomRoom}
+use Rattle.kernel.specs.declared.Outcome.the-variants.{AtomRoom, BadStore, StoreRoom}
 use Rattle.kernel.specs.declared.Answer.{Answer}
-use Rattle.kernel.specs.Answer.{outcomeNumber, outcomeIndex, valuesOf, Started, Answered}
+use Rattle.kernel.specs.Answer.{Rooms, rooms, outcomeNumber, outcomeIndex, valuesOf, Started, Answered}
 
--- an instant: the events and the bytes of the values handed in, the row lent for atoms; its whole answer, with the outcome's number and index; the
--- state room and the row after it
+-- an instant: the events and the bytes of the values handed in, the row lent for atoms and the store; its whole answer, with the outcome's number and
+-- index; the state room, the row and the store after it
 pub record Line : Type 0 where
   pub handed : EventSet
   pub values : List ℕ
-  pub lent : List ℕ
+  pub lent : Rooms
   pub answer : Answer
   pub number : ℕ
   pub index : ℕ
   pub state : List ℕ
-  pub row : List ℕ
+  pub left : Rooms
 
 pub data Entry : Type 0 where
-  -- check accepts the table with G, A and W; start makes a room of 4N + 1 bytes, all 255, fresh but for the last; these instants follow, each in
+  -- check accepts the table with G, A, W and F; start makes a room of 4N + 1 bytes, all 255, fresh but for the last; these instants follow, each in
   -- the room that the one before left
-  accepted : List ℕ → ℕ → ℕ → ℕ → List Line → Entry
+  parking : List ℕ → ℕ → ℕ → ℕ → ℕ → List Line → Entry
   -- check refuses the table with this number and index; so do start and instant, in all rooms
   refused : List ℕ → Checked → ℕ → ℕ → Entry
   -- start refuses this room with this number and index
@@ -46,12 +46,16 @@ pub data Entry : Type 0 where
   -- these instants follow one another from this room, which no run need leave so
   resumed : List ℕ → List ℕ → List Line → Entry
 
+-- with F = 0: nothing is ever parked
+abbrev pub accepted : List ℕ → ℕ → ℕ → ℕ → List Line → Entry
+accepted t g a w l = parking t g a w 0 l
+
 -- check answers exactly this (its contract: the answer is `verdictOf` the bytes)
-pub record Checks (t : List ℕ) (c : Checked) (number index g a w : ℕ) : Type 0 where
+pub record Checks (t : List ℕ) (c : Checked) (number index g a w f : ℕ) : Type 0 where
   pub verdict-is : verdictOf t ≡ c
   pub number-is : numberOf c ≡ number
   pub index-is : indexOf c ≡ index
-  pub figures-are : figuresOf c ≡ record { generations = g; atoms = a; nodes = w }
+  pub figures-are : figuresOf c ≡ record { generations = g; atoms = a; nodes = w; parked = f }
 
 -- start answers exactly this in the room s, and leaves s′ there: its contract allows this and nothing else
 pub record Starts (t s : List ℕ) (o : Outcome) (number index : ℕ) (s′ : List ℕ) : Type 0 where
@@ -62,9 +66,10 @@ pub record Starts (t s : List ℕ) (o : Outcome) (number index : ℕ) (s′ : Li
 
 -- instant answers exactly this line in the room s: its contract allows this and nothing else (Whole: words of 64 bits for all places, as in a running program)
 pub record Answers (t s : List ℕ) (x : Line) : Type 0 where
-  pub answered : Answered t s (members (x .handed)) (valuesOf (x .values)) (x .lent) (x .state) (x .row) (x .answer)
-  pub only : {q : Answer} {s′ row′ : List ℕ} → Whole (q .events) → Answered t s (members (x .handed)) (valuesOf (x .values)) (x .lent) s′ row′ q
-      → (q ≡ x .answer) × (s′ ≡ x .state) × (row′ ≡ x .row)
+  pub answered : Answered t s (members (x .handed)) (valuesOf (x .values)) (x .lent) (x .state) (x .left) (x .answer)
+  pub only : {q : Answer} {s′ : List ℕ} {left : Rooms} → Whole (q .events)
+      → Answered t s (members (x .handed)) (valuesOf (x .values)) (x .lent) s′ left q
+      → (q ≡ x .answer) × (s′ ≡ x .state) × (left ≡ x .left)
   pub number-is : outcomeNumber (x .answer .outcome) ≡ x .number
   pub index-is : outcomeIndex (x .answer .outcome) ≡ x .index
 
@@ -124,14 +129,37 @@ refusal o = record { outcome = o; events = set []; count = 0; lowest = no-event;
 abbrev pub no-values : List ℕ
 no-values = replicate 16 0
 
+-- the store that is lent where a line says nothing of it: two bytes, and no piece
+abbrev pub no-pieces : List ℕ
+no-pieces = 0 ∷ 0 ∷ []
+
 -- an instant that ran: the events handed in, the row, the answer, the row after it, the state room after it
 abbrev pub instant-in : List ℕ → List ℕ → Answer → List ℕ → List ℕ → Line
-instant-in X lent a row s = record { handed = set X; values = no-values; lent = lent; answer = a; number = 0; index = 0; state = s; row = row }
+instant-in X row a row′ s =
+    record {
+      handed = set X;
+      values = no-values;
+      lent = rooms row no-pieces;
+      answer = a;
+      number = 0;
+      index = 0;
+      state = s;
+      left = rooms row′ no-pieces;
+    }
 
 -- one that was refused: the events handed in, row and room, both as they were; the outcome, its number, its index
 abbrev pub turned-down : EventSet → List ℕ → List ℕ → Outcome → ℕ → ℕ → Line
 turned-down X row s o number index =
-    record { handed = X; values = no-values; lent = row; answer = refusal o; number = number; index = index; state = s; row = row }
+    record {
+      handed = X;
+      values = no-values;
+      lent = rooms row no-pieces;
+      answer = refusal o;
+      number = number;
+      index = index;
+      state = s;
+      left = rooms row no-pieces;
+    }
 
 -- one value, by its number, and the rest 0
 abbrev pub value-is : ℕ → ℕ → List ℕ
@@ -148,18 +176,33 @@ asking values x =
       number = x .number;
       index = x .index;
       state = x .state;
-      row = x .row;
+      left = x .left;
+    }
+
+-- the same line with this store lent and that one left
+abbrev pub storing : List ℕ → List ℕ → Line → Line
+storing store store′ x =
+    record {
+      handed = x .handed;
+      values = x .values;
+      lent = rooms (x .lent .row) store;
+      answer = x .answer;
+      number = x .number;
+      index = x .index;
+      state = x .state;
+      left = rooms (x .left .row) store′;
     }
 
 -- what an entry says
 unfoldable pub Shown : Entry → Type 0
-Shown (accepted t g a w l) =
+Shown (parking t g a w f l) =
     let fresh : List ℕ = replicate (4 * nodes t) 0 ++ (255 ∷ []) in
-    Checks t (Accepted g a w) 0 0 g a w × Starts t (replicate (4 * nodes t + 1) 255) Ran 0 0 fresh × Follow t fresh l
+    Checks t (Accepted g a w f) 0 0 g a w f × Starts t (replicate (4 * nodes t + 1) 255) Ran 0 0 fresh × Follow t fresh l
 Shown (refused t c n i) =
-    Checks t c n i 0 0 0
+    Checks t c n i 0 0 0 0
     × ((s : List ℕ) → Starts t s (Table c) n i s)
-    × ((s : List ℕ) (X : EventSet) (values row : List ℕ) → Answers t s (asking values (turned-down X row s (Table c) n i)))
+    × ((s : List ℕ) (X : EventSet) (values row store : List ℕ)
+    → Answers t s (asking values (storing store store (turned-down X row s (Table c) n i))))
 Shown (not-started t s o n i) = Starts t s o n i s
 Shown (not-run t l) = Alone t l
 Shown (resumed t s l) = Follow t s l
@@ -212,6 +255,9 @@ control e p = form 11 e p
 
 abbrev pub local : ℕ → List ℕ → List ℕ
 local e p = form 12 e p
+
+abbrev pub freezable : ℕ → List ℕ → List ℕ
+freezable e p = form 13 e p
 
 -- these two ask for a value by its number
 abbrev pub if-value : ℕ → List ℕ → List ℕ → List ℕ
@@ -955,6 +1001,126 @@ asking-the-box =
     ∷ [])
     ∷ []
 
+-- L8: what is parked goes into the store. A piece as bytes; a store of forty bytes with n of them in use, all zero behind the pieces l
+abbrev pub parked : ℕ → ℕ → List ℕ → List ℕ
+parked e n state = e / 256 ∷ e % 256 ∷ n / 256 ∷ n % 256 ∷ state
+
+abbrev pub store-of : ℕ → List ℕ → List ℕ
+store-of n l = n / 256 ∷ n % 256 ∷ (l ++ replicate (38 - length l) 0)
+
+abbrev pub empty : List ℕ
+empty = store-of 0 []
+
+-- Freezable(0, Stop)
+abbrev pub frozen-stop : List ℕ
+frozen-stop = table (freezable 0 stop) [] 1
+
+-- Loop(Seq(Freezable(0, Stop), Seq(Stop, Freezable(0, Seq(Stop, Stop)))))
+abbrev pub two-frozen : List ℕ
+two-frozen = table (loop (seq (freezable 0 stop) (seq stop (freezable 0 (seq stop stop))))) [] 1
+
+abbrev pub parked-pieces : List Entry
+parked-pieces =
+    -- its event present: the body, which has stopped, is parked, and the program has finished; what reads as Nothing is parked all the same
+    parking frozen-stop 0 0 2 8
+    (storing empty (store-of 8 (parked 0 1 (phases (3 ∷ []))))
+    (instant (0 ∷ []) (ran (0 ∷ []) 1 0 0 true 1) row9 (room (3 ∷ 0 ∷ [])))
+    ∷ [])
+    -- its event absent: nothing is parked, and the body that then ends isn't either
+    ∷ parking frozen-stop 0 0 2 8
+    (storing empty empty (instant [] (waiting 0 0 (ran [] 0 no-event 0 false 2)) row9 (room (0 ∷ 3 ∷ [])))
+    ∷ storing empty empty (instant (0 ∷ []) (ran (0 ∷ []) 1 0 0 true 1) row9 (room (3 ∷ 0 ∷ [])))
+    ∷ [])
+    -- Freezable(0, Await 1): parked once the end is declared, which answers STOP; the next instant finds the program finished
+    ∷ parking (table (freezable 0 (await 0)) (event 1) 2) 0 0 2 8
+    (storing empty (store-of 8 (parked 0 1 (phases (0 ∷ []))))
+    (instant (0 ∷ []) (waiting 1 1 (ran (0 ∷ []) 1 0 0 false 2)) row9 (room (3 ∷ 0 ∷ [])))
+    ∷ storing (store-of 8 (parked 0 1 (phases (0 ∷ [])))) (store-of 8 (parked 0 1 (phases (0 ∷ []))))
+    (instant [] (ran [] 0 no-event 0 true 1) row9 (room (3 ∷ 0 ∷ [])))
+    ∷ [])
+    -- Seq(Freezable(0, Seq(Stop, Atom 5)), Atom 6): the Seq goes on
+    ∷ parking (table (seq (freezable 0 (seq stop (atom 5))) (atom 6)) [] 1) 0 2 6 16
+    (storing empty (store-of 16 (parked 0 2 (phases (0 ∷ 3 ∷ 0 ∷ []))))
+    (instant (0 ∷ []) (ran (0 ∷ []) 1 0 1 true 1) (6 ∷ 9 ∷ 9 ∷ 9 ∷ []) (room (3 ∷ 0 ∷ 0 ∷ 0 ∷ 0 ∷ 0 ∷ [])))
+    ∷ [])
+    -- Freezable(0, Freezable(1, Await 2)): the inner one first, and then the outer one's body, which reads as Nothing: all of F
+    ∷ parking (table (freezable 0 (freezable 1 (await 0))) (event 2) 3) 0 0 3 20
+    (storing empty (store-of 20 (parked 1 2 (phases (0 ∷ [])) ++ parked 0 1 (phases (3 ∷ 0 ∷ []))))
+    (instant (0 ∷ 1 ∷ []) (waiting 2 2 (ran (0 ∷ 1 ∷ []) 2 0 0 false 2)) row9 (room (3 ∷ 0 ∷ 0 ∷ [])))
+    ∷ [])
+    -- in a Loop: a second instant's pieces stand behind the first one's, in the order in which they are parked
+    ∷ parking two-frozen 0 0 19 48
+    (storing (empty ++ replicate 12 0) (store-of 8 (parked 0 3 (phases (3 ∷ []))) ++ replicate 12 0)
+    (instant (0 ∷ []) (ran (0 ∷ []) 1 0 0 false 1) row9 (room (1 ∷ 2 ∷ 0 ∷ 0 ∷ 0 ∷ 3 ∷ 0 ∷ 0 ∷ 0 ∷ 0 ∷ [])))
+    ∷ storing (store-of 8 (parked 0 3 (phases (3 ∷ []))) ++ replicate 18 0)
+    (store-of 32 (parked 0 3 (phases (3 ∷ [])) ++ (parked 0 7 (phases (0 ∷ 3 ∷ 0 ∷ [])) ++ parked 0 3 (phases (3 ∷ [])))) ++ replicate 18 0)
+    (instant (0 ∷ []) (ran (0 ∷ []) 1 0 0 false 1) row9 (room (1 ∷ 2 ∷ 0 ∷ 0 ∷ 0 ∷ 3 ∷ 0 ∷ 0 ∷ 0 ∷ 0 ∷ [])))
+    ∷ [])
+    -- Local(0, Par(Freezable(0, Stop), Generate 0)): the local event, which is reported nowhere
+    ∷ parking (table (local 0 (par (freezable 0 stop) (generate 0))) [] 1) 1 0 5 8
+    (storing empty (store-of 8 (parked 0 3 (phases (3 ∷ []))))
+    (instant [] (ran [] 0 no-event 0 true 2) row9 (room (3 ∷ 0 ∷ 0 ∷ 0 ∷ 0 ∷ [])))
+    ∷ [])
+    -- Par(Freezable(0, Loop(Stop)), Seq(Await 1, Generate 0)): an event generated behind it, found in the second pass
+    ∷ parking (table (par (freezable 0 (loop stop)) (seq (await 0) (generate 0))) (event 1) 2) 1 0 8 12
+    (storing empty (store-of 12 (parked 0 2 (phases (1 ∷ 3 ∷ []))))
+    (instant (1 ∷ []) (ran (0 ∷ 1 ∷ []) 2 0 0 true 2) row9 (room (3 ∷ 0 ∷ 0 ∷ 0 ∷ 0 ∷ 0 ∷ 0 ∷ [])))
+    ∷ [])
+    -- Repeat(2, Freezable(0, Stop)): each round parks
+    ∷ parking (table (repeat 2 (freezable 0 stop)) [] 1) 0 0 5 16
+    (storing empty (store-of 16 (parked 0 2 (phases (3 ∷ [])) ++ parked 0 2 (phases (3 ∷ []))))
+    (instant (0 ∷ []) (ran (0 ∷ []) 1 0 0 true 1) row9 (room (3 ∷ 0 ∷ 0 ∷ [])))
+    ∷ [])
+    -- Freezable(0, Repeat(3, Seq(Stop, Atom 1))): a body parked on its way keeps its count
+    ∷ parking (table (freezable 0 (repeat 3 (seq stop (atom 1)))) [] 1) 0 2 8 20
+    (storing empty empty
+    (instant [] (waiting 0 0 (ran [] 0 no-event 0 false 2)) row9 (own 0 0 0 ++ (own 1 0 2 ++ room (0 ∷ 3 ∷ 0 ∷ []))))
+    ∷ storing empty (store-of 20 (parked 0 1 (own 1 0 1 ++ phases (0 ∷ 3 ∷ 0 ∷ []))))
+    (instant (0 ∷ []) (ran (0 ∷ []) 1 0 1 true 1) (1 ∷ 9 ∷ 9 ∷ 9 ∷ []) (room (3 ∷ 0 ∷ 0 ∷ 0 ∷ 0 ∷ [])))
+    ∷ [])
+    -- Loop(Freezable(0, Stop)): a Freezable doesn't count as stopping
+    ∷ refused (table (loop (freezable 0 stop)) [] 1) (EndlessLoop 0) 7 0
+    -- V counts its event
+    ∷ refused (table (freezable 1 stop) [] 1) (BadNode 0) 5 0
+    -- pending between instants: not at rest
+    ∷ not-run frozen-stop (blames (phases (1 ∷ 3 ∷ [])) 0 ∷ [])
+    ∷ []
+
+-- the line of an instant that 25 or 13 refuses: with event 0 handed in, this store
+abbrev pub refuses : List ℕ → Outcome → ℕ → Line
+refuses store o number = storing store store (turned-down (set (0 ∷ [])) row9 (room (0 ∷ 0 ∷ [])) o number 0)
+
+abbrev pub refused-stores : List Entry
+refused-stores =
+    parking frozen-stop 0 0 2 8
+    -- 25: no sixteen bits; more in use than there is; a piece cut short; bytes behind the last piece; another event; another node; not at rest
+    (refuses [] BadStore 25
+    ∷ refuses (0 ∷ []) BadStore 25
+    ∷ refuses (0 ∷ 8 ∷ parked 0 1 (3 ∷ 0 ∷ 0 ∷ [])) BadStore 25
+    ∷ refuses (0 ∷ 7 ∷ parked 0 1 (phases (3 ∷ []))) BadStore 25
+    ∷ refuses (0 ∷ 11 ∷ (parked 0 1 (phases (3 ∷ [])) ++ (0 ∷ 0 ∷ 0 ∷ []))) BadStore 25
+    ∷ refuses (store-of 8 (parked 1 1 (phases (3 ∷ [])))) BadStore 25
+    ∷ refuses (store-of 12 (parked 0 0 (phases (3 ∷ 0 ∷ [])))) BadStore 25
+    ∷ refuses (store-of 8 (parked 0 1 (phases (1 ∷ [])))) BadStore 25
+    -- 13: F is 8, and two bytes are not for pieces; nor is what is in use
+    ∷ refuses (replicate 9 0) StoreRoom 13
+    ∷ refuses (0 ∷ 8 ∷ (parked 0 1 (phases (3 ∷ [])) ++ replicate 7 0)) StoreRoom 13
+    ∷ storing (replicate 10 0) (0 ∷ 8 ∷ parked 0 1 (phases (3 ∷ [])))
+    (instant (0 ∷ []) (ran (0 ∷ []) 1 0 0 true 1) row9 (room (3 ∷ 0 ∷ [])))
+    ∷ [])
+    -- 12 is met before 25
+    ∷ not-run (table (atom 4) [] 1) (storing [] [] (turned-down (set []) [] (room (0 ∷ [])) AtomRoom 12 0) ∷ [])
+    -- Repeat(0, Freezable(0, Stop)): no piece is from below a count of 0; count 1 has one there
+    ∷ parking (table (repeat 0 (freezable 0 stop)) [] 1) 0 0 1 0
+    (storing (store-of 8 (parked 0 2 (phases (0 ∷ [])))) (store-of 8 (parked 0 2 (phases (0 ∷ []))))
+    (turned-down (set []) row9 (room (0 ∷ 0 ∷ 0 ∷ [])) BadStore 25 0)
+    ∷ [])
+    ∷ parking (table (repeat 1 (freezable 0 stop)) [] 1) 0 0 3 8
+    (storing (store-of 8 (parked 0 2 (phases (0 ∷ [])))) (store-of 8 (parked 0 2 (phases (0 ∷ []))))
+    (instant [] (waiting 1 0 (ran [] 0 no-event 0 false 2)) row9 (room (1 ∷ 0 ∷ 3 ∷ [])))
+    ∷ [])
+    ∷ []
+
 abbrev pub bench-list : List Entry
 bench-list =
     K1-to-K12
@@ -963,4 +1129,4 @@ bench-list =
     ++ (resumed-rooms
     ++ (tests
     ++ (figures
-    ++ (harmless-loops ++ (waiting-tests ++ (many-events ++ (asking-the-box ++ (refused-tables ++ (refused-rooms ++ not-at-rest)))))))))))
+    ++ (harmless-loops ++ (waiting-tests ++ (many-events ++ (asking-the-box ++ (parked-pieces ++ (refused-stores ++ (refused-tables ++ (refused-rooms ++ not-at-rest)))))))))))))

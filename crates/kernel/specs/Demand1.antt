@@ -1,7 +1,7 @@
 -- Demand 1: "Every call takes its table, state, events and rooms as they come, and returns. Something bad gets the number of the first check it
 -- fails, and then nothing lent has been written. No table is run in part."
 -- The first sentence is in the contracts: none of the three calls has a `requires`, and a call's proof shows that it returns.
-use Prim.Native.Nat.{ℕ, zero, suc, _+_, _*_, _<_, _≤_}
+use Prim.Native.Nat.{ℕ, zero, suc, _+_, _*_, _<_, _≤_, min}
 use mathlib.Core.Bool.{Bool, true, false}
 use mathlib.Core.Path.{_≡_}
 use mathlib.Core.Logic.{_≢_, _⊎_}
@@ -11,16 +11,19 @@ use Rattle.events.specs.Events.{Events, none}
 use Rattle.events.specs.Members.{places}
 use Rattle.junior.specs.Values.{Values}
 use Rattle.junior.specs.Program.{Program, Loop, size}
-use Rattle.junior.specs.Figures.{stops, G, A, W}
+use Rattle.junior.specs.Figures.{stops, G, A, W, F}
+use Rattle.junior.specs.Trace.{Piece}
 use Rattle.table.specs.declared.Checked.{Checked}
 use Rattle.table.specs.Records.{nodes, configurations, events, back-to-nodes, back-to-configurations}
 use Rattle.table.specs.Good.{goodConfiguration, goodNode}
 use Rattle.table.specs.Spells.{Spells, treeOf}
 use Rattle.table.specs.Verdict.{Node, preorder, verdictOf, numberOf, indexOf}
 use Rattle.state.specs.Resting.{rests}
+use Rattle.store.specs.Store.{inUse}
+use Rattle.store.specs.Stored.{Stored}
 use Rattle.kernel.specs.declared.Outcome.{Outcome}
 use Rattle.kernel.specs.declared.Answer.{Answer}
-use Rattle.kernel.specs.Answer.{outcomeNumber, outcomeIndex, Started, Answered}
+use Rattle.kernel.specs.Answer.{Rooms, Bytes, outcomeNumber, outcomeIndex, Started, Answered}
 
 -- what a call is handed; check is handed a table alone, start a table and a state
 pub record Handed : Type 0 where
@@ -28,9 +31,13 @@ pub record Handed : Type 0 where
   pub state : List ℕ
   pub handed-in : Events
   pub row : List ℕ
+  pub store : List ℕ
 
-abbrev pub handed : List ℕ → List ℕ → Events → List ℕ → Handed
-handed t s X row = record { table = t; state = s; handed-in = X; row = row }
+abbrev pub handed : List ℕ → List ℕ → Events → Rooms → Handed
+handed t s X lent = record { table = t; state = s; handed-in = X; row = lent .row; store = lent .store }
+
+abbrev pub no-rooms : Rooms
+no-rooms = record { row = []; store = [] }
 
 -- the lowest of the first n that isn't good is i
 pub record LowestBad (good : ℕ → Bool) (n i : ℕ) : Type 0 where
@@ -53,7 +60,7 @@ pub record Endless (x : Node) : Type 0 where
 -- the checks, in their order (01, "Refusal numbers")
 pub data Check : Type 0 where
   its-length its-counts its-distances its-configurations its-nodes its-depth its-loops its-figures : Check
-  state-room state-at-rest listed-events atom-room : Check
+  state-room state-at-rest listed-events atom-room good-store store-room : Check
 
 abbrev pub number : Check → ℕ
 number its-length = 1
@@ -68,6 +75,8 @@ number state-room = 9
 number state-at-rest = 10
 number listed-events = 11
 number atom-room = 12
+number good-store = 25
+number store-room = 13
 
 -- a check fails, with an index
 abbrev pub Fails : Check → Handed → ℕ → Type 0
@@ -92,9 +101,11 @@ Fails its-nodes h i = LowestBad (goodNode (h .table)) (nodes (h .table)) i
 Fails its-depth h i = LowestNode (λ x. 64 < x .depth) (preorder 1 (treeOf (h .table))) i
 -- "a Loop's body doesn't stop", lowest Loop
 Fails its-loops h i = LowestNode Endless (preorder 1 (treeOf (h .table))) i
--- "G, A or W beyond its limit": G is at most 4,094, A 4,096, W 65,535
+-- "G, A or W beyond its limit": G is at most 4,094, A 4,096, W 65,535; L8: "8 also for F above 16,384"
 Fails its-figures h i =
-    ((4094 < G (treeOf (h .table))) ⊎ ((4096 < A (treeOf (h .table))) ⊎ (65535 < W (treeOf (h .table))))) × (i ≡ 0)
+    ((4094 < G (treeOf (h .table)))
+    ⊎ ((4096 < A (treeOf (h .table))) ⊎ ((65535 < W (treeOf (h .table))) ⊎ (16384 < F (treeOf (h .table))))))
+    × (i ≡ 0)
 -- "state room below 4N bytes"
 Fails state-room h i = (length (h .state) < 4 * nodes (h .table)) × (i ≡ 0)
 -- "state not at rest", lowest blamed
@@ -107,6 +118,10 @@ Fails listed-events h i =
     × ((e : ℕ) → e < i → h .handed-in e ≡ true → e < events (h .table))
 -- "atom row shorter than A"
 Fails atom-room h i = (length (h .row) < A (treeOf (h .table))) × (i ≡ 0)
+-- L8: "a store not so laid out (..) or with a piece not at rest": no list of pieces of the table stands there
+Fails good-store h i = ((l : List Piece) → Stored (h .table) (h .store) l → ⊥) × (i ≡ 0)
+-- L8: "exactly when the store's length, at most 65,537 of it, less 2 and all pieces is below F"
+Fails store-room h i = (min (length (h .store)) 65537 < 2 + inUse (h .store) + F (treeOf (h .table))) × (i ≡ 0)
 
 abbrev pub Passes : Check → Handed → Type 0
 Passes c h = (i : ℕ) → Fails c h i → ⊥
@@ -137,7 +152,7 @@ abbrev pub checks-of-start : List Check
 checks-of-start = checks-of-table ++ (state-room ∷ [])
 
 abbrev pub checks-of-instant : List Check
-checks-of-instant = checks-of-table ++ (state-room ∷ state-at-rest ∷ listed-events ∷ atom-room ∷ [])
+checks-of-instant = checks-of-table ++ (state-room ∷ state-at-rest ∷ listed-events ∷ atom-room ∷ good-store ∷ store-room ∷ [])
 
 -- what runs is what the whole of the table spells, all N records of it
 pub record WholeTable (t : List ℕ) : Type 0 where
@@ -147,18 +162,21 @@ pub record WholeTable (t : List ℕ) : Type 0 where
 -- of every answer that the contracts allow
 pub record Demand1 : Type 0 where
   pub checked : (t : List ℕ) (r : Checked) → r ≡ verdictOf t
-      → ByFirstCheck checks-of-table (handed t [] none []) (numberOf r) (indexOf r)
+      → ByFirstCheck checks-of-table (handed t [] none no-rooms) (numberOf r) (indexOf r)
   pub started : {t s s′ : List ℕ} {r : Outcome} → Started t s s′ r
-      → ByFirstCheck checks-of-start (handed t s none []) (outcomeNumber r) (outcomeIndex r)
-  pub answered : {t s : List ℕ} {X : Events} {value : Values} {row s′ row′ : List ℕ} {r : Answer} → Answered t s X value row s′ row′ r
-      → ByFirstCheck checks-of-instant (handed t s X row) (outcomeNumber (r .outcome)) (outcomeIndex (r .outcome))
+      → ByFirstCheck checks-of-start (handed t s none no-rooms) (outcomeNumber r) (outcomeIndex r)
+  pub answered : {t s : List ℕ} {X : Events} {value : Values} {lent : Rooms} {s′ : List ℕ} {left : Rooms} {r : Answer} → Bytes (lent .store)
+      → Answered t s X value lent s′ left r
+      → ByFirstCheck checks-of-instant (handed t s X lent) (outcomeNumber (r .outcome)) (outcomeIndex (r .outcome))
   -- "and then nothing lent has been written"
   pub start-writes-nothing : {t s s′ : List ℕ} {r : Outcome} → Started t s s′ r → outcomeNumber r ≢ 0 → s′ ≡ s
-  pub instant-writes-nothing : {t s : List ℕ} {X : Events} {value : Values} {row s′ row′ : List ℕ} {r : Answer} → Answered t s X value row s′ row′ r
+  pub instant-writes-nothing : {t s : List ℕ} {X : Events} {value : Values} {lent : Rooms} {s′ : List ℕ} {left : Rooms} {r : Answer}
+      → Answered t s X value lent s′ left r
       → outcomeNumber (r .outcome) ≢ 0
-      → (s′ ≡ s) × (row′ ≡ row)
+      → (s′ ≡ s) × (left ≡ lent)
   -- "No table is run in part"
   pub starts-whole : {t s s′ : List ℕ} {r : Outcome} → Started t s s′ r → outcomeNumber r ≡ 0 → WholeTable t
-  pub runs-whole : {t s : List ℕ} {X : Events} {value : Values} {row s′ row′ : List ℕ} {r : Answer} → Answered t s X value row s′ row′ r
+  pub runs-whole : {t s : List ℕ} {X : Events} {value : Values} {lent : Rooms} {s′ : List ℕ} {left : Rooms} {r : Answer}
+      → Answered t s X value lent s′ left r
       → outcomeNumber (r .outcome) ≡ 0
       → WholeTable t

@@ -11,7 +11,7 @@ use lib.Dec.{eqb, leb, ltb}
 use lib.ListN.{length, take, drop}
 use Rattle.events.specs.Events.{Events, none as no-event, howMany, lowest}
 use Rattle.junior.specs.Configuration.{Config, Event, Not, And, Or, handed-in}
-use Rattle.junior.specs.Program.{Program, Argument, no-argument, number, event, configuration, value, capped, argument}
+use Rattle.junior.specs.Program.{Program, Argument, no-argument, number, event, configuration, value, capped, argument, kind}
 use Rattle.junior.specs.Program.{Parts, no-part, one-part, two-parts, parts}
 use Rattle.junior.specs.Values.{Values}
 use Rattle.junior.specs.Term.{Term, prog}
@@ -75,13 +75,17 @@ ArguesBefore t i (configuration c) = ConfiguredBefore t (tested t i) c
 ArguesBefore t i (value v) = ⊥
 ArguesBefore t i (capped v cap) = ⊥
 
-abbrev pub SpellsBefore : {p : Program} → List ℕ → ℕ → Parts p → Type 0
-SpellsBefore {p} t i (no-part f) = Heads t i p × ArguesBefore t i (argument p)
-SpellsBefore {p} t i (one-part f q) = Heads t i p × ArguesBefore t i (argument p) × SpellsBefore t (i + 1) q
-SpellsBefore {p} t i (two-parts f q r) =
-    Heads t i p × ArguesBefore t i (argument p) × SpellsBefore t (i + 1) q × SpellsBefore t (secondAt t i) r
+-- no kind was above 12
+abbrev pub HeadsBefore : List ℕ → ℕ → Program → Type 0
+HeadsBefore t i p = Heads t i p × (kind p ≤ 12)
 
--- t was accepted, with the tree p and these figures: none of refusals 1 to 8
+abbrev pub SpellsBefore : {p : Program} → List ℕ → ℕ → Parts p → Type 0
+SpellsBefore {p} t i (no-part f) = HeadsBefore t i p × ArguesBefore t i (argument p)
+SpellsBefore {p} t i (one-part f q) = HeadsBefore t i p × ArguesBefore t i (argument p) × SpellsBefore t (i + 1) q
+SpellsBefore {p} t i (two-parts f q r) =
+    HeadsBefore t i p × ArguesBefore t i (argument p) × SpellsBefore t (i + 1) q × SpellsBefore t (secondAt t i) r
+
+-- t was accepted, with the tree p and these figures: none of refusals 1 to 8; nothing was parked (L8)
 pub record AcceptedBefore (t : List ℕ) (p : Program) (g a w : ℕ) : Type 0 where
   pub length-good : lengthGood t ≡ true
   pub n-range : (1 ≤ nodes t) × (nodes t ≤ 4096)
@@ -91,7 +95,7 @@ pub record AcceptedBefore (t : List ℕ) (p : Program) (g a w : ℕ) : Type 0 wh
   pub configurations-good : (j : ℕ) → j < configurations t → (goodButHeightBefore t j ≡ true) × (heightBefore t 16 j ≡ true)
   pub nodes-good : (i : ℕ) → i < nodes t → goodNode t i ≡ true
   pub spelled : SpellsBefore t 0 (parts p)
-  pub figures : programVerdict p ≡ Accepted g a w
+  pub figures : programVerdict p ≡ Accepted g a w 0
 
 -- an event set that could be handed in then
 abbrev pub HandedBefore : Events → Type 0

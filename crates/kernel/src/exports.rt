@@ -1,10 +1,11 @@
-// The three calls for C: plain numbers and lent places. include/zapper.h says what stands in each place of an answer.
+// The four calls for C: plain numbers and lent places. include/zapper.h says what stands in each place of an answer.
 ghost use mathlib.Core.Path.{_≡_};
 ghost use mathlib.Core.List.{_++_};
 ghost use Prim.Native.Nat.{_+_, _≤_};
 ghost use lib.ListN.{length, take, drop};
 ghost use Rattle.table.specs.Verdict.{verdictOf};
-ghost use Rattle.kernel.specs.Exports.{checkPlaces, StartedInPlaces, AnsweredInPlaces};
+ghost use Rattle.kernel.specs.Answer.{rooms};
+ghost use Rattle.kernel.specs.Exports.{checkPlaces, StartedInPlaces, AnsweredInPlaces, TookInPlaces};
 use crate::instant;
 use crate::numbers::refusal_of;
 use crate::start;
@@ -13,6 +14,8 @@ use events::WORDS;
 use table::Checked;
 use table::check;
 use table::numbers::refusal_of_table;
+use taking::numbers::refusal_of_taking;
+use taking::take;
 
 // An instant's answer has so many places in front of the words of its events, and so many in all.
 const LEADING: usize = 9;
@@ -20,7 +23,7 @@ const LEADING: usize = 9;
 const INSTANT_PLACES: usize = LEADING + WORDS;
 
 #[no_mangle]
-pub extern "C" fn zapper_check(table: &[u8], answer: &mut [u64; 5])
+pub extern "C" fn zapper_check(table: &[u8], answer: &mut [u64; 6])
     ensures { λ _. ⌜ now (answer .exit) ≡ checkPlaces (verdictOf (now (table .entry))) ⌝ }
 {
     let verdict = check(table);
@@ -30,6 +33,7 @@ pub extern "C" fn zapper_check(table: &[u8], answer: &mut [u64; 5])
             generations,
             atoms,
             nodes,
+            parked,
         } => {
             *answer = [
                 refusal.number as u64,
@@ -37,10 +41,11 @@ pub extern "C" fn zapper_check(table: &[u8], answer: &mut [u64; 5])
                 generations as u64,
                 atoms as u64,
                 nodes as u64,
+                parked as u64,
             ];
         }
         _ => {
-            *answer = [refusal.number as u64, refusal.index as u64, 0, 0, 0];
+            *answer = [refusal.number as u64, refusal.index as u64, 0, 0, 0, 0];
         }
     }
 }
@@ -60,13 +65,15 @@ pub extern "C" fn zapper_instant(
     handed_in: &[u64; WORDS],
     values: &[u8; 16],
     atoms: &mut [u16],
+    store: &mut [u8],
     answer: &mut [u64; INSTANT_PLACES],
 )
     ensures { λ _. ⌜ AnsweredInPlaces (now (table .entry)) (now (state .entry)) (now («handed_in» .entry)) (now (values .entry))
-        (now (atoms .entry)) (now (state .exit)) (now (atoms .exit)) (now (answer .exit)) ⌝ }
+        (rooms (now (atoms .entry)) (now (store .entry))) (now (state .exit)) (rooms (now (atoms .exit)) (now (store .exit)))
+        (now (answer .exit)) ⌝ }
 {
     let words = *handed_in;
-    let a = instant(table, state, EventSet { words }, values, atoms);
+    let a = instant(table, state, EventSet { words }, values, atoms, store);
     let outcome = a.outcome;
     let refusal = refusal_of(outcome);
     let leading = [
@@ -82,6 +89,30 @@ pub extern "C" fn zapper_instant(
     ];
     let present = a.events.words;
     *answer = places_of(leading, present);
+}
+
+// The newest piece of an event leaves the store as a table and a state; their lengths follow number and index.
+#[no_mangle]
+pub extern "C" fn zapper_take(
+    table: &[u8],
+    store: &mut [u8],
+    event: usize,
+    table_room: &mut [u8],
+    state_room: &mut [u8],
+    answer: &mut [u64; 4],
+)
+    ensures { λ _. ⌜ TookInPlaces (now (table .entry)) (now (store .entry)) event (now («table_room» .entry)) (now («state_room» .entry))
+        (now (store .exit)) (now («table_room» .exit)) (now («state_room» .exit)) (now (answer .exit)) ⌝ }
+{
+    let taken = take(table, store, event, table_room, state_room);
+    let outcome = taken.outcome;
+    let refusal = refusal_of_taking(outcome);
+    *answer = [
+        refusal.number as u64,
+        refusal.index as u64,
+        taken.table as u64,
+        taken.state as u64,
+    ];
 }
 
 // What stands in front of the words of the events, and these words.

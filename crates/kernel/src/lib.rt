@@ -5,7 +5,8 @@ ghost use mathlib.Core.Bool.{_&&_};
 ghost use lib.Dec.{leb};
 ghost use Rattle.events.specs.Events.{lowest};
 ghost use Rattle.events.specs.Members.{places, members};
-ghost use Rattle.kernel.specs.Answer.{Started, instantOutcome, valuesOf, Answered, Refused};
+ghost use Rattle.table.specs.Inside.{Loaded};
+ghost use Rattle.kernel.specs.Answer.{Started, rooms, storeOutcome, instantOutcome, valuesOf, Answered, Refused};
 use crate::passes::HandedIn;
 use crate::passes::run_passes;
 use crate::values::eight_from;
@@ -13,6 +14,9 @@ use events::EventSet;
 use events::WORDS;
 use state::clear;
 use state::resting::first_blamed;
+use store::good::store_good;
+use store::put_in_use;
+use store::room_of;
 use table::Checked;
 use table::check;
 use table::records::word_at;
@@ -34,6 +38,9 @@ pub enum Outcome {
     NotAtRest(usize),
     UnlistedEvent(usize),
     AtomRoom,
+    // The store of parked pieces isn't good, or has too little room (L8).
+    BadStore,
+    StoreRoom,
 }
 
 // What an instant answers (01, "Rules of a pass").
@@ -62,6 +69,7 @@ pub fn start(table: &[u8], state: &mut [u8]) -> Outcome
             generations: _,
             atoms: _,
             nodes: _,
+            parked: _,
         } => {
             let n = word_at(table, table.len() - 10);
             if state.len() < 4 * n {
@@ -74,36 +82,48 @@ pub fn start(table: &[u8], state: &mut [u8]) -> Outcome
     }
 }
 
-// Runs one instant with these events and values handed in: refusals 1 to 12. The numbers of the atoms done go into the row `atoms`, in order.
+// Runs one instant with these events and values handed in: refusals 1 to 13, and 25. The numbers of the atoms done go into the row `atoms`, in order,
+// the pieces parked into the store, behind those that are there.
 pub fn instant(
     table: &[u8],
     state: &mut [u8],
     events: EventSet,
     values: &[u8; 16],
     atoms: &mut [u16],
+    store: &mut [u8],
 ) -> Answer
     ensures { λ r.
-        ⌜ Answered (now (table .entry)) (now (state .entry)) (members events) (valuesOf (now (values .entry))) (now (atoms .entry))
-        (now (state .exit)) (now (atoms .exit)) r ⌝ }
+        ⌜ Answered (now (table .entry)) (now (state .entry)) (members events) (valuesOf (now (values .entry)))
+        (rooms (now (atoms .entry)) (now (store .entry))) (now (state .exit)) (rooms (now (atoms .exit)) (now (store .exit))) r ⌝ }
 {
-    let outcome = outcome_of(table, state, events, atoms);
+    let outcome = outcome_of(table, state, events, atoms, store);
     match outcome {
         Outcome::Ran => {
             let n = word_at(table, table.len() - 10);
+            let used = word_at(store, 0);
             let handed = HandedIn {
                 events,
                 low: eight_from(values, 0),
                 high: eight_from(values, 8),
             };
-            run_passes(table, &mut state[..4 * n], handed, atoms)
+            let ending = run_passes(
+                table,
+                &mut state[..4 * n],
+                handed,
+                atoms,
+                &mut store[2 + used..],
+            );
+            put_in_use(store, used + ending.parked);
+            ending.answer
         }
         _ => refused(outcome),
     }
 }
 
-// The first check that an instant's table, state, events or room for atoms fails.
-fn outcome_of(table: &[u8], state: &[u8], events: EventSet, atoms: &[u16]) -> Outcome
-    ensures { λ r. ⌜ r ≡ instantOutcome (now (table .entry)) (now (state .entry)) (members events) (now (atoms .entry)) ⌝ }
+// The first check that an instant's table, state, events, room for atoms or store fails.
+fn outcome_of(table: &[u8], state: &[u8], events: EventSet, atoms: &[u16], store: &[u8]) -> Outcome
+    ensures { λ r.
+        ⌜ r ≡ instantOutcome (now (table .entry)) (now (state .entry)) (members events) (rooms (now (atoms .entry)) (now (store .entry))) ⌝ }
 {
     let verdict = check(table);
     match verdict {
@@ -111,6 +131,7 @@ fn outcome_of(table: &[u8], state: &[u8], events: EventSet, atoms: &[u16]) -> Ou
             generations: _,
             atoms: most,
             nodes: _,
+            parked,
         } => {
             let n = word_at(table, table.len() - 10);
             if state.len() < 4 * n {
@@ -126,12 +147,26 @@ fn outcome_of(table: &[u8], state: &[u8], events: EventSet, atoms: &[u16]) -> Ou
                 return Outcome::UnlistedEvent(e);
             }
             if most <= atoms.len() {
-                return Outcome::Ran;
+                return store_outcome(table, store, parked);
             }
             Outcome::AtomRoom
         }
         _ => Outcome::Table(verdict),
     }
+}
+
+// The first check that a store fails, of an accepted table that parks so many bytes at most.
+fn store_outcome(table: &[u8], store: &[u8], parked: usize) -> Outcome
+    requires { ⌜ Loaded (now table) ⌝ }
+    ensures { λ r. ⌜ r ≡ storeOutcome (now (table .entry)) (now (store .entry)) parked ⌝ }
+{
+    if store_good(table, store) {
+        if parked <= room_of(store) {
+            return Outcome::Ran;
+        }
+        return Outcome::StoreRoom;
+    }
+    Outcome::BadStore
 }
 
 // The lowest event of the set that is not below v; `PLACES` if none is.

@@ -31,5 +31,13 @@ pub fn refusal_of(outcome: Outcome) -> Refusal
             number: 12,
             index: 0,
         },
+        Outcome::BadStore => Refusal {
+            number: 25,
+            index: 0,
+        },
+        Outcome::StoreRoom => Refusal {
+            number: 13,
+            index: 0,
+        },
     }
 }

@@ -1,9 +1,7 @@
 // An instant's passes, over the state's own bytes.
 ghost use mathlib.Core.Path.{_≡_};
 ghost use Rattle.events.specs.Members.{members};
-ghost use Rattle.kernel.specs.declared.Outcome.the-variants.{Ran};
-ghost use Rattle.kernel.specs.Answer.{Run};
-ghost use Rattle.kernel.specs.Passes.{wordValues, Startable, RanBehind, Reported, LeadsIfStill, WaitsAfter};
+ghost use Rattle.kernel.specs.Passes.{wordValues, Startable, RanFree, RanBehind, Reported, LeadsIfStill, WaitsAfter};
 use crate::Answer;
 use crate::Outcome;
 use events::EventSet;
@@ -13,6 +11,7 @@ use steps::flags::TERM;
 use steps::numbers::ATOMS;
 use steps::numbers::MOVED;
 use steps::numbers::NUMBERS;
+use steps::numbers::PARKED;
 use steps::numbers::events_of;
 use steps::numbers::first_numbers;
 use steps::numbers::next_pass;
@@ -29,25 +28,44 @@ pub struct HandedIn {
     pub high: u64,
 }
 
-// Passes from node 0 until one answers STOP or TERM (01, "Instant"). All that stands here is walked by hand: the slices are handed on as
+// What an instant ends with: its answer, and how many bytes were parked.
+pub struct Ending {
+    pub answer: Answer,
+    pub parked: usize,
+}
+
+// Passes from node 0 until one answers STOP or TERM (01, "Instant"); `free` is the free part of the store. All that stands here is walked by hand: the slices are handed on as
 // references of one register each, which no slice that is a parameter can be lent as otherwise.
-pub fn run_passes(table: &[u8], state: &mut [u8], handed: HandedIn, atoms: &mut [u16]) -> Answer
-    requires { ⌜ Startable (now table) (now state) (now atoms) ⌝ }
-    ensures { λ r. ⌜ (r .outcome ≡ Ran)
-        × Run (now (table .entry)) (now (state .entry)) (members (handed .events)) (wordValues (handed .low) (handed .high)) (now (atoms .entry))
-        (now (state .exit)) (now (atoms .exit)) r ⌝ }
+pub fn run_passes(
+    table: &[u8],
+    state: &mut [u8],
+    handed: HandedIn,
+    atoms: &mut [u16],
+    free: &mut [u8],
+) -> Ending
+    requires { ⌜ Startable (now table) (now state) (now atoms) (now free) ⌝ }
+    ensures { λ r.
+        ⌜ RanFree (now (table .entry)) (now (state .entry)) (members (handed .events)) (wordValues (handed .low) (handed .high))
+        (now (atoms .entry)) (now (free .entry)) (now (state .exit)) (now (atoms .exit)) (now (free .exit)) r ⌝ }
 {
     let mut s = state;
     let mut w = atoms;
-    run_from(table, &mut s, handed, &mut w)
+    let mut f = free;
+    run_from(table, &mut s, handed, &mut w, &mut f)
 }
 
-// The passes themselves. The slices left behind the two references have the names of those lent: they are no others.
-fn run_from(table: &[u8], state: &mut &mut [u8], handed: HandedIn, atoms: &mut &mut [u16]) -> Answer
-    requires { ⌜ Startable (now table) (now (now state)) (now (now atoms)) ⌝ }
+// The passes themselves. The slices left behind the three references have the names of those lent: they are no others.
+fn run_from(
+    table: &[u8],
+    state: &mut &mut [u8],
+    handed: HandedIn,
+    atoms: &mut &mut [u16],
+    free: &mut &mut [u8],
+) -> Ending
+    requires { ⌜ Startable (now table) (now (now state)) (now (now atoms)) (now (now free)) ⌝ }
     ensures { λ r.
         ⌜ RanBehind (now (table .entry)) (now (state .entry)) (members (handed .events)) (wordValues (handed .low) (handed .high))
-        (now (atoms .entry)) (now (state .exit)) (now (atoms .exit)) r ⌝ }
+        (now (atoms .entry)) (now (free .entry)) (now (state .exit)) (now (atoms .exit)) (now (free .exit)) r ⌝ }
 {
     let nodes = word_at(table, table.len() - 10);
     let mut row = first_numbers(handed.events, handed.low, handed.high, 6 * nodes);
@@ -55,13 +73,27 @@ fn run_from(table: &[u8], state: &mut &mut [u8], handed: HandedIn, atoms: &mut &
     let mut waits = no_wait();
     loop {
         passes += 1;
-        let flag = run_child(&table, 0, state, &mut row, atoms);
+        let flag = run_child(&table, 0, state, &mut row, atoms, free);
         if flag == STOP {
-            return report(events_of(&row), row[ATOMS] as usize, false, passes, waits);
+            return report(
+                events_of(&row),
+                row[ATOMS] as usize,
+                row[PARKED] as usize,
+                false,
+                passes,
+                waits,
+            );
         }
         if flag == TERM {
             state[0] = GONE;
-            return report(events_of(&row), row[ATOMS] as usize, true, passes, waits);
+            return report(
+                events_of(&row),
+                row[ATOMS] as usize,
+                row[PARKED] as usize,
+                true,
+                passes,
+                waits,
+            );
         }
         waits = waits_after(table, state, &row, waits);
         next_pass(&mut row);
@@ -80,11 +112,18 @@ fn waits_after(table: &[u8], state: &mut [u8], numbers: &[u64; NUMBERS], waits: 
     waits
 }
 
-// The answer of an instant that was run.
-fn report(events: EventSet, atoms: usize, finished: bool, passes: usize, waits: Wait) -> Answer
-    ensures { λ r. ⌜ Reported events atoms finished passes waits r ⌝ }
+// The answer of an instant that was run, and the bytes parked.
+fn report(
+    events: EventSet,
+    atoms: usize,
+    parked: usize,
+    finished: bool,
+    passes: usize,
+    waits: Wait,
+) -> Ending
+    ensures { λ r. ⌜ Reported events atoms parked finished passes waits r ⌝ }
 {
-    Answer {
+    let answer = Answer {
         outcome: Outcome::Ran,
         events,
         count: events.count(),
@@ -93,5 +132,6 @@ fn report(events: EventSet, atoms: usize, finished: bool, passes: usize, waits: 
         finished,
         passes,
         waits,
-    }
+    };
+    Ending { answer, parked }
 }

@@ -14,7 +14,7 @@ use Rattle.junior.specs.Values.{Values, zeros}
 use Rattle.listing.specs.Input.{Reading}
 use Rattle.listing.specs.Output.{Written}
 use Rattle.kernel.specs.declared.Answer.{Answer}
-use Rattle.kernel.specs.Answer.{valuesOf, Run}
+use Rattle.kernel.specs.Answer.{valuesOf, Rooms, Run}
 use Rattle.waiting.specs.declared.Wait.{Wait}
 use Rattle.letters.specs.Rooms.{Puts}
 use Rattle.letters.proofs.Rooms.{sets-front}
@@ -39,14 +39,17 @@ zeros-handed = fun-ext (λ v. go v (ltb v 16) refl)
     go v false e = refl
 
 -- the atoms done are in the row
-pub atoms-within : {t s : List ℕ} {X : Events} {value : Values} {row s′ row′ : List ℕ} {r : Answer} → Run t s X value row s′ row′ r
-    → r .atoms ≤ length row′
-atoms-within {row = row} {row′ = row′} {r = r} run =
-    let long : length row′ ≡ _ = ap length (run .row-is) ∙ length-append (atoms (run .result .acts)) (drop (r .atoms) row) in
+pub atoms-within : {t s : List ℕ} {X : Events} {value : Values} {lent : Rooms} {s′ : List ℕ} {left : Rooms} {r : Answer}
+    → Run t s X value lent s′ left r → r .atoms ≤ length (left .row)
+atoms-within {lent = lent} {left = left} {r = r} run =
+    let long : length (left .row) ≡ _ = ap length (run .row-is) ∙ length-append (atoms (run .result .acts)) (drop (r .atoms) (lent .row)) in
     omega (arith, run .atoms-are, long)
 
-pub answers : {why : Bool} {t s row line : List ℕ} {number : ℕ} {s′ row′ text old new : List ℕ} {least r : ℕ} → least ≤ length old
-    → Lists why t s row line number s′ row′ text → Written least text old new r → Answers why t s row line number s′ row′ old new r
+pub answers : {why : Bool} {t s : List ℕ} {lent : Rooms} {line : List ℕ} {number : ℕ} {s′ : List ℕ} {left : Rooms} {text old new : List ℕ} {least r : ℕ}
+    → least ≤ length old
+    → Lists why t s lent line number s′ left text
+    → Written least text old new r
+    → Answers why t s lent line number s′ left old new r
 answers {text = text} {old = old} {least = least} h l w =
     let enough = le-leb least (length old) h in
     record { text = text; lists = l; answer = simp enough at (w .answer); room = simp enough at (w .room); within = w .within }
@@ -56,13 +59,14 @@ pub line-end : {text old new : List ℕ} {least r : ℕ} → least ≤ length ol
 line-end {old = old} {least = least} h w = simp (le-leb least (length old) h) at (w .answer)
 
 -- the line of an instant that ran, with what was put under it
-module _ {why : Bool} {t s row line : List ℕ} {number : ℕ} {s′ row′ text old mid new : List ℕ} {least x r : ℕ} {w : Wait} where
+module _ {why : Bool} {t s : List ℕ} {lent : Rooms} {line : List ℕ} {number : ℕ} {s′ : List ℕ} {left : Rooms} {text old mid new : List ℕ}
+    {least x r : ℕ} {w : Wait} where
   pub answers-under : least ≤ length old
       → Written least text old mid x
       → (u : PutsUnder why t w mid new x r)
       → length mid ≡ length old
-      → Lists why t s row line number s′ row′ (text ++ u .more)
-      → Answers why t s row line number s′ row′ old new r
+      → Lists why t s lent line number s′ left (text ++ u .more)
+      → Answers why t s lent line number s′ left old new r
   answers-under h l u long lists =
       let enough = le-leb least (length old) h in
       let room = simp enough at (l .room) in

@@ -18,22 +18,23 @@ use Rattle.junior.proofs.WayDown.{Within}
 use Rattle.table.specs.Records.{nodes}
 use Rattle.kernel.specs.declared.Outcome.the-variants.{Ran}
 use Rattle.kernel.specs.declared.Answer.{Answer}
-use Rattle.kernel.specs.Answer.{outcomeNumber, outcomeIndex, nodeOf, Run, Answered}
+use Rattle.kernel.specs.Answer.{outcomeNumber, outcomeIndex, nodeOf, Rooms, Run, Answered}
 use Rattle.listing.specs.Output.{ranLine, badLine, refusedLine}
 use Rattle.player.specs.Waiting.{Under}
 use Rattle.player.specs.Answering.{Lists}
 use Rattle.player.specs.L1.{AsListed, OneLineMore, L1}
 use Rattle.player.proofs.Named.{named-inside, all-its-nodes}
 
-as-listed : {t s row line : List ℕ} {number : ℕ} {s′ row′ text : List ℕ} → Lists true t s row line number s′ row′ text
-    → AsListed t s row line number s′ row′ text
+as-listed : {t s : List ℕ} {lent : Rooms} {line : List ℕ} {number : ℕ} {s′ : List ℕ} {left : Rooms} {text : List ℕ}
+    → Lists true t s lent line number s′ left text
+    → AsListed t s lent line number s′ left text
 as-listed {number = number} (Lists.bad r) =
     record { listed = badLine number; more = []; lists = Lists.bad r; whole = sym (append-nil (badLine number)) }
 as-listed {number = number} (Lists.refused X a r n o) =
     let told = refusedLine number (outcomeNumber (a .outcome)) (outcomeIndex (a .outcome)) in
     record { listed = told; more = []; lists = Lists.refused X a r n o; whole = sym (append-nil told) }
-as-listed {number = number} (Lists.ran X a {row′ = row′} {more = more} r n o u) =
-    let told = ranLine number (a .passes) (a .finished) (members (a .events)) (take (a .atoms) row′) in
+as-listed {number = number} (Lists.ran X a {more = more} {left = left} r n o u) =
+    let told = ranLine number (a .passes) (a .finished) (members (a .events)) (take (a .atoms) (left .row)) in
     record {
       listed = told ++ [];
       more = more;
@@ -50,11 +51,11 @@ unnamed : (o : Option Wait) → found o ≡ false → nodeOf o ≡ 4096
 unnamed none e = refl
 unnamed (some w) e = absurd (false≢true (sym e))
 
-one-line-more : {t s : List ℕ} {X : Events} {value : Values} {row s′ row′ : List ℕ} {a : Answer} {more : List ℕ}
-    → Answered t s X value row s′ row′ a
+one-line-more : {t s : List ℕ} {X : Events} {value : Values} {lent : Rooms} {s′ : List ℕ} {left : Rooms} {a : Answer} {more : List ℕ}
+    → Answered t s X value lent s′ left a
     → a .outcome ≡ Ran
     → Under t (a .waits) true more
-    → (run : Run t s X value row s′ row′ a)
+    → (run : Run t s X value lent s′ left a)
     → OneLineMore run more
 one-line-more {t} {a = a} r e u run = go u
   where

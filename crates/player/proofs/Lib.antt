@@ -5,3 +5,4 @@ pub mod StandsUnder
 pub mod Answering
 pub mod Examples
 pub mod L1
+pub mod L8

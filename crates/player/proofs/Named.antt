@@ -18,7 +18,7 @@ use Rattle.junior.proofs.WayDown.{Within, within-none, waiting-in, widen, insid
 use Rattle.table.specs.Records.{nodes}
 use Rattle.kernel.specs.declared.Answer.{Answer}
 use Rattle.kernel.specs.declared.Outcome.the-variants.{Ran}
-use Rattle.kernel.specs.Answer.{nodeOf, Run, Answered}
+use Rattle.kernel.specs.Answer.{nodeOf, Rooms, Run, Answered}
 use Rattle.kernel.proofs.Outcomes.{Passed, all-passed}
 use Rattle.kernel.proofs.Accepted.{Admitted, admitted}
 use Rattle.player.specs.Inside.{OneOfItsNodes}
@@ -35,14 +35,15 @@ node-below : {n m : ℕ} (o : Option Wait) → Within 0 m o → n ≡ nodeOf o �
 node-below none a e h = absurd (h e)
 node-below (some w) a e h = omega (arith, a .nodes w refl .1)
 
-module _ {t s : List ℕ} {X : Events} {value : Values} {row s′ row′ : List ℕ} {a : Answer} (r : Answered t s X value row s′ row′ a) (e : a .outcome ≡ Ran) where
-  past : Passed t s X row
-  past = all-passed t s X row (sym (r .outcome-is) ∙ e)
+module _ {t s : List ℕ} {X : Events} {value : Values} {lent : Rooms} {s′ : List ℕ} {left : Rooms} {a : Answer} (r : Answered t s X value lent s′ left a)
+    (e : a .outcome ≡ Ran) where
+  past : Passed t s X lent
+  past = all-passed t s X lent (sym (r .outcome-is) ∙ e)
 
-  ok : Admitted t (past .generations) (past .most) (past .weight)
+  ok : Admitted t (past .generations) (past .most) (past .weight) (past .parked)
   ok = admitted t (past .verdict)
 
-  pub all-its-nodes : (run : Run t s X value row s′ row′ a) → (size (prog (run .term)) ≡ nodes t) × (nodes t ≤ 4096)
+  pub all-its-nodes : (run : Run t s X value lent s′ left a) → (size (prog (run .term)) ≡ nodes t) × (nodes t ≤ 4096)
   all-its-nodes run = (ap size (run .program) ∙ ok .whole, ok .loaded .framed .n-most)
 
   pub one-of-its-nodes : OneOfItsNodes t (a .waits)

@@ -1,6 +1,7 @@
 // What a line of input does.
 ghost use Prim.Native.Nat.{_+_, _≤_};
 ghost use lib.ListN.{length};
+ghost use Rattle.kernel.specs.Answer.{rooms};
 ghost use Rattle.listing.specs.Output.{enough};
 ghost use Rattle.player.specs.Waiting.{room-under};
 ghost use Rattle.player.specs.Answering.{Answers};
@@ -13,6 +14,7 @@ pub fn answer_line(
     table: &[u8],
     state: &mut [u8],
     row: &mut [u16],
+    store: &mut [u8],
     line: &[u8],
     number: u64,
     room: &mut [u8],
@@ -24,11 +26,11 @@ pub fn answer_line(
         why
         (now (table .entry))
         (now (state .entry))
-        (now (row .entry))
+        (rooms (now (row .entry)) (now (store .entry)))
         (now (line .entry))
         number
         (now (state .exit))
-        (now (row .exit))
+        (rooms (now (row .exit)) (now (store .exit)))
         (now (room .entry))
         (now (room .exit))
         r ⌝ }
@@ -38,7 +40,7 @@ pub fn answer_line(
         return listing::write_bad(room, number);
     }
     // A program that asks the box finds every value 0 (02, L14: "`zap-run` zeros").
-    let answer = kernel::instant(table, state, read.events, &[0; 16], row);
+    let answer = kernel::instant(table, state, read.events, &[0; 16], row, store);
     let outcome = answer.outcome;
     match outcome {
         Outcome::Ran => {

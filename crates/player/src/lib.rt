@@ -29,6 +29,9 @@ const STATE: usize = 16384;
 
 const ROW: usize = 4096;
 
+// Where the program's pieces are parked, begun empty: its first two bytes, which count those in use, are 0 (02, L8).
+const STORE: usize = 32768;
+
 const BLOCK: usize = 65536;
 
 // The room that an output line can take at most, with what stands under it.
@@ -39,6 +42,7 @@ pub fn play(why: bool) {
     let mut table = [0u8; TABLE];
     let mut state = [0u8; STATE];
     let mut row = [0u16; ROW];
+    let mut store = [0u8; STORE];
     let mut input = [0u8; BLOCK];
     let mut output = [0u8; BLOCK];
     let length = read_table(&mut table);
@@ -53,6 +57,7 @@ pub fn play(why: bool) {
         &table[..length],
         &mut state,
         &mut row,
+        &mut store,
         &mut input,
         &mut output,
         why,
@@ -64,6 +69,7 @@ fn list_lines(
     table: &[u8],
     state: &mut [u8],
     row: &mut [u16],
+    store: &mut [u8],
     input: &mut [u8],
     output: &mut [u8],
     why: bool,
@@ -75,13 +81,23 @@ fn list_lines(
     for _ in 0..TURNS {
         let got = read_some(0, &mut input[held..]).count;
         if got == 0 {
-            list_last(table, state, row, &input[..held], number, output, why);
+            list_last(
+                table,
+                state,
+                row,
+                store,
+                &input[..held],
+                number,
+                output,
+                why,
+            );
             return;
         }
         let place = list_block(
             table,
             state,
             row,
+            store,
             input,
             held,
             held + got,
@@ -99,6 +115,7 @@ fn list_last(
     table: &[u8],
     state: &mut [u8],
     row: &mut [u16],
+    store: &mut [u8],
     line: &[u8],
     number: u64,
     output: &mut [u8],
@@ -109,7 +126,7 @@ fn list_last(
     if line.len() == 0 {
         return;
     }
-    let n = answer_line(table, state, row, line, number, output, why);
+    let n = answer_line(table, state, row, store, line, number, output, why);
     write_out(&output[..n]);
 }
 
@@ -124,6 +141,7 @@ fn list_block(
     table: &[u8],
     state: &mut [u8],
     row: &mut [u16],
+    store: &mut [u8],
     input: &mut [u8],
     held: usize,
     to: usize,
@@ -145,6 +163,7 @@ fn list_block(
             table,
             state,
             row,
+            store,
             &input[from..end],
             next,
             &mut output[filled..],

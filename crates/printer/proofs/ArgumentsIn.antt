@@ -1,6 +1,6 @@
 -- Printing a node's own record: its argument by what its kind takes, and the head of its text.
 use Prim.Native.Nat.{ℕ, _+_, _-_, _≤_, _<_}
-use mathlib.Core.Bool.{Bool, true, false, cond}
+use mathlib.Core.Bool.{Bool, true, false}
 use mathlib.Core.Path.{_≡_, refl, sym, ap, subst, subst₂, _∙_}
 use mathlib.Core.List.{List, [], _++_}
 use native.Mathlib.Omega.{arith}
@@ -21,9 +21,9 @@ use Rattle.table.proofs.Tree.{kind-is, argued as argues}
 use Rattle.table.proofs.TestParts.{Test, ends-inside}
 use Rattle.table.proofs.Loaded.{fine-at}
 use Rattle.form.specs.Spelling.{spellArgument, spellTest}
-use Rattle.form.specs.Names.{formOfKind, opening}
-use Rattle.form.specs.Inside.Rows.{names, formRow, rowOf, formCount, nameEnd, inside}
-use Rattle.form.proofs.ComputedTests.{both, all, all-at}
+use Rattle.form.specs.Names.{opening}
+use Rattle.form.specs.Inside.Rows.{names, formRow, formCount, nameEnd, inside}
+use Rattle.form.proofs.ComputedTests.{all, all-at}
 use Rattle.letters.specs.Rooms.{Puts}
 use Rattle.printer.specs.Printing.{Fits, linked, link, takesTest, takesCap, takesNumber, cappedText, argument, head}
 use Rattle.printer.specs.Printing.{Printable, Shows, Testable, ShowsTest}
@@ -113,10 +113,10 @@ module _ {x : ℕ} (k : ℕ) (e : x ≡ inside k 3) where
   is-no-cap h = ne-eqb (inside k 3) 141 (λ z. h (e ∙ z))
 
 -- these codes stand behind the name in the table of names
-module _ (l : List ℕ) (k f n : ℕ) (e : l ≡ names) (form-is : f ≡ formOfKind k) (end-is : n ≡ nameEnd (formRow f)) where
+module _ (l : List ℕ) (k f n : ℕ) (e : l ≡ names) (form-is : f ≡ k) (end-is : n ≡ nameEnd (formRow f)) where
   pub first-code : getD l n 0 ≡ inside k 0
   unfolding inside
-  first-code = rw (e, end-is, form-is, add-zero (nameEnd (rowOf k)))
+  first-code = rw (e, end-is, form-is, add-zero (nameEnd (formRow k)))
 
   pub cap-code : getD l (n + 3) 0 ≡ inside k 3
   unfolding inside
@@ -124,7 +124,7 @@ module _ (l : List ℕ) (k f n : ℕ) (e : l ≡ names) (form-is : f ≡ formOfK
 
   pub link-is : linked (getD l n 0) (getD l (n + 1) 0) ≡ link k
   unfolding inside link
-  link-is = rw (e, end-is, form-is, add-zero (nameEnd (rowOf k)))
+  link-is = rw (e, end-is, form-is, add-zero (nameEnd (formRow k)))
 
 -- the test that a node has
 pub test-at : {t : List ℕ} {i : ℕ} {p : Program} → Placed t i p → argumentLimit t (kind p) ≡ configurations t → (d : Config)
@@ -174,22 +174,15 @@ module _ {t : List ℕ} {i : ℕ} where
 unfoldable brief : ℕ → Bool
 brief k = leb (length (opening k)) 13
 
-few-forms : (k : ℕ) → k ≤ 15 → formOfKind k < formCount
-few-forms k h = go (leb k 13) refl
-  where
-    go : (b : Bool) → leb k 13 ≡ b → cond b k (k - 1) < formCount
-    go true e = let l = leb-true k 13 e in omega arith
-    go false e = omega arith
+form-known : (p : Program) → kind p < formCount
+form-known p = let l = leb-true (kind p) 15 (by-kind p .known-kind) in omega arith
 
-form-known : (p : Program) → formOfKind (kind p) < formCount
-form-known p = few-forms (kind p) (leb-true (kind p) 15 (both {a = leb (kind p) 15} (by-kind p .known-kind) .0))
-
-pub name-short : (p : Program) → length (opening (formOfKind (kind p))) ≤ 13
+pub name-short : (p : Program) → length (opening (kind p)) ≤ 13
 unfolding all brief opening
-name-short p = leb-true _ 13 (all-at formCount brief refl (formOfKind (kind p)) (form-known p))
+name-short p = leb-true _ 13 (all-at formCount brief refl (kind p) (form-known p))
 
 -- the name, the argument, and what links it to a part; node i has form f
-module _ {t : List ℕ} {i f : ℕ} (e : f ≡ formOfKind (kindAt t i)) where
+module _ {t : List ℕ} {i f : ℕ} (e : f ≡ kindAt t i) where
   module _ {at : ℕ} (h : Printable head t i at) where
     abbrev p : Program
     p = h .program

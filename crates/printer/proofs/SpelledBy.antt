@@ -7,7 +7,7 @@ use Prim.Native.Nat.{ℕ}
 use Rattle.letters.specs.Text.{bytes}
 use Rattle.junior.specs.Configuration.{Config}
 use Rattle.junior.specs.Program.{Program, Nothing, Stop, Atom, Seq, Par, Loop, Repeat, Generate, Await, When, Until}
-use Rattle.junior.specs.Program.{Control, Local, If, Argument, no-argument, number, event, configuration, value, capped, argument as own, kind}
+use Rattle.junior.specs.Program.{Control, Local, Freezable, If, Argument, no-argument, number, event, configuration, value, capped, argument as own, kind}
 use Rattle.junior.specs.Values.{exactly, asked}
 use Rattle.junior.specs.Program.{Leaf, One, Two, Parts, no-part, one-part, two-parts, parts}
 use Rattle.junior.proofs.Parts.{parts-none, parts-one, parts-two}
@@ -59,6 +59,7 @@ codes-tell (When c p q) = record { takes = takes-test; link-is = refl }
 codes-tell (Until c p q) = record { takes = takes-test; link-is = refl }
 codes-tell (Control s p) = record { takes = takes-event; link-is = refl }
 codes-tell (Local s p) = record { takes = takes-event; link-is = refl }
+codes-tell (Freezable s p) = record { takes = takes-event; link-is = refl }
 codes-tell (If v p q) = record { takes = takes-value; link-is = refl }
 
 before-is : (a : Argument) (w : List ℕ) → before a w ≡ spellArgument a ++ (linkAfter a ++ w)

@@ -11,7 +11,7 @@ use Rattle.junior.specs.Configuration.{Config}
 use Rattle.junior.specs.Program.{Program, argument as own, kind, Parts, no-part, one-part, two-parts, parts}
 use Rattle.table.specs.Spells.{Spells, Configured, weight, valueIn, capIn}
 use Rattle.table.specs.Inside.{Placed}
-use Rattle.form.specs.Names.{formOfKind, opening}
+use Rattle.form.specs.Names.{opening}
 use Rattle.form.specs.Spelling.{spellTest, spellArgument, spellParts}
 use Rattle.form.specs.Inside.Rows.{inside}
 
@@ -50,7 +50,7 @@ unfolding inside linked
 link k = linked (inside k 0) (inside k 1)
 
 abbrev pub head : Program → List ℕ
-head p = opening (formOfKind (kind p)) ++ (argument p ++ link (kind p))
+head p = opening (kind p) ++ (argument p ++ link (kind p))
 
 abbrev pub restOf : {p : Program} → Parts p → List ℕ
 restOf (no-part f) = bytes ")"

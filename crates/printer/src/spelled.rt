@@ -17,7 +17,6 @@ use form::names::FIRST_FORM;
 use form::names::LONG;
 use form::names::ROW;
 use form::names::TEST;
-use form::names::form_of_kind;
 use form::names::name_end;
 use form::names::table_of_names;
 use table::nodes::children_of;
@@ -77,14 +76,14 @@ fn put_head(names: &[u8; LONG], table: &[u8], i: usize, room: &mut [u8], at: usi
     requires { ⌜ Printable head (now table) i at ⌝ }
     ensures { λ r. ⌜ Shows head (now (table .entry)) i (now (room .entry)) (now (room .exit)) at r ⌝ }
 {
-    let form = form_of_kind(kind_at(table, i));
-    let inside = name_end(names, FIRST_FORM + form);
-    let named = put_opening(names, form, inside, room, at);
+    let kind = kind_at(table, i);
+    let inside = name_end(names, FIRST_FORM + kind);
+    let named = put_opening(names, kind, inside, room, at);
     let argued = put_argument(table, i, names[inside], names[inside + 3], room, named);
     put_link(room, argued, names[inside], names[inside + 1])
 }
 
-// The name of form k with its bracket, which ends at a place of the table of names.
+// The name of the form of kind k with its bracket, which ends at a place of the table of names.
 fn put_opening(names: &[u8; LONG], k: usize, end: usize, room: &mut [u8], at: usize) -> usize
     requires { ⌜ TheNames (now names) ⌝ }
     requires { ⌜ k < formCount ⌝ }

@@ -13,7 +13,7 @@ use Rattle.junior.specs.Term.{Term, prog}
 use Rattle.table.specs.Records.{kindAt, argumentAt, sizeAt}
 use Rattle.table.specs.Spells.{Spells}
 use Rattle.state.specs.Kinds.{control-kind}
-use Rattle.steps.specs.Running.{Ready, Runs, Any}
+use Rattle.steps.specs.Running.{Rooms, Ready, Runs, Any}
 use Rattle.steps.proofs.LoadedNode.{control-placed}
 use Rattle.steps.proofs.Children.{own-in}
 use Rattle.runner.proofs.Control.{Controls, controls, controls-by, control-asks, control-runs, control-waits, control-stops}
@@ -28,14 +28,14 @@ use Rattle.steps.proofs.Dispatch.{phase-is, to-kind}
 use Rattle.runner.proofs.Falling.{weigh, child-rank, form-rank, smaller-by}
 use Rattle.steps.proofs.ChildContext.{child-stands}
 
-event-of : {table : List ℕ} {i : ℕ} {part words row tally : List ℕ} {t : Term} → Controls t → Ready 0 table i part words row tally t
+event-of : {table : List ℕ} {i : ℕ} {part words : List ℕ} {rooms : Rooms} {tally : List ℕ} {t : Term} → Controls t → Ready 0 table i part words rooms tally t
     → argumentAt table i < places
 unfolding prog Spells
 event-of (controls s x) h = omega (arith, control-placed (h .placed), h .placed .spelled .1)
 
-module _ {table : List ℕ} {i : ℕ} {state : List ℕ} (on : getD state (4 * i) 0 ≢ 3) {m row before part behind : List ℕ}
-    (o : Stands 0 (OfKind control-kind) (lent table state m row) i before part behind) {a : ℕ} (names : a ≡ argumentAt table i) where
-  as-control : {t : Term} → OfKind control-kind t → {words tally : List ℕ} → Ready 0 table i part words row tally t → Controls t
+module _ {table : List ℕ} {i : ℕ} {state : List ℕ} (on : getD state (4 * i) 0 ≢ 3) {m : List ℕ} {rooms : Rooms} {before part behind : List ℕ}
+    (o : Stands 0 (OfKind control-kind) (lent table state m rooms) i before part behind) {a : ℕ} (names : a ≡ argumentAt table i) where
+  as-control : {t : Term} → OfKind control-kind t → {words tally : List ℕ} → Ready 0 table i part words rooms tally t → Controls t
   as-control {t} w h = controls-by t (w, λ e. on (phase-is (o .around) h ∙ e))
 
   the : Controls (o .live .0)
@@ -47,7 +47,7 @@ module _ {table : List ℕ} {i : ℕ} {state : List ℕ} (on : getD state (4 * i
 
   -- its event is present
   module _ (present : marks m a ≡ true) where
-    pub body-stands : Stands 0 Any (lent table state m row) (i + 1) (before ++ take 4 part) (midOf 4 (length part - 4) part)
+    pub body-stands : Stands 0 Any (lent table state m rooms) (i + 1) (before ++ take 4 part) (midOf 4 (length part - 4) part)
         (drop (length part - 4) (drop 4 part) ++ behind)
     body-stands =
         child-stands (o .around) (o .numbers) 4 (length part - 4) (own-in (o .live .2) 3 (lit< tt)) (omega arith)
@@ -56,12 +56,12 @@ module _ {table : List ℕ} {i : ℕ} {state : List ℕ} (on : getD state (4 * i
     pub body-smaller : sizeAt table (i + 1) < sizeAt table i
     body-smaller = smaller-by table i (i + 1) (control-asks names (in-words present) the (o .live .2) 1 refl .0)
 
-    module _ {state₁ m₁ row₁ : List ℕ} {f : ℕ} (run : HasRun 0 Any (lent table state m row) (i + 1) (lent table state₁ m₁ row₁) f) where
-      pub body-went : Went 0 Any (lent table state m row) (i + 1) (before ++ take 4 part) (midOf 4 (length part - 4) part)
-          (drop (length part - 4) (drop 4 part) ++ behind) (lent table state₁ m₁ row₁) f
+    module _ {state₁ m₁ : List ℕ} {rooms₁ : Rooms} {f : ℕ} (run : HasRun 0 Any (lent table state m rooms) (i + 1) (lent table state₁ m₁ rooms₁) f) where
+      pub body-went : Went 0 Any (lent table state m rooms) (i + 1) (before ++ take 4 part) (midOf 4 (length part - 4) part)
+          (drop (length part - 4) (drop 4 part) ++ behind) (lent table state₁ m₁ rooms₁) f
       body-went = run _ _ _ body-stands
 
-      pub control-went : Went 0 (OfKind control-kind) (lent table state m row) i before part behind (lent table state₁ m₁ row₁) f
+      pub control-went : Went 0 (OfKind control-kind) (lent table state m rooms) i before part behind (lent table state₁ m₁ rooms₁) f
       control-went =
           record {
             part′ = putMid 4 (length part - 4) part (body-went .part′);
@@ -74,12 +74,12 @@ module _ {table : List ℕ} {i : ℕ} {state : List ℕ} (on : getD state (4 * i
   -- it is not: the Control answers whether the end is declared
   module _ (absent : marks m a ≡ false) where
     rests : (n : ℕ) → getD m ended-at 0 ≡ n → n < 2
-        → Runs 0 (OfKind control-kind) table i part (wordsOf m) row (tallyOf m) part (wordsOf m) row (tallyOf m) (flagOf n)
+        → Runs 0 (OfKind control-kind) table i part (wordsOf m) rooms (tallyOf m) part (wordsOf m) rooms (tallyOf m) (flagOf n)
     rests zero e l t w h P at = control-waits names (in-words absent) (as-control w h) h e P
     rests (suc zero) e l t w h P at = control-stops names (in-words absent) (as-control w h) h (λ z. omega arith) P
     rests (suc (suc n)) e l t w h P at = absurd (omega arith)
 
-    pub control-went-idle : Went 0 (OfKind control-kind) (lent table state m row) i before part behind (lent table state m row) (getD m ended-at 0)
+    pub control-went-idle : Went 0 (OfKind control-kind) (lent table state m rooms) i before part behind (lent table state m rooms) (getD m ended-at 0)
     control-went-idle =
         record {
           part′ = part;
@@ -90,23 +90,23 @@ module _ {table : List ℕ} {i : ℕ} {state : List ℕ} (on : getD state (4 * i
         }
 
 -- in the words of the needs
-module _ {table : List ℕ} {i : ℕ} {state m row : List ℕ} (on : getD state (4 * i) 0 ≢ 3) {a : ℕ} (names : a ≡ argumentAt table i) where
+module _ {table : List ℕ} {i : ℕ} {state m : List ℕ} {rooms : Rooms} (on : getD state (4 * i) 0 ≢ 3) {a : ℕ} (names : a ≡ argumentAt table i) where
   module _ (present : marks m a ≡ true) where
-    pub control-body : CanRun 0 (OfKind control-kind) (lent table state m row) i → {k : ℕ} → weigh table i form-rank ≡ k
-        → (weigh table (i + 1) child-rank < k) × CanRun 0 Any (lent table state m row) (i + 1)
+    pub control-body : CanRun 0 (OfKind control-kind) (lent table state m rooms) i → {k : ℕ} → weigh table i form-rank ≡ k
+        → (weigh table (i + 1) child-rank < k) × CanRun 0 Any (lent table state m rooms) (i + 1)
     control-body (before, part, behind, o) e =
         (omega (arith, body-smaller on o names present), (_, _, _, body-stands on o names present))
 
     -- a Control in a Control, by its kind as it was read
-    pub control-nested : {n : ℕ} → n ≡ kindAt table (i + 1) → n ≡ control-kind → CanRun 0 (OfKind control-kind) (lent table state m row) i
+    pub control-nested : {n : ℕ} → n ≡ kindAt table (i + 1) → n ≡ control-kind → CanRun 0 (OfKind control-kind) (lent table state m rooms) i
         → {k : ℕ} → weigh table i form-rank ≡ k
-        → (weigh table (i + 1) form-rank < k) × CanRun 0 (OfKind control-kind) (lent table state m row) (i + 1)
+        → (weigh table (i + 1) form-rank < k) × CanRun 0 (OfKind control-kind) (lent table state m rooms) (i + 1)
     control-nested read is o e = let (l, s) = control-body o e in (omega (arith, l), to-kind read is s)
 
-    pub control-run : {state₁ m₁ row₁ : List ℕ} {f : ℕ} → HasRun 0 Any (lent table state m row) (i + 1) (lent table state₁ m₁ row₁) f
-        → HasRun 0 (OfKind control-kind) (lent table state m row) i (lent table state₁ m₁ row₁) f
+    pub control-run : {state₁ m₁ : List ℕ} {rooms₁ : Rooms} {f : ℕ} → HasRun 0 Any (lent table state m rooms) (i + 1) (lent table state₁ m₁ rooms₁) f
+        → HasRun 0 (OfKind control-kind) (lent table state m rooms) i (lent table state₁ m₁ rooms₁) f
     control-run run before part behind o = control-went on o names present run
 
   pub control-idle : marks m a ≡ false
-      → HasRun 0 (OfKind control-kind) (lent table state m row) i (lent table state m row) (getD m ended-at 0)
+      → HasRun 0 (OfKind control-kind) (lent table state m rooms) i (lent table state m rooms) (getD m ended-at 0)
   control-idle absent before part behind o = control-went-idle on o names absent

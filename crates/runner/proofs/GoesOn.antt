@@ -5,7 +5,7 @@ use mathlib.Core.Path.{_≡_, sym, _∙_}
 use mathlib.Core.List.{List}
 use lib.ListN.{getD}
 use Rattle.junior.specs.Term.{Term}
-use Rattle.steps.specs.Running.{Live, Runs, Phase}
+use Rattle.steps.specs.Running.{Rooms, Live, Runs, Phase}
 use Rattle.steps.proofs.Children.{unseen}
 use Rattle.steps.specs.Numbers.{Kept, wordsOf, tallyOf}
 use Rattle.steps.specs.Flags.{flagOf}
@@ -15,27 +15,27 @@ use Rattle.steps.proofs.Dispatch.{phase-is}
 
 module _ {skip skip₁ : ℕ} {W U : Term → Type 0} {L : Lent} {i : ℕ} {before part behind : List ℕ} where
   pub stands-as : Stands skip U L i before part behind
-      → Live skip₁ W (L .table) i part (wordsOf (L .numbers)) (L .row) (tallyOf (L .numbers))
+      → Live skip₁ W (L .table) i part (wordsOf (L .numbers)) (L .rooms) (tallyOf (L .numbers))
       → Stands skip₁ W L i before part behind
   stands-as o v = record { around = o .around; numbers = o .numbers; live = v }
 
   pub went-as : {L₁ L′ : Lent} {part₁ : List ℕ} {r : ℕ} → Kept (L .numbers) (L₁ .numbers)
       → (g : Went skip₁ W L₁ i before part₁ behind L′ r)
-      → Runs skip U (L .table) i part (wordsOf (L .numbers)) (L .row) (tallyOf (L .numbers)) (g .part′)
-      (wordsOf (L′ .numbers)) (L′ .row) (tallyOf (L′ .numbers)) (flagOf r)
+      → Runs skip U (L .table) i part (wordsOf (L .numbers)) (L .rooms) (tallyOf (L .numbers)) (g .part′)
+      (wordsOf (L′ .numbers)) (L′ .rooms) (tallyOf (L′ .numbers)) (flagOf r)
       → Went skip U L i before part behind L′ r
   went-as k g runs = record { part′ = g .part′; around = g .around; kept = kept-then k (g .kept); below = g .below; runs = runs }
 
-module _ {W U : Term → Type 0} {ph : ℕ} (are : (t : Term) → U t → Phase ph t → W t) {table : List ℕ} {i : ℕ} {state m row : List ℕ}
+module _ {W U : Term → Type 0} {ph : ℕ} (are : (t : Term) → U t → Phase ph t → W t) {table : List ℕ} {i : ℕ} {state m : List ℕ} {rooms : Rooms}
     (is : getD state (4 * i) 0 ≡ ph) where
-  in-phase : {before part behind : List ℕ} → Stands 0 U (lent table state m row) i before part behind
-      → Stands 1 W (lent table state m row) i before part behind
+  in-phase : {before part behind : List ℕ} → Stands 0 U (lent table state m rooms) i before part behind
+      → Stands 1 W (lent table state m rooms) i before part behind
   in-phase o = let (t, u, h) = o .live in stands-as o (t, are t u (sym (phase-is (o .around) h) ∙ is), unseen h 1)
 
-  pub to-phase : CanRun 0 U (lent table state m row) i → CanRun 1 W (lent table state m row) i
+  pub to-phase : CanRun 0 U (lent table state m rooms) i → CanRun 1 W (lent table state m rooms) i
   to-phase (before, part, behind, o) = (before, part, behind, in-phase o)
 
-  pub by-phase : {L′ : Lent} {r : ℕ} → HasRun 1 W (lent table state m row) i L′ r → HasRun 0 U (lent table state m row) i L′ r
+  pub by-phase : {L′ : Lent} {r : ℕ} → HasRun 1 W (lent table state m rooms) i L′ r → HasRun 0 U (lent table state m rooms) i L′ r
   by-phase run before part behind o =
       let g = run before part behind (in-phase o) in
       went-as (kept-same m) g (λ t u h. g .runs t (are t u (sym (phase-is (o .around) h) ∙ is)) (unseen h 1))

@@ -11,7 +11,7 @@ use Rattle.table.specs.Records.{sizeAt, secondAt}
 use Rattle.state.specs.Kinds.{par-kind}
 use Rattle.state.proofs.Parts.{first-of, with-first, rest-of, with-rest, own-flags}
 use Rattle.state.proofs.Shape.{Shape, is-done, is-par, shape-by}
-use Rattle.steps.specs.Running.{Ready, Any, Kind, parEnd}
+use Rattle.steps.specs.Running.{Rooms, Ready, Any, Kind, parEnd}
 use Rattle.steps.proofs.Children.{own-in}
 use Rattle.steps.specs.Kinds.{NotBoth}
 use Rattle.steps.specs.Flags.{flagOf, ParEnds}
@@ -30,7 +30,7 @@ par-phase (is-par α β t u) n = refl
 par-phase (is-done p k) n = absurd (n refl)
 
 module _ {table : List ℕ} {i : ℕ} {state : List ℕ} (on : getD state (4 * i) 0 ≢ 3) {before part behind : List ℕ} (a : Around state i before part behind)
-    {words row tally : List ℕ} {t : Term} (w : NotBoth t) (h : Ready 0 table i part words row tally t) where
+    {words : List ℕ} {rooms : Rooms} {tally : List ℕ} {t : Term} (w : NotBoth t) (h : Ready 0 table i part words rooms tally t) where
   as-par : Kind par-kind t
   as-par = (w .0, λ e. on (phase-is a h ∙ e))
 
@@ -43,8 +43,8 @@ module _ {table : List ℕ} {i : ℕ} {state : List ℕ} (on : getD state (4 * i
   flags-in : getD state (4 * i + 1) 0 ≡ own-flags part
   flags-in = byte-at a 1 (own-in h 1 (omega arith))
 
-module _ {table : List ℕ} {i : ℕ} {state : List ℕ} (on : getD state (4 * i) 0 ≢ 3) {m row before part behind : List ℕ}
-    (o : Stands 0 NotBoth (lent table state m row) i before part behind) where
+module _ {table : List ℕ} {i : ℕ} {state : List ℕ} (on : getD state (4 * i) 0 ≢ 3) {m : List ℕ} {rooms : Rooms} {before part behind : List ℕ}
+    (o : Stands 0 NotBoth (lent table state m rooms) i before part behind) where
   abbrev n : ℕ
   n = sizeAt table (i + 1)
 
@@ -65,7 +65,7 @@ module _ {table : List ℕ} {i : ℕ} {state : List ℕ} (on : getD state (4 * i
     pub left-flag-in : getD state (4 * i + 1) 0 / 4 < 3
     left-flag-in = rw (flags-in on (o .around) (o .live .1) (o .live .2)) (left-flag the-left (o .live .2))
 
-    pub left-stands : Stands 0 Any (lent table state m row) (i + 1) (before ++ take 4 part) (first-of part n)
+    pub left-stands : Stands 0 Any (lent table state m rooms) (i + 1) (before ++ take 4 part) (first-of part n)
         (drop (4 + 4 * n - 4) (drop 4 part) ++ behind)
     left-stands =
         child-stands (o .around) (o .numbers) 4 (4 + 4 * n - 4) (own-in (o .live .2) 3 (omega arith)) (omega arith)
@@ -74,9 +74,9 @@ module _ {table : List ℕ} {i : ℕ} {state : List ℕ} (on : getD state (4 * i
     pub left-smaller : sizeAt table (i + 1) < sizeAt table i
     left-smaller = smaller-by table i (i + 1) (first-asks refl (the-left .2) (o .live .2) 1 refl .0)
 
-    module _ {state′ m′ row′ : List ℕ} {f : ℕ} (run : HasRun 0 Any (lent table state m row) (i + 1) (lent table state′ m′ row′) f) where
-      pub left-went : Went 0 Any (lent table state m row) (i + 1) (before ++ take 4 part) (first-of part n)
-          (drop (4 + 4 * n - 4) (drop 4 part) ++ behind) (lent table state′ m′ row′) f
+    module _ {state′ m′ : List ℕ} {rooms′ : Rooms} {f : ℕ} (run : HasRun 0 Any (lent table state m rooms) (i + 1) (lent table state′ m′ rooms′) f) where
+      pub left-went : Went 0 Any (lent table state m rooms) (i + 1) (before ++ take 4 part) (first-of part n)
+          (drop (4 + 4 * n - 4) (drop 4 part) ++ behind) (lent table state′ m′ rooms′) f
       left-went = run _ _ _ left-stands
 
       abbrev pub left-part : List ℕ
@@ -102,7 +102,7 @@ module _ {table : List ℕ} {i : ℕ} {state : List ℕ} (on : getD state (4 * i
           )
 
       pub half-went-left : {state″ : List ℕ} {r : ℕ} → ParEnds f (getD state (4 * i + 1) 0 / 4) (4 * i) (4 * secondAt table i) state′ state″ r
-          → Went 0 NotBoth (lent table state m row) i before part behind (lent table state″ m′ row′) r
+          → Went 0 NotBoth (lent table state m rooms) i before part behind (lent table state″ m′ rooms′) r
       half-went-left e =
           let g = getD state (4 * i + 1) 0 / 4 in
           record {
@@ -123,7 +123,7 @@ module _ {table : List ℕ} {i : ℕ} {state : List ℕ} (on : getD state (4 * i
     pub right-flag-in : getD state (4 * i + 1) 0 % 4 < 3
     right-flag-in = rw (flags-in on (o .around) (o .live .1) (o .live .2)) (right-flag the-right (o .live .2))
 
-    pub right-stands : Stands 0 Any (lent table state m row) (secondAt table i) (before ++ take (4 + 4 * n) part) (rest-of part n)
+    pub right-stands : Stands 0 Any (lent table state m rooms) (secondAt table i) (before ++ take (4 + 4 * n) part) (rest-of part n)
         (drop (length part - (4 + 4 * n)) (drop (4 + 4 * n) part) ++ behind)
     right-stands =
         child-stands (o .around) (o .numbers) (4 + 4 * n) (length part - (4 + 4 * n)) fits (omega arith)
@@ -132,9 +132,10 @@ module _ {table : List ℕ} {i : ℕ} {state : List ℕ} (on : getD state (4 * i
     pub right-smaller : sizeAt table (secondAt table i) < sizeAt table i
     right-smaller = smaller-by table i (secondAt table i) (right-asks refl the-right (o .live .2) 1 refl .0)
 
-    module _ {state′ m′ row′ : List ℕ} {g : ℕ} (run : HasRun 0 Any (lent table state m row) (secondAt table i) (lent table state′ m′ row′) g) where
-      pub right-went : Went 0 Any (lent table state m row) (secondAt table i) (before ++ take (4 + 4 * n) part) (rest-of part n)
-          (drop (length part - (4 + 4 * n)) (drop (4 + 4 * n) part) ++ behind) (lent table state′ m′ row′) g
+    module _ {state′ m′ : List ℕ} {rooms′ : Rooms} {g : ℕ}
+        (run : HasRun 0 Any (lent table state m rooms) (secondAt table i) (lent table state′ m′ rooms′) g) where
+      pub right-went : Went 0 Any (lent table state m rooms) (secondAt table i) (before ++ take (4 + 4 * n) part) (rest-of part n)
+          (drop (length part - (4 + 4 * n)) (drop (4 + 4 * n) part) ++ behind) (lent table state′ m′ rooms′) g
       right-went = run _ _ _ right-stands
 
       abbrev pub right-part : List ℕ
@@ -151,7 +152,7 @@ module _ {table : List ℕ} {i : ℕ} {state : List ℕ} (on : getD state (4 * i
           (right-flag-in, right-went .below, byte-in right-around 4 (right-long .0), rw second-there at (byte-in right-around (4 + 4 * n) (right-long .1)))
 
       pub half-went-right : {state″ : List ℕ} {r : ℕ} → ParEnds (getD state (4 * i + 1) 0 % 4) g (4 * i) (4 * secondAt table i) state′ state″ r
-          → Went 0 NotBoth (lent table state m row) i before part behind (lent table state″ m′ row′) r
+          → Went 0 NotBoth (lent table state m rooms) i before part behind (lent table state″ m′ rooms′) r
       half-went-right e =
           let f = getD state (4 * i + 1) 0 % 4 in
           record {
@@ -165,45 +166,45 @@ module _ {table : List ℕ} {i : ℕ} {state : List ℕ} (on : getD state (4 * i
           }
 
 -- in the words of the needs
-module _ {table : List ℕ} {i : ℕ} {state m row : List ℕ} (on : getD state (4 * i) 0 ≢ 3) where
-  pub half-second-in : CanRun 0 NotBoth (lent table state m row) i → 6 * i + 11 < length table
+module _ {table : List ℕ} {i : ℕ} {state m : List ℕ} {rooms : Rooms} (on : getD state (4 * i) 0 ≢ 3) where
+  pub half-second-in : CanRun 0 NotBoth (lent table state m rooms) i → 6 * i + 11 < length table
   half-second-in (before, part, behind, o) = omega (arith, half-reads-in on o)
 
-  pub half-second-few : CanRun 0 NotBoth (lent table state m row) i → {second : ℕ} → second ≡ secondAt table i → second < 4097
+  pub half-second-few : CanRun 0 NotBoth (lent table state m rooms) i → {second : ℕ} → second ≡ secondAt table i → second < 4097
   half-second-few (before, part, behind, o) is =
       let h = o .live .2 in omega (arith, fits on o, h .long, h .placed .inside, h .placed .loaded .framed .n-most)
 
   module _ (suspended : getD state (4 * i + 1) 0 % 4 ≡ 0) where
-    pub half-left : CanRun 0 NotBoth (lent table state m row) i → {k : ℕ} → weigh table i 2 ≡ k
-        → (weigh table (i + 1) child-rank < k) × CanRun 0 Any (lent table state m row) (i + 1)
+    pub half-left : CanRun 0 NotBoth (lent table state m rooms) i → {k : ℕ} → weigh table i 2 ≡ k
+        → (weigh table (i + 1) child-rank < k) × CanRun 0 Any (lent table state m rooms) (i + 1)
     half-left (before, part, behind, o) e =
         (lighter form-rank child-rank (lit< tt) (left-smaller on o suspended) e, (_, _, _, left-stands on o suspended))
 
     module _ {second : ℕ} (is : second ≡ secondAt table i)
-        {state′ m′ row′ : List ℕ} {f : ℕ} (run : HasRun 0 Any (lent table state m row) (i + 1) (lent table state′ m′ row′) f) where
-      pub half-left-joins : CanRun 0 NotBoth (lent table state m row) i
+        {state′ m′ : List ℕ} {rooms′ : Rooms} {f : ℕ} (run : HasRun 0 Any (lent table state m rooms) (i + 1) (lent table state′ m′ rooms′) f) where
+      pub half-left-joins : CanRun 0 NotBoth (lent table state m rooms) i
           → (f < 3) × (getD state (4 * i + 1) 0 / 4 < 3) × (4 * i + 4 < length state′) × (4 * second < length state′)
       half-left-joins (before, part, behind, o) = rw is (left-joins on o suspended run)
 
-      pub half-left-keeps : CanRun 0 NotBoth (lent table state m row) i
+      pub half-left-keeps : CanRun 0 NotBoth (lent table state m rooms) i
           → (getD state′ (4 * i + 1) 0 ≡ 4 * (getD state (4 * i + 1) 0 / 4))
           × (getD state (4 * i + 1) 0 / 4 ≡ 2 → getD state′ (4 * second) 0 ≡ 3)
       half-left-keeps (before, part, behind, o) = rw is (left-kept on o suspended run)
 
       pub half-left-done : {state″ : List ℕ} {r : ℕ} → ParEnds f (getD state (4 * i + 1) 0 / 4) (4 * i) (4 * second) state′ state″ r
-          → HasRun 0 NotBoth (lent table state m row) i (lent table state″ m′ row′) r
+          → HasRun 0 NotBoth (lent table state m rooms) i (lent table state″ m′ rooms′) r
       half-left-done e before part behind o = half-went-left on o suspended run (rw is at e)
 
   module _ (stood : getD state (4 * i + 1) 0 % 4 ≢ 0) {second : ℕ} (is : second ≡ secondAt table i) where
-    pub half-right : CanRun 0 NotBoth (lent table state m row) i
-        → (sizeAt table second < sizeAt table i) × CanRun 0 Any (lent table state m row) second
+    pub half-right : CanRun 0 NotBoth (lent table state m rooms) i
+        → (sizeAt table second < sizeAt table i) × CanRun 0 Any (lent table state m rooms) second
     half-right (before, part, behind, o) = rw is (right-smaller on o stood, (_, _, _, right-stands on o stood))
 
-    module _ {state′ m′ row′ : List ℕ} {g : ℕ} (run : HasRun 0 Any (lent table state m row) second (lent table state′ m′ row′) g) where
-      pub half-right-joins : CanRun 0 NotBoth (lent table state m row) i
+    module _ {state′ m′ : List ℕ} {rooms′ : Rooms} {g : ℕ} (run : HasRun 0 Any (lent table state m rooms) second (lent table state′ m′ rooms′) g) where
+      pub half-right-joins : CanRun 0 NotBoth (lent table state m rooms) i
           → (getD state (4 * i + 1) 0 % 4 < 3) × (g < 3) × (4 * i + 4 < length state′) × (4 * second < length state′)
       half-right-joins (before, part, behind, o) = rw is (right-joins on o stood (run-at is run))
 
       pub half-right-done : {state″ : List ℕ} {r : ℕ} → ParEnds (getD state (4 * i + 1) 0 % 4) g (4 * i) (4 * second) state′ state″ r
-          → HasRun 0 NotBoth (lent table state m row) i (lent table state″ m′ row′) r
+          → HasRun 0 NotBoth (lent table state m rooms) i (lent table state″ m′ rooms′) r
       half-right-done e before part behind o = half-went-right on o stood (run-at is run) (rw is at e)

@@ -13,7 +13,6 @@ use Rattle.junior.specs.Program.{Program, If, kind}
 use Rattle.junior.specs.Term.{Term, if0, if1, if2, prog, fresh}
 use Rattle.junior.specs.Trace.{Place}
 use Rattle.junior.specs.Rules.{left-first, Result, Rewrites, if-true, if-true-on, if-false, if-false-on}
-use Rattle.junior.specs.Figures.{per}
 use Rattle.junior.specs.Inside.{Going, pot}
 use Rattle.junior.proofs.Fresh.{prog-fresh, fresh-at-rest}
 use Rattle.junior.proofs.Going.{rest-going}
@@ -24,10 +23,10 @@ use Rattle.state.specs.Kinds.{if-kind}
 use Rattle.state.specs.StateBytes.{zeros, below}
 use Rattle.state.proofs.Parts.{fresh-zeros, own-phase}
 use Rattle.state.proofs.Shape.{Shape, is-done, is-if0, is-if1, is-if2, shape-by}
-use Rattle.steps.specs.Running.{Ready, Ran, Live, Runs, Kind, valuesIn}
+use Rattle.steps.specs.Running.{Rooms, Ready, Ran, Live, Runs, Kind, valuesIn}
 use Rattle.steps.specs.Kinds.{InSecond, InThen}
 use Rattle.steps.proofs.Children.{phase-is}
-use Rattle.steps.proofs.Done.{same-lengths, ready-as, ran-by}
+use Rattle.steps.proofs.Done.{same-lengths, ready-as, room-for, ran-by}
 use Rattle.steps.proofs.LoadedNode.{if-placed}
 
 -- an If that hasn't chosen
@@ -40,8 +39,8 @@ if0-of (is-if1 v x q) a b d = absurd (b refl)
 if0-of (is-if2 v p x) a b d = absurd (d refl)
 if0-of (is-done p e) a b d = absurd (a refl)
 
-pub if0-by : {table : List ℕ} {i : ℕ} {state words row tally : List ℕ} {t : Term} → Kind if-kind t
-    → Ready 0 table i state words row tally t
+pub if0-by : {table : List ℕ} {i : ℕ} {state words : List ℕ} {rooms : Rooms} {tally : List ℕ} {t : Term} → Kind if-kind t
+    → Ready 0 table i state words rooms tally t
     → own-phase state ≢ 1
     → own-phase state ≢ 2
     → If0 t
@@ -60,60 +59,60 @@ second-begins : {value : Values} {P : Place} {v : ℕ} {p q : Program} {E : Env}
     → Rewrites (left-first value) P (if0 v p q) E r
 second-begins e (if-false-on d) = if-false e d
 
-module _ {table : List ℕ} {i : ℕ} {state words row tally : List ℕ} where
+module _ {table : List ℕ} {i : ℕ} {state words : List ℕ} {rooms : Rooms} {tally : List ℕ} where
   -- its value's number is in its argument
-  pub if-names : {t : Term} → If0 t → Ready 0 table i state words row tally t → argumentAt table i < 16
+  pub if-names : {t : Term} → If0 t → Ready 0 table i state words rooms tally t → argumentAt table i < 16
   unfolding prog Spells
   if-names (reached v p q) h = omega (arith, if-placed (h .placed), h .placed .spelled .1)
 
-  first-ready : (v : ℕ) (p q : Program) → Ready 0 table i state words row tally (if0 v p q)
-      → Ready 1 table i state words row tally (if1 v (fresh p) q)
+  first-ready : (v : ℕ) (p q : Program) → Ready 0 table i state words rooms tally (if0 v p q)
+      → Ready 1 table i state words rooms tally (if1 v (fresh p) q)
   unfolding Going prog below pot kind
   first-ready v p q h =
       ready-as h (ap (λ x. If v x q) (prog-fresh p)) refl (same-lengths words tally)
       (ap (drop 1) (h .bytes) ∙ ap (λ l. 0 ∷ 0 ∷ 0 ∷ (l ++ zeros q)) (sym (fresh-zeros p)))
       (rest-going _ (fresh p) (fresh-at-rest p))
-      (omega (arith, h .room, pot-fresh (per 2) p))
+      (room-for h (λ k. simp (prog-fresh p) (omega (arith, pot-fresh k p))))
 
-  second-ready : (v : ℕ) (p q : Program) → Ready 0 table i state words row tally (if0 v p q)
-      → Ready 1 table i state words row tally (if2 v p (fresh q))
+  second-ready : (v : ℕ) (p q : Program) → Ready 0 table i state words rooms tally (if0 v p q)
+      → Ready 1 table i state words rooms tally (if2 v p (fresh q))
   unfolding Going prog below pot kind
   second-ready v p q h =
       ready-as h (ap (If v p) (prog-fresh q)) refl (same-lengths words tally)
       (ap (drop 1) (h .bytes) ∙ ap (λ l. 0 ∷ 0 ∷ 0 ∷ (zeros p ++ l)) (sym (fresh-zeros q)))
       (rest-going _ (fresh q) (fresh-at-rest q))
-      (omega (arith, h .room, pot-fresh (per 2) q))
+      (room-for h (λ k. simp (prog-fresh q) (omega (arith, pot-fresh k q))))
 
-  pub first-live : {t : Term} → If0 t → Ready 0 table i state words row tally t → Live 1 InThen table i state words row tally
+  pub first-live : {t : Term} → If0 t → Ready 0 table i state words rooms tally t → Live 1 InThen table i state words rooms tally
   unfolding kind prog
   first-live (reached v p q) h = (if1 v (fresh p) q, (inr refl, refl), first-ready v p q h)
 
-  pub second-live : {t : Term} → If0 t → Ready 0 table i state words row tally t → Live 1 InSecond table i state words row tally
+  pub second-live : {t : Term} → If0 t → Ready 0 table i state words rooms tally t → Live 1 InSecond table i state words rooms tally
   second-live (reached v p q) h = (if2 v p (fresh q), refl, second-ready v p q h)
 
   -- what its value says
-  own-value : (v : ℕ) (p q : Program) → Ready 0 table i state words row tally (if0 v p q)
+  own-value : (v : ℕ) (p q : Program) → Ready 0 table i state words rooms tally (if0 v p q)
       → valuesIn tally (argumentAt table i) ≡ valuesIn tally v
   unfolding prog Spells
   own-value v p q h = ap (valuesIn tally) (h .placed .spelled .1)
 
-  pub first-goes : {t : Term} → If0 t → Ready 0 table i state words row tally t → nonzero (valuesIn tally (argumentAt table i)) ≡ true
-      → {state′ words′ row′ tally′ : List ℕ} {α : Flag}
-      → Runs 1 InThen table i state words row tally state′ words′ row′ tally′ α
+  pub first-goes : {t : Term} → If0 t → Ready 0 table i state words rooms tally t → nonzero (valuesIn tally (argumentAt table i)) ≡ true
+      → {state′ words′ : List ℕ} {rooms′ : Rooms} {tally′ : List ℕ} {α : Flag}
+      → Runs 1 InThen table i state words rooms tally state′ words′ rooms′ tally′ α
       → (P : Place)
       → P .node ≡ i
-      → Ran P t words row tally state′ words′ row′ tally′ α
+      → Ran P t words rooms tally state′ words′ rooms′ tally′ α
   unfolding kind prog
   first-goes (reached v p q) h e run P at =
       let k = run (if1 v (fresh p) q) (inr refl, refl) (first-ready v p q h) P at in
       ran-by k (first-begins (ap nonzero (sym (own-value v p q h)) ∙ e) (k .rewrites)) refl
 
-  pub second-goes : {t : Term} → If0 t → Ready 0 table i state words row tally t → nonzero (valuesIn tally (argumentAt table i)) ≡ false
-      → {state′ words′ row′ tally′ : List ℕ} {α : Flag}
-      → Runs 1 InSecond table i state words row tally state′ words′ row′ tally′ α
+  pub second-goes : {t : Term} → If0 t → Ready 0 table i state words rooms tally t → nonzero (valuesIn tally (argumentAt table i)) ≡ false
+      → {state′ words′ : List ℕ} {rooms′ : Rooms} {tally′ : List ℕ} {α : Flag}
+      → Runs 1 InSecond table i state words rooms tally state′ words′ rooms′ tally′ α
       → (P : Place)
       → P .node ≡ i
-      → Ran P t words row tally state′ words′ row′ tally′ α
+      → Ran P t words rooms tally state′ words′ rooms′ tally′ α
   second-goes (reached v p q) h e run P at =
       let k = run (if2 v p (fresh q)) refl (second-ready v p q h) P at in
       ran-by k (second-begins (ap nonzero (sym (own-value v p q h)) ∙ e) (k .rewrites)) refl

@@ -10,7 +10,7 @@ use borrow.Author.Tests.{le-leb, lt-leb}
 use Rattle.junior.specs.Term.{Term}
 use Rattle.table.specs.Records.{argumentAt}
 use Rattle.state.specs.Kinds.{if-kind}
-use Rattle.steps.specs.Running.{Ready, valuesIn}
+use Rattle.steps.specs.Running.{Rooms, Ready, valuesIn}
 use Rattle.steps.proofs.Children.{own-in}
 use Rattle.steps.specs.Numbers.{tallyOf, places-of-row}
 use Rattle.steps.specs.Kinds.{OfKind, InThen, InSecond}
@@ -22,12 +22,12 @@ use Rattle.runner.proofs.If.{If0, if0-by, if-names, first-live, second-
 use Rattle.runner.proofs.GoesOn.{stands-as, went-as, to-phase, by-phase}
 
 -- one that has gone over into its first branch
-module _ {table : List ℕ} {i : ℕ} {state m row : List ℕ} (gone-over : getD state (4 * i) 0 ≡ 1) where
-  pub to-first : CanRun 0 (OfKind if-kind) (lent table state m row) i → CanRun 1 InThen (lent table state m row) i
+module _ {table : List ℕ} {i : ℕ} {state m : List ℕ} {rooms : Rooms} (gone-over : getD state (4 * i) 0 ≡ 1) where
+  pub to-first : CanRun 0 (OfKind if-kind) (lent table state m rooms) i → CanRun 1 InThen (lent table state m rooms) i
   to-first o = to-phase (λ t k p. (inr k, p)) gone-over o
 
-  pub by-first : {L′ : Lent} {r : ℕ} → HasRun 1 InThen (lent table state m row) i L′ r
-      → HasRun 0 (OfKind if-kind) (lent table state m row) i L′ r
+  pub by-first : {L′ : Lent} {r : ℕ} → HasRun 1 InThen (lent table state m rooms) i L′ r
+      → HasRun 0 (OfKind if-kind) (lent table state m rooms) i L′ r
   by-first run = by-phase (λ t k p. (inr k, p)) gone-over run
 
 -- the value that its argument names
@@ -38,42 +38,42 @@ read-of tally names reads = reads ∙ ap (valuesIn tally) names
 module _ {table : List ℕ} {i : ℕ} {state : List ℕ} (on : getD state (4 * i) 0 ≢ 3) (no-first : getD state (4 * i) 0 ≢ 1)
     (no-second : getD state (4 * i) 0 ≢ 2) where
   choosing : {before part behind : List ℕ} → Around state i before part behind → {t : Term} → OfKind if-kind t
-      → {words row tally : List ℕ} → Ready 0 table i part words row tally t → If0 t
+      → {words : List ℕ} {rooms : Rooms} {tally : List ℕ} → Ready 0 table i part words rooms tally t → If0 t
   choosing a w h =
       let at = phase-at a (own-in h 0 (lit< tt)) in
       if0-by (w, λ e. on (phase-is a h ∙ e)) h (λ e. no-first (at ∙ e)) (λ e. no-second (at ∙ e))
 
-  module _ {m row : List ℕ} where
-    first-stands : {before part behind : List ℕ} → Stands 0 (OfKind if-kind) (lent table state m row) i before part behind
-        → Stands 1 InThen (lent table state m row) i before part behind
+  module _ {m : List ℕ} {rooms : Rooms} where
+    first-stands : {before part behind : List ℕ} → Stands 0 (OfKind if-kind) (lent table state m rooms) i before part behind
+        → Stands 1 InThen (lent table state m rooms) i before part behind
     first-stands o = let (t, w, h) = o .live in stands-as o (first-live (choosing (o .around) w h) h)
 
-    second-stands : {before part behind : List ℕ} → Stands 0 (OfKind if-kind) (lent table state m row) i before part behind
-        → Stands 1 InSecond (lent table state m row) i before part behind
+    second-stands : {before part behind : List ℕ} → Stands 0 (OfKind if-kind) (lent table state m rooms) i before part behind
+        → Stands 1 InSecond (lent table state m rooms) i before part behind
     second-stands o = let (t, w, h) = o .live in stands-as o (second-live (choosing (o .around) w h) h)
 
     -- its value can be read
-    pub if-asks : CanRun 0 (OfKind if-kind) (lent table state m row) i → {a : ℕ} → a ≡ argumentAt table i
+    pub if-asks : CanRun 0 (OfKind if-kind) (lent table state m rooms) i → {a : ℕ} → a ≡ argumentAt table i
         → (length m ≡ places-of-row) × (a < 16)
     if-asks (before, part, behind, o) e =
         let (t, w, h) = o .live in (o .numbers .long, omega (arith, if-names (choosing (o .around) w h) h))
 
-    pub now-first : CanRun 0 (OfKind if-kind) (lent table state m row) i → CanRun 1 InThen (lent table state m row) i
+    pub now-first : CanRun 0 (OfKind if-kind) (lent table state m rooms) i → CanRun 1 InThen (lent table state m rooms) i
     now-first (before, part, behind, o) = (_, _, _, first-stands o)
 
-    pub now-second : CanRun 0 (OfKind if-kind) (lent table state m row) i → CanRun 1 InSecond (lent table state m row) i
+    pub now-second : CanRun 0 (OfKind if-kind) (lent table state m rooms) i → CanRun 1 InSecond (lent table state m rooms) i
     now-second (before, part, behind, o) = (_, _, _, second-stands o)
 
     module _ {a value : ℕ} (names : a ≡ argumentAt table i) (reads : value ≡ valuesIn (tallyOf m) a) where
-      pub if-second : value ≡ 0 → {L′ : Lent} {r : ℕ} → HasRun 1 InSecond (lent table state m row) i L′ r
-          → HasRun 0 (OfKind if-kind) (lent table state m row) i L′ r
+      pub if-second : value ≡ 0 → {L′ : Lent} {r : ℕ} → HasRun 1 InSecond (lent table state m rooms) i L′ r
+          → HasRun 0 (OfKind if-kind) (lent table state m rooms) i L′ r
       if-second z run before part behind o =
           let g = run before part behind (second-stands o) in
           let no = lt-leb 1 (valuesIn (tallyOf m) (argumentAt table i)) (omega (arith, read-of (tallyOf m) names reads)) in
           went-as (kept-same m) g (λ t w h. second-goes (choosing (o .around) w h) h no (g .runs))
 
-      pub if-first : value ≢ 0 → {L′ : Lent} {r : ℕ} → HasRun 1 InThen (lent table state m row) i L′ r
-          → HasRun 0 (OfKind if-kind) (lent table state m row) i L′ r
+      pub if-first : value ≢ 0 → {L′ : Lent} {r : ℕ} → HasRun 1 InThen (lent table state m rooms) i L′ r
+          → HasRun 0 (OfKind if-kind) (lent table state m rooms) i L′ r
       if-first n run before part behind o =
           let g = run before part behind (first-stands o) in
           let yes = le-leb 1 (valuesIn (tallyOf m) (argumentAt table i)) (omega (arith, read-of (tallyOf m) names reads)) in

@@ -21,7 +21,7 @@ use Rattle.junior.proofs.Going.{stands}
 use Rattle.table.proofs.Tree.{size-pos}
 use Rattle.state.specs.StateBytes.{code, head, zeros, below, stateBytes}
 use Rattle.state.proofs.Parts.{first-of, with-first, rest-of, with-rest, blank-two, part-is, put-is, own-phase, own-flags}
-use Rattle.steps.specs.Running.{Ran}
+use Rattle.steps.specs.Running.{Rooms, Ran}
 use Rattle.steps.specs.Running.{left, gone, ended, isTERM, parEnd}
 use Rattle.steps.proofs.Done.{left-leave}
 
@@ -106,8 +106,8 @@ module _ (X : Events) where
   branch-stood STOP t n s = refl
   branch-stood TERM t n s = (over t s, (3, ap stateBytes (over t s) ∙ done-cons (prog t)))
 
-pub branch-ran : {P : Place} {t : Term} {words row tally s words′ row′ tally′ : List ℕ} {α : Flag}
-    (g : Ran P t words row tally s words′ row′ tally′ α) → Going (marks words) t → Branch α (g .to) s
+pub branch-ran : {P : Place} {t : Term} {words : List ℕ} {rooms : Rooms} {tally s words′ : List ℕ} {rooms′ : Rooms} {tally′ : List ℕ} {α : Flag}
+    (g : Ran P t words rooms tally s words′ rooms′ tally′ α) → Going (marks words) t → Branch α (g .to) s
 branch-ran {words′ = words′} {α = α} g on = branch-left (marks words′) α (g .to) _ (g .bytes) (stands (g .rewrites) on)
 
 -- what par_end makes of a branch: phase 3 if it has ended, or 0 where the Par has

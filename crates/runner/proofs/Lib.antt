@@ -10,12 +10,14 @@ pub mod Repeat
 pub mod Local
 pub mod When
 pub mod Until
+pub mod Freezable
 pub mod If
 pub mod GoesOn
 pub mod Names
 pub mod Indices
 pub mod WhenRuns
 pub mod UntilRuns
+pub mod FreezableRuns
 pub mod IfRuns
 pub mod ParRuns
 pub mod HalfRuns

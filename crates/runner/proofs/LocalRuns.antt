@@ -15,7 +15,7 @@ use Rattle.table.specs.Records.{argumentAt, sizeAt}
 use Rattle.table.specs.Spells.{Spells}
 use Rattle.state.specs.Kinds.{local-kind}
 use Rattle.state.proofs.Parts.{own-phase}
-use Rattle.steps.specs.Running.{Ready, Live, Runs, Any, signAfter}
+use Rattle.steps.specs.Running.{Rooms, Ready, Live, Runs, Any, signAfter}
 use Rattle.steps.proofs.LoadedNode.{local-placed}
 use Rattle.steps.proofs.Children.{own-in}
 use Rattle.runner.proofs.Local.{Locals, locals, locals-by, Marked, local-asks, local-writes, local-ran}
@@ -38,14 +38,14 @@ marked-by {e = e} {m = m} q wide there =
       now-marked = q .events ∙ rw (lt-ltb e (64 * length (wordsOf m)) (omega arith), and-true);
     }
 
-event-there : {table : List ℕ} {i : ℕ} {part words row tally : List ℕ} {t : Term} → Locals t → Ready 0 table i part words row tally t
+event-there : {table : List ℕ} {i : ℕ} {part words : List ℕ} {rooms : Rooms} {tally : List ℕ} {t : Term} → Locals t → Ready 0 table i part words rooms tally t
     → argumentAt table i < places
 unfolding prog Spells
 event-there (locals b e x) h = omega (arith, local-placed (h .placed), h .placed .spelled .1)
 
-module _ {table : List ℕ} {i : ℕ} {state : List ℕ} (on : getD state (4 * i) 0 ≢ 3) {m row before part behind : List ℕ}
-    (o : Stands 0 (OfKind local-kind) (lent table state m row) i before part behind) where
-  as-local : {t : Term} → OfKind local-kind t → {words tally : List ℕ} → Ready 0 table i part words row tally t → Locals t
+module _ {table : List ℕ} {i : ℕ} {state : List ℕ} (on : getD state (4 * i) 0 ≢ 3) {m : List ℕ} {rooms : Rooms} {before part behind : List ℕ}
+    (o : Stands 0 (OfKind local-kind) (lent table state m rooms) i before part behind) where
+  as-local : {t : Term} → OfKind local-kind t → {words tally : List ℕ} → Ready 0 table i part words rooms tally t → Locals t
   as-local {t} w h = locals-by t (w, λ e. on (phase-is (o .around) h ∙ e))
 
   pub local-event : argumentAt table i < places
@@ -59,27 +59,27 @@ module _ {table : List ℕ} {i : ℕ} {state : List ℕ} (on : getD state (4 * i
     inside-marked =
         rw (phase-at (o .around) (own-in (o .live .2) 0 (lit< tt))) at (marked-by q (words-wide (o .numbers)) there)
 
-    asks : (sizeAt table (i + 1) < sizeAt table i) × Live 0 Any table (i + 1) (midOf 4 (length part - 4) part) (wordsOf m₁) row (tallyOf m)
+    asks : (sizeAt table (i + 1) < sizeAt table i) × Live 0 Any table (i + 1) (midOf 4 (length part - 4) part) (wordsOf m₁) rooms (tallyOf m)
     asks =
         let (l, v) = local-asks names inside-marked (as-local (o .live .1) (o .live .2)) (o .live .2) 1 refl in
         (smaller-by table i (i + 1) l, v)
 
-    pub body-stands : Stands 0 Any (lent table state m₁ row) (i + 1) (before ++ take 4 part) (midOf 4 (length part - 4) part)
+    pub body-stands : Stands 0 Any (lent table state m₁ rooms) (i + 1) (before ++ take 4 part) (midOf 4 (length part - 4) part)
         (drop (length part - 4) (drop 4 part) ++ behind)
     body-stands =
         record {
           around = inner (o .around) 4 (length part - 4) (own-in (o .live .2) 3 (lit< tt)) (omega arith);
           numbers = still (o .numbers) (q .kept);
           live =
-              subst (λ (l : List ℕ). Live 0 Any table (i + 1) (midOf 4 (length part - 4) part) (wordsOf m₁) row l) (sym (q .tally)) (asks .1);
+              subst (λ (l : List ℕ). Live 0 Any table (i + 1) (midOf 4 (length part - 4) part) (wordsOf m₁) rooms l) (sym (q .tally)) (asks .1);
         }
 
     pub body-smaller : sizeAt table (i + 1) < sizeAt table i
     body-smaller = asks .0
 
-    module _ {state₁ m₂ row₁ : List ℕ} {f : ℕ} (run : HasRun 0 Any (lent table state m₁ row) (i + 1) (lent table state₁ m₂ row₁) f) where
-      pub body-went : Went 0 Any (lent table state m₁ row) (i + 1) (before ++ take 4 part) (midOf 4 (length part - 4) part)
-          (drop (length part - 4) (drop 4 part) ++ behind) (lent table state₁ m₂ row₁) f
+    module _ {state₁ m₂ : List ℕ} {rooms₁ : Rooms} {f : ℕ} (run : HasRun 0 Any (lent table state m₁ rooms) (i + 1) (lent table state₁ m₂ rooms₁) f) where
+      pub body-went : Went 0 Any (lent table state m₁ rooms) (i + 1) (before ++ take 4 part) (midOf 4 (length part - 4) part)
+          (drop (length part - 4) (drop 4 part) ++ behind) (lent table state₁ m₂ rooms₁) f
       body-went = run _ _ _ body-stands
 
       abbrev pub part₁ : List ℕ
@@ -91,8 +91,8 @@ module _ {table : List ℕ} {i : ℕ} {state : List ℕ} (on : getD state (4 * i
       -- it ran with the tally of the entry
       abbrev Body : List ℕ → Type 0
       Body tally =
-          Runs 0 Any table (i + 1) (midOf 4 (length part - 4) part) (wordsOf m₁) row tally
-          (body-went .part′) (wordsOf m₂) row₁ (tallyOf m₂) (flagOf f)
+          Runs 0 Any table (i + 1) (midOf 4 (length part - 4) part) (wordsOf m₁) rooms tally
+          (body-went .part′) (wordsOf m₂) rooms₁ (tallyOf m₂) (flagOf f)
 
       body-runs : Body (tallyOf m)
       body-runs = subst Body (q .tally) (body-went .runs)
@@ -108,7 +108,7 @@ module _ {table : List ℕ} {i : ℕ} {state : List ℕ} (on : getD state (4 * i
 
       pub local-went : {outside present : Bool} → outside ≡ marks (wordsOf m) e → present ≡ marks (wordsOf m₂) e
           → {m₃ : List ℕ} → Put e outside m₂ m₃ → {ph : ℕ} → ph ≡ signAfter (flagOf f) present
-          → Went 0 (OfKind local-kind) (lent table state m row) i before part behind (lent table (set state₁ (4 * i) ph) m₃ row₁) f
+          → Went 0 (OfKind local-kind) (lent table state m rooms) i before part behind (lent table (set state₁ (4 * i) ph) m₃ rooms₁) f
       local-went was found {m₃} q₃ {ph} after =
           let wide = words-wide (still (still (o .numbers) (q .kept)) (body-went .kept)) in
           record {
@@ -122,26 +122,26 @@ module _ {table : List ℕ} {i : ℕ} {state : List ℕ} (on : getD state (4 * i
           }
 
 -- in the words of the needs
-module _ {table : List ℕ} {i : ℕ} {state m row : List ℕ} (on : getD state (4 * i) 0 ≢ 3) {e : ℕ} (names : e ≡ argumentAt table i) where
-  pub local-enters : CanRun 0 (OfKind local-kind) (lent table state m row) i → (length m ≡ places-of-row) × (e < places)
+module _ {table : List ℕ} {i : ℕ} {state m : List ℕ} {rooms : Rooms} (on : getD state (4 * i) 0 ≢ 3) {e : ℕ} (names : e ≡ argumentAt table i) where
+  pub local-enters : CanRun 0 (OfKind local-kind) (lent table state m rooms) i → (length m ≡ places-of-row) × (e < places)
   local-enters (before, part, behind, o) = (o .numbers .long, omega (arith, local-event on o))
 
   module _ {m₁ : List ℕ} (q : Put e (eqb (getD state (4 * i) 0) 1) m m₁) where
-    pub local-body : CanRun 0 (OfKind local-kind) (lent table state m row) i
-        → (sizeAt table (i + 1) < sizeAt table i) × CanRun 0 Any (lent table state m₁ row) (i + 1)
+    pub local-body : CanRun 0 (OfKind local-kind) (lent table state m rooms) i
+        → (sizeAt table (i + 1) < sizeAt table i) × CanRun 0 Any (lent table state m₁ rooms) (i + 1)
     local-body (before, part, behind, o) = (body-smaller on o names q, (_, _, _, body-stands on o names q))
 
-    module _ {state₁ m₂ row₁ : List ℕ} {f : ℕ} (run : HasRun 0 Any (lent table state m₁ row) (i + 1) (lent table state₁ m₂ row₁) f) where
-      pub local-leaves : CanRun 0 (OfKind local-kind) (lent table state m row) i → (length m₂ ≡ places-of-row) × (e < places)
+    module _ {state₁ m₂ : List ℕ} {rooms₁ : Rooms} {f : ℕ} (run : HasRun 0 Any (lent table state m₁ rooms) (i + 1) (lent table state₁ m₂ rooms₁) f) where
+      pub local-leaves : CanRun 0 (OfKind local-kind) (lent table state m rooms) i → (length m₂ ≡ places-of-row) × (e < places)
       local-leaves (before, part, behind, o) = (row-long on o names q run, omega (arith, local-event on o))
 
-      pub local-flag : CanRun 0 (OfKind local-kind) (lent table state m row) i → f < 3
+      pub local-flag : CanRun 0 (OfKind local-kind) (lent table state m rooms) i → f < 3
       local-flag (before, part, behind, o) = body-went on o names q run .below
 
-      pub local-writes-in : CanRun 0 (OfKind local-kind) (lent table state m row) i → 4 * i < length state₁
+      pub local-writes-in : CanRun 0 (OfKind local-kind) (lent table state m rooms) i → 4 * i < length state₁
       local-writes-in (before, part, behind, o) = phase-there on o names q run
 
       pub local-done : {outside : Bool} → outside ≡ marks (wordsOf m) e → {present : Bool} {m₃ : List ℕ}
           → (present ≡ marks (wordsOf m₂) e) × Put e outside m₂ m₃ → {ph : ℕ} → ph ≡ signAfter (flagOf f) present
-          → HasRun 0 (OfKind local-kind) (lent table state m row) i (lent table (set state₁ (4 * i) ph) m₃ row₁) f
+          → HasRun 0 (OfKind local-kind) (lent table state m rooms) i (lent table (set state₁ (4 * i) ph) m₃ rooms₁) f
       local-done was (found, q₃) after before part behind o = local-went on o names q run was found q₃ after

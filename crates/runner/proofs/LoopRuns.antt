@@ -11,7 +11,7 @@ use Rattle.junior.specs.Term.{Term}
 use Rattle.table.specs.Records.{kindAt, sizeAt}
 use Rattle.state.specs.Kinds.{loop-kind}
 use Rattle.state.proofs.Shape.{Shape, is-done, is-loop0, is-loop1, shape-by}
-use Rattle.steps.specs.Running.{Ready, Any}
+use Rattle.steps.specs.Running.{Rooms, Ready, Any}
 use Rattle.steps.proofs.Children.{own-in, unseen}
 use Rattle.steps.specs.Kinds.{OfKind, Beginning}
 use Rattle.steps.specs.Lent.{Lent, lent, Around, Stands, Went, CanRun, HasRun}
@@ -25,12 +25,12 @@ use Rattle.runner.proofs.Loop.{Loops, loops-by, loop-asks, loop-waits, 
 use Rattle.runner.proofs.Falling.{weigh, child-rank, form-rank, last-rank, smaller-by}
 
 -- the body begins
-module _ {table : List ℕ} {i : ℕ} {state m row before part behind : List ℕ}
-    (o : Stands 1 Beginning (lent table state m row) i before part behind) where
+module _ {table : List ℕ} {i : ℕ} {state m : List ℕ} {rooms : Rooms} {before part behind : List ℕ}
+    (o : Stands 1 Beginning (lent table state m rooms) i before part behind) where
   the-begun : Begins (o .live .0)
   the-begun = begins-by (o .live .0) (o .live .1)
 
-  pub begun-stands : Stands 0 Any (lent table state m row) (i + 1) (before ++ take 4 part) (midOf 4 (length part - 4) part)
+  pub begun-stands : Stands 0 Any (lent table state m rooms) (i + 1) (before ++ take 4 part) (midOf 4 (length part - 4) part)
       (drop (length part - 4) (drop 4 part) ++ behind)
   begun-stands =
       child-stands (o .around) (o .numbers) 4 (length part - 4) (own-in (o .live .2) 3 (lit< tt)) (omega arith)
@@ -39,9 +39,9 @@ module _ {table : List ℕ} {i : ℕ} {state m row before part behind : List ℕ
   pub begun-smaller : sizeAt table (i + 1) < sizeAt table i
   begun-smaller = smaller-by table i (i + 1) (begin-asks the-begun (o .live .2) 1 refl .0)
 
-  module _ {state₁ m₁ row₁ : List ℕ} {f : ℕ} (run : HasRun 0 Any (lent table state m row) (i + 1) (lent table state₁ m₁ row₁) f) where
-    pub begun-went : Went 0 Any (lent table state m row) (i + 1) (before ++ take 4 part) (midOf 4 (length part - 4) part)
-        (drop (length part - 4) (drop 4 part) ++ behind) (lent table state₁ m₁ row₁) f
+  module _ {state₁ m₁ : List ℕ} {rooms₁ : Rooms} {f : ℕ} (run : HasRun 0 Any (lent table state m rooms) (i + 1) (lent table state₁ m₁ rooms₁) f) where
+    pub begun-went : Went 0 Any (lent table state m rooms) (i + 1) (before ++ take 4 part) (midOf 4 (length part - 4) part)
+        (drop (length part - 4) (drop 4 part) ++ behind) (lent table state₁ m₁ rooms₁) f
     begun-went = run _ _ _ begun-stands
 
     abbrev pub part-begun : List ℕ
@@ -56,7 +56,7 @@ module _ {table : List ℕ} {i : ℕ} {state m row before part behind : List ℕ
     pub begun-writes : 4 * i < length state₁
     begun-writes = phase-in around-begun has-phase
 
-    pub loop-went-in : Went 1 Beginning (lent table state m row) i before part behind (lent table (set state₁ (4 * i) 1) m₁ row₁) f
+    pub loop-went-in : Went 1 Beginning (lent table state m rooms) i before part behind (lent table (set state₁ (4 * i) 1) m₁ rooms₁) f
     loop-went-in =
         record {
           part′ = set part-begun 0 1;
@@ -72,25 +72,25 @@ not-begun (is-loop0 p) a b = refl
 not-begun (is-loop1 x) a b = absurd (b refl)
 not-begun (is-done p e) a b = absurd (a refl)
 
-module _ {table : List ℕ} {i : ℕ} {state : List ℕ} (on : getD state (4 * i) 0 ≢ 3) (fresh : getD state (4 * i) 0 ≢ 1) {row : List ℕ} where
+module _ {table : List ℕ} {i : ℕ} {state : List ℕ} (on : getD state (4 * i) 0 ≢ 3) (fresh : getD state (4 * i) 0 ≢ 1) {rooms : Rooms} where
   begins-at : {before part behind : List ℕ} → Around state i before part behind → {words tally : List ℕ} (t : Term) → OfKind loop-kind t
-      → Ready 0 table i part words row tally t → Beginning t
+      → Ready 0 table i part words rooms tally t → Beginning t
   begins-at a t w h =
       (w, not-begun (shape-by t w refl) (λ e. on (phase-is a h ∙ e)) (λ e. fresh (phase-is a h ∙ e)))
 
-module _ {table : List ℕ} {i : ℕ} {state m row : List ℕ} (on : getD state (4 * i) 0 ≢ 3) (fresh : getD state (4 * i) 0 ≢ 1) where
-  begin-stands : {before part behind : List ℕ} → Stands 0 (OfKind loop-kind) (lent table state m row) i before part behind
-      → Stands 1 Beginning (lent table state m row) i before part behind
+module _ {table : List ℕ} {i : ℕ} {state m : List ℕ} {rooms : Rooms} (on : getD state (4 * i) 0 ≢ 3) (fresh : getD state (4 * i) 0 ≢ 1) where
+  begin-stands : {before part behind : List ℕ} → Stands 0 (OfKind loop-kind) (lent table state m rooms) i before part behind
+      → Stands 1 Beginning (lent table state m rooms) i before part behind
   begin-stands o =
       let (t, w, h) = o .live in
       record { around = o .around; numbers = o .numbers; live = (t, begins-at on fresh (o .around) t w h, unseen h 1) }
 
-  pub to-begin : CanRun 0 (OfKind loop-kind) (lent table state m row) i → {k : ℕ} → weigh table i form-rank ≡ k
-      → (weigh table i last-rank < k) × CanRun 1 Beginning (lent table state m row) i
+  pub to-begin : CanRun 0 (OfKind loop-kind) (lent table state m rooms) i → {k : ℕ} → weigh table i form-rank ≡ k
+      → (weigh table i last-rank < k) × CanRun 1 Beginning (lent table state m rooms) i
   to-begin (before, part, behind, o) e = (omega arith, (before, part, behind, begin-stands o))
 
-  pub by-begin : {L′ : Lent} {r : ℕ} → HasRun 1 Beginning (lent table state m row) i L′ r
-      → HasRun 0 (OfKind loop-kind) (lent table state m row) i L′ r
+  pub by-begin : {L′ : Lent} {r : ℕ} → HasRun 1 Beginning (lent table state m rooms) i L′ r
+      → HasRun 0 (OfKind loop-kind) (lent table state m rooms) i L′ r
   by-begin run before part behind o =
       let g = run before part behind (begin-stands o) in
       record {
@@ -102,9 +102,9 @@ module _ {table : List ℕ} {i : ℕ} {state m row : List ℕ} (on : getD state 
       }
 
 -- in the rest of its body
-module _ {table : List ℕ} {i : ℕ} {state : List ℕ} (begun : getD state (4 * i) 0 ≡ 1) {m row before part behind : List ℕ}
-    (o : Stands 0 (OfKind loop-kind) (lent table state m row) i before part behind) where
-  in-rest : {t : Term} → OfKind loop-kind t → {words tally : List ℕ} → Ready 0 table i part words row tally t → Loops t
+module _ {table : List ℕ} {i : ℕ} {state : List ℕ} (begun : getD state (4 * i) 0 ≡ 1) {m : List ℕ} {rooms : Rooms} {before part behind : List ℕ}
+    (o : Stands 0 (OfKind loop-kind) (lent table state m rooms) i before part behind) where
+  in-rest : {t : Term} → OfKind loop-kind t → {words tally : List ℕ} → Ready 0 table i part words rooms tally t → Loops t
   in-rest w h =
       let e = phase-is (o .around) h in
       loops-by (w, λ z. omega arith) h (λ z. omega (arith, phase-at (o .around) (own-in h 0 (lit< tt))))
@@ -112,7 +112,7 @@ module _ {table : List ℕ} {i : ℕ} {state : List ℕ} (begun : getD state (4 
   the : Loops (o .live .0)
   the = in-rest (o .live .1) (o .live .2)
 
-  pub rest-stands : Stands 0 Any (lent table state m row) (i + 1) (before ++ take 4 part) (midOf 4 (length part - 4) part)
+  pub rest-stands : Stands 0 Any (lent table state m rooms) (i + 1) (before ++ take 4 part) (midOf 4 (length part - 4) part)
       (drop (length part - 4) (drop 4 part) ++ behind)
   rest-stands =
       child-stands (o .around) (o .numbers) 4 (length part - 4) (own-in (o .live .2) 3 (lit< tt)) (omega arith)
@@ -121,9 +121,9 @@ module _ {table : List ℕ} {i : ℕ} {state : List ℕ} (begun : getD state (4 
   pub rest-smaller : sizeAt table (i + 1) < sizeAt table i
   rest-smaller = smaller-by table i (i + 1) (loop-asks the (o .live .2) 1 refl .0)
 
-  module _ {state₁ m₁ row₁ : List ℕ} {f : ℕ} (run : HasRun 0 Any (lent table state m row) (i + 1) (lent table state₁ m₁ row₁) f) where
-    pub rest-went : Went 0 Any (lent table state m row) (i + 1) (before ++ take 4 part) (midOf 4 (length part - 4) part)
-        (drop (length part - 4) (drop 4 part) ++ behind) (lent table state₁ m₁ row₁) f
+  module _ {state₁ m₁ : List ℕ} {rooms₁ : Rooms} {f : ℕ} (run : HasRun 0 Any (lent table state m rooms) (i + 1) (lent table state₁ m₁ rooms₁) f) where
+    pub rest-went : Went 0 Any (lent table state m rooms) (i + 1) (before ++ take 4 part) (midOf 4 (length part - 4) part)
+        (drop (length part - 4) (drop 4 part) ++ behind) (lent table state₁ m₁ rooms₁) f
     rest-went = run _ _ _ rest-stands
 
     abbrev pub part₁ : List ℕ
@@ -132,7 +132,7 @@ module _ {table : List ℕ} {i : ℕ} {state : List ℕ} (begun : getD state (4 
     pub around₁ : Around state₁ i before part₁ behind
     around₁ = outer (o .around) 4 (length part - 4) (rest-went .around)
 
-    pub loop-went : f ≢ 2 → Went 0 (OfKind loop-kind) (lent table state m row) i before part behind (lent table state₁ m₁ row₁) f
+    pub loop-went : f ≢ 2 → Went 0 (OfKind loop-kind) (lent table state m rooms) i before part behind (lent table state₁ m₁ rooms₁) f
     loop-went n =
         record {
           part′ = part₁;
@@ -143,7 +143,7 @@ module _ {table : List ℕ} {i : ℕ} {state : List ℕ} (begun : getD state (4 
         }
 
     module _ (ended : f ≡ 2) where
-      pub anew-stands : Stands 1 Beginning (lent table state₁ m₁ row₁) i before part₁ behind
+      pub anew-stands : Stands 1 Beginning (lent table state₁ m₁ rooms₁) i before part₁ behind
       anew-stands =
           record {
             around = around₁;
@@ -151,8 +151,8 @@ module _ {table : List ℕ} {i : ℕ} {state : List ℕ} (begun : getD state (4 
             live = anew-asks (rest-went .runs) the (o .live .2) (is-term ended);
           }
 
-      pub loop-went-on : {L′ : Lent} {r : ℕ} → HasRun 1 Beginning (lent table state₁ m₁ row₁) i L′ r
-          → Went 0 (OfKind loop-kind) (lent table state m row) i before part behind L′ r
+      pub loop-went-on : {L′ : Lent} {r : ℕ} → HasRun 1 Beginning (lent table state₁ m₁ rooms₁) i L′ r
+          → Went 0 (OfKind loop-kind) (lent table state m rooms) i before part behind L′ r
       loop-went-on then =
           let g = then before part₁ behind anew-stands in
           record {
@@ -164,37 +164,37 @@ module _ {table : List ℕ} {i : ℕ} {state : List ℕ} (begun : getD state (4 
           }
 
 -- in the words of the needs
-module _ {table : List ℕ} {i : ℕ} {state m row : List ℕ} where
-  pub begin-body : CanRun 1 Beginning (lent table state m row) i → {k : ℕ} → weigh table i last-rank ≡ k
-      → (weigh table (i + 1) child-rank < k) × CanRun 0 Any (lent table state m row) (i + 1)
+module _ {table : List ℕ} {i : ℕ} {state m : List ℕ} {rooms : Rooms} where
+  pub begin-body : CanRun 1 Beginning (lent table state m rooms) i → {k : ℕ} → weigh table i last-rank ≡ k
+      → (weigh table (i + 1) child-rank < k) × CanRun 0 Any (lent table state m rooms) (i + 1)
   begin-body (before, part, behind, o) e = (omega (arith, begun-smaller o), (_, _, _, begun-stands o))
 
-  module _ {state₁ m₁ row₁ : List ℕ} {f : ℕ} (run : HasRun 0 Any (lent table state m row) (i + 1) (lent table state₁ m₁ row₁) f) where
-    pub begin-writes-in : CanRun 1 Beginning (lent table state m row) i → 4 * i < length state₁
+  module _ {state₁ m₁ : List ℕ} {rooms₁ : Rooms} {f : ℕ} (run : HasRun 0 Any (lent table state m rooms) (i + 1) (lent table state₁ m₁ rooms₁) f) where
+    pub begin-writes-in : CanRun 1 Beginning (lent table state m rooms) i → 4 * i < length state₁
     begin-writes-in (before, part, behind, o) = begun-writes o run
 
-    pub loop-begun : HasRun 1 Beginning (lent table state m row) i (lent table (set state₁ (4 * i) 1) m₁ row₁) f
+    pub loop-begun : HasRun 1 Beginning (lent table state m rooms) i (lent table (set state₁ (4 * i) 1) m₁ rooms₁) f
     loop-begun before part behind o = loop-went-in o run
 
   module _ (begun : getD state (4 * i) 0 ≡ 1) where
-    pub loop-body : CanRun 0 (OfKind loop-kind) (lent table state m row) i → {k : ℕ} → weigh table i form-rank ≡ k
-        → (weigh table (i + 1) child-rank < k) × CanRun 0 Any (lent table state m row) (i + 1)
+    pub loop-body : CanRun 0 (OfKind loop-kind) (lent table state m rooms) i → {k : ℕ} → weigh table i form-rank ≡ k
+        → (weigh table (i + 1) child-rank < k) × CanRun 0 Any (lent table state m rooms) (i + 1)
     loop-body (before, part, behind, o) e = (omega (arith, rest-smaller begun o), (_, _, _, rest-stands begun o))
 
     -- a Loop in a Loop, by its kind as it was read
-    pub loop-nested : {n : ℕ} → n ≡ kindAt table (i + 1) → n ≡ loop-kind → CanRun 0 (OfKind loop-kind) (lent table state m row) i
+    pub loop-nested : {n : ℕ} → n ≡ kindAt table (i + 1) → n ≡ loop-kind → CanRun 0 (OfKind loop-kind) (lent table state m rooms) i
         → {k : ℕ} → weigh table i form-rank ≡ k
-        → (weigh table (i + 1) form-rank < k) × CanRun 0 (OfKind loop-kind) (lent table state m row) (i + 1)
+        → (weigh table (i + 1) form-rank < k) × CanRun 0 (OfKind loop-kind) (lent table state m rooms) (i + 1)
     loop-nested read is o e = let (l, s) = loop-body o e in (omega (arith, l), to-kind read is s)
 
-    module _ {state₁ m₁ row₁ : List ℕ} {f : ℕ} (run : HasRun 0 Any (lent table state m row) (i + 1) (lent table state₁ m₁ row₁) f) where
-      pub loop-stays : f ≢ 2 → HasRun 0 (OfKind loop-kind) (lent table state m row) i (lent table state₁ m₁ row₁) f
+    module _ {state₁ m₁ : List ℕ} {rooms₁ : Rooms} {f : ℕ} (run : HasRun 0 Any (lent table state m rooms) (i + 1) (lent table state₁ m₁ rooms₁) f) where
+      pub loop-stays : f ≢ 2 → HasRun 0 (OfKind loop-kind) (lent table state m rooms) i (lent table state₁ m₁ rooms₁) f
       loop-stays n before part behind o = loop-went begun o run n
 
-      pub loop-anew : f ≡ 2 → CanRun 0 (OfKind loop-kind) (lent table state m row) i → {k : ℕ} → weigh table i form-rank ≡ k
-          → (weigh table i last-rank < k) × CanRun 1 Beginning (lent table state₁ m₁ row₁) i
+      pub loop-anew : f ≡ 2 → CanRun 0 (OfKind loop-kind) (lent table state m rooms) i → {k : ℕ} → weigh table i form-rank ≡ k
+          → (weigh table i last-rank < k) × CanRun 1 Beginning (lent table state₁ m₁ rooms₁) i
       loop-anew z (before, part, behind, o) e = (omega arith, (_, _, _, anew-stands begun o run z))
 
-      pub loop-goes-on : {L′ : Lent} {r : ℕ} → f ≡ 2 → HasRun 1 Beginning (lent table state₁ m₁ row₁) i L′ r
-          → HasRun 0 (OfKind loop-kind) (lent table state m row) i L′ r
+      pub loop-goes-on : {L′ : Lent} {r : ℕ} → f ≡ 2 → HasRun 1 Beginning (lent table state₁ m₁ rooms₁) i L′ r
+          → HasRun 0 (OfKind loop-kind) (lent table state m rooms) i L′ r
       loop-goes-on e then before part behind o = loop-went-on begun o run e then

@@ -10,7 +10,7 @@ use Rattle.junior.specs.Term.{Term}
 use Rattle.table.specs.Records.{sizeAt, secondAt}
 use Rattle.state.specs.Kinds.{par-kind}
 use Rattle.state.proofs.Parts.{first-of, with-first, rest-of, with-rest, own-flags}
-use Rattle.steps.specs.Running.{Ready, Any, Kind, parEnd}
+use Rattle.steps.specs.Running.{Rooms, Ready, Any, Kind, parEnd}
 use Rattle.steps.proofs.Children.{byte-is, own-in}
 use Rattle.steps.specs.Kinds.{BothSuspended}
 use Rattle.steps.specs.Flags.{flagOf, ParEnds}
@@ -22,7 +22,8 @@ use Rattle.steps.proofs.ChildContext.{child-stands, front-stays, par-end-around
 use Rattle.runner.proofs.Par.{First, par-by, both-by, par-reads, first-asks, both-fits, then-asks, both-end-asks, both-ran}
 use Rattle.runner.proofs.Falling.{weigh, child-rank, lighter, smaller-by, form-rank}
 
-module _ {table : List ℕ} {i : ℕ} {part words row tally : List ℕ} {t : Term} (w : BothSuspended t) (h : Ready 0 table i part words row tally t) where
+module _ {table : List ℕ} {i : ℕ} {part words : List ℕ} {rooms : Rooms} {tally : List ℕ} {t : Term} (w : BothSuspended t)
+    (h : Ready 0 table i part words rooms tally t) where
   pub as-par : Kind par-kind t
   as-par = (w .0, λ e. omega (arith, w .1))
 
@@ -32,8 +33,8 @@ module _ {table : List ℕ} {i : ℕ} {part words row tally : List ℕ} {t : Ter
   pub both-of : First SUSP t
   both-of = both-by h as-par no-flags
 
-module _ {table : List ℕ} {i : ℕ} {state m row before part behind : List ℕ}
-    (o : Stands 0 BothSuspended (lent table state m row) i before part behind) where
+module _ {table : List ℕ} {i : ℕ} {state m : List ℕ} {rooms : Rooms} {before part behind : List ℕ}
+    (o : Stands 0 BothSuspended (lent table state m rooms) i before part behind) where
   abbrev n : ℕ
   n = sizeAt table (i + 1)
 
@@ -43,7 +44,7 @@ module _ {table : List ℕ} {i : ℕ} {state m row before part behind : List ℕ
   pub par-reads-in : 6 * (i + 1) + 5 < length table
   par-reads-in = par-reads (par-by (as-par (o .live .1) (o .live .2)) (o .live .2)) (o .live .2)
 
-  pub first-stands : Stands 0 Any (lent table state m row) (i + 1) (before ++ take 4 part) (first-of part n)
+  pub first-stands : Stands 0 Any (lent table state m rooms) (i + 1) (before ++ take 4 part) (first-of part n)
       (drop (4 + 4 * n - 4) (drop 4 part) ++ behind)
   first-stands =
       child-stands (o .around) (o .numbers) 4 (4 + 4 * n - 4) (own-in (o .live .2) 3 (omega arith)) (omega arith)
@@ -52,9 +53,9 @@ module _ {table : List ℕ} {i : ℕ} {state m row before part behind : List ℕ
   pub first-smaller : sizeAt table (i + 1) < sizeAt table i
   first-smaller = smaller-by table i (i + 1) (first-asks refl the (o .live .2) 1 refl .0)
 
-  module _ {state₁ m₁ row₁ : List ℕ} {f : ℕ} (run : HasRun 0 Any (lent table state m row) (i + 1) (lent table state₁ m₁ row₁) f) where
-    pub first-went : Went 0 Any (lent table state m row) (i + 1) (before ++ take 4 part) (first-of part n)
-        (drop (4 + 4 * n - 4) (drop 4 part) ++ behind) (lent table state₁ m₁ row₁) f
+  module _ {state₁ m₁ : List ℕ} {rooms₁ : Rooms} {f : ℕ} (run : HasRun 0 Any (lent table state m rooms) (i + 1) (lent table state₁ m₁ rooms₁) f) where
+    pub first-went : Went 0 Any (lent table state m rooms) (i + 1) (before ++ take 4 part) (first-of part n)
+        (drop (4 + 4 * n - 4) (drop 4 part) ++ behind) (lent table state₁ m₁ rooms₁) f
     first-went = run _ _ _ first-stands
 
     abbrev pub part₁ : List ℕ
@@ -66,7 +67,7 @@ module _ {table : List ℕ} {i : ℕ} {state m row before part behind : List ℕ
     fits : 4 + 4 * n ≤ length part₁
     fits = both-fits refl (first-went .runs) the (o .live .2)
 
-    pub second-stands : Stands 0 Any (lent table state₁ m₁ row₁) (secondAt table i) (before ++ take (4 + 4 * n) part₁) (rest-of part₁ n)
+    pub second-stands : Stands 0 Any (lent table state₁ m₁ rooms₁) (secondAt table i) (before ++ take (4 + 4 * n) part₁) (rest-of part₁ n)
         (drop (length part₁ - (4 + 4 * n)) (drop (4 + 4 * n) part₁) ++ behind)
     second-stands =
         child-stands around₁ (still (o .numbers) (first-went .kept)) (4 + 4 * n) (length part₁ - (4 + 4 * n)) fits (omega arith)
@@ -75,10 +76,10 @@ module _ {table : List ℕ} {i : ℕ} {state m row before part behind : List ℕ
     pub second-smaller : sizeAt table (secondAt table i) < sizeAt table i
     second-smaller = smaller-by table i (secondAt table i) (then-asks refl (first-went .runs) the (o .live .2) 1 refl .0)
 
-    module _ {state₂ m₂ row₂ : List ℕ} {g : ℕ}
-        (then : HasRun 0 Any (lent table state₁ m₁ row₁) (secondAt table i) (lent table state₂ m₂ row₂) g) where
-      pub second-went : Went 0 Any (lent table state₁ m₁ row₁) (secondAt table i) (before ++ take (4 + 4 * n) part₁) (rest-of part₁ n)
-          (drop (length part₁ - (4 + 4 * n)) (drop (4 + 4 * n) part₁) ++ behind) (lent table state₂ m₂ row₂) g
+    module _ {state₂ m₂ : List ℕ} {rooms₂ : Rooms} {g : ℕ}
+        (then : HasRun 0 Any (lent table state₁ m₁ rooms₁) (secondAt table i) (lent table state₂ m₂ rooms₂) g) where
+      pub second-went : Went 0 Any (lent table state₁ m₁ rooms₁) (secondAt table i) (before ++ take (4 + 4 * n) part₁) (rest-of part₁ n)
+          (drop (length part₁ - (4 + 4 * n)) (drop (4 + 4 * n) part₁) ++ behind) (lent table state₂ m₂ rooms₂) g
       second-went = then _ _ _ second-stands
 
       abbrev pub part₂ : List ℕ
@@ -104,7 +105,7 @@ module _ {table : List ℕ} {i : ℕ} {state m row before part behind : List ℕ
           ∙ no-flags (o .live .1) (o .live .2)))
 
       pub par-went : {state₃ : List ℕ} {r : ℕ} → ParEnds f g (4 * i) (4 * secondAt table i) state₂ state₃ r
-          → Went 0 BothSuspended (lent table state m row) i before part behind (lent table state₃ m₂ row₂) r
+          → Went 0 BothSuspended (lent table state m rooms) i before part behind (lent table state₃ m₂ rooms₂) r
       par-went e =
           let d : 4 * i + (4 + 4 * n) ≡ 4 * secondAt table i = omega arith in
           record {
@@ -116,25 +117,25 @@ module _ {table : List ℕ} {i : ℕ} {state m row before part behind : List ℕ
           }
 
 -- in the words of the needs
-module _ {table : List ℕ} {i : ℕ} {state m row : List ℕ} where
-  pub par-first : CanRun 0 BothSuspended (lent table state m row) i → {k : ℕ} → weigh table i 2 ≡ k
-      → (weigh table (i + 1) child-rank < k) × CanRun 0 Any (lent table state m row) (i + 1)
+module _ {table : List ℕ} {i : ℕ} {state m : List ℕ} {rooms : Rooms} where
+  pub par-first : CanRun 0 BothSuspended (lent table state m rooms) i → {k : ℕ} → weigh table i 2 ≡ k
+      → (weigh table (i + 1) child-rank < k) × CanRun 0 Any (lent table state m rooms) (i + 1)
   par-first (before, part, behind, o) e = (lighter form-rank child-rank (lit< tt) (first-smaller o) e, (_, _, _, first-stands o))
 
-  pub par-second-in : CanRun 0 BothSuspended (lent table state m row) i → 6 * i + 11 < length table
+  pub par-second-in : CanRun 0 BothSuspended (lent table state m rooms) i → 6 * i + 11 < length table
   par-second-in (before, part, behind, o) = omega (arith, par-reads-in o)
 
-  module _ {state₁ m₁ row₁ : List ℕ} {f : ℕ} (run : HasRun 0 Any (lent table state m row) (i + 1) (lent table state₁ m₁ row₁) f)
+  module _ {state₁ m₁ : List ℕ} {rooms₁ : Rooms} {f : ℕ} (run : HasRun 0 Any (lent table state m rooms) (i + 1) (lent table state₁ m₁ rooms₁) f)
       {second : ℕ} (is : second ≡ secondAt table i) where
-    pub par-second : CanRun 0 BothSuspended (lent table state m row) i
-        → (sizeAt table second < sizeAt table i) × CanRun 0 Any (lent table state₁ m₁ row₁) second
+    pub par-second : CanRun 0 BothSuspended (lent table state m rooms) i
+        → (sizeAt table second < sizeAt table i) × CanRun 0 Any (lent table state₁ m₁ rooms₁) second
     par-second (before, part, behind, o) = rw is (second-smaller o run, (_, _, _, second-stands o run))
 
-    module _ {state₂ m₂ row₂ : List ℕ} {g : ℕ} (then : HasRun 0 Any (lent table state₁ m₁ row₁) second (lent table state₂ m₂ row₂) g) where
-      pub par-joins : CanRun 0 BothSuspended (lent table state m row) i
+    module _ {state₂ m₂ : List ℕ} {rooms₂ : Rooms} {g : ℕ} (then : HasRun 0 Any (lent table state₁ m₁ rooms₁) second (lent table state₂ m₂ rooms₂) g) where
+      pub par-joins : CanRun 0 BothSuspended (lent table state m rooms) i
           → ((f < 3) × (g < 3) × (4 * i + 4 < length state₂) × (4 * second < length state₂)) × (getD state₂ (4 * i + 1) 0 ≡ 0)
       par-joins (before, part, behind, o) = rw is (join-asks o run (run-at is then), still-no-flags o run (run-at is then))
 
       pub par-done : {state₃ : List ℕ} {r : ℕ} → ParEnds f g (4 * i) (4 * second) state₂ state₃ r
-          → HasRun 0 BothSuspended (lent table state m row) i (lent table state₃ m₂ row₂) r
+          → HasRun 0 BothSuspended (lent table state m rooms) i (lent table state₃ m₂ rooms₂) r
       par-done e before part behind o = par-went o run (run-at is then) (rw is at e)

@@ -16,7 +16,7 @@ use Rattle.table.specs.Spells.{valueIn, capIn}
 use Rattle.state.specs.Kinds.{repeat-kind, repeat-ext-kind}
 use Rattle.state.specs.StateBytes.{head}
 use Rattle.state.proofs.Parts.{own-phase, own-flags}
-use Rattle.steps.specs.Running.{Ready, Live, Any, Kind, Repeating, Times, valuesIn}
+use Rattle.steps.specs.Running.{Rooms, Ready, Live, Any, Kind, Repeating, Times, valuesIn}
 use Rattle.steps.proofs.Children.{falling, own-in, unseen}
 use Rattle.runner.proofs.Repeat.{InRun, in-run-by, times-asks, times-below, times-writes, times-waits, times-ends, next-live, next-flags, times-again}
 use Rattle.runner.proofs.Repeat.{Unbegun, repeat-begins, ext-begins, repeat-ends, repeat-asks, repeat-ran, counts, counts-asks}
@@ -39,12 +39,12 @@ own-put {part = part} o l a b c =
     put-byte (put-byte (put-phase o a (omega arith)) 2 b (omega arith)) 3 c (omega arith)
 
 -- one in a run of its body, k runs being still to begin
-module _ {k : ℕ} {table : List ℕ} {i : ℕ} {state m row before part behind : List ℕ}
-    (o : Stands 4 (Times k) (lent table state m row) i before part behind) where
+module _ {k : ℕ} {table : List ℕ} {i : ℕ} {state m : List ℕ} {rooms : Rooms} {before part behind : List ℕ}
+    (o : Stands 4 (Times k) (lent table state m rooms) i before part behind) where
   the : InRun k (o .live .0)
   the = in-run-by (o .live .0) (o .live .1)
 
-  pub body-stands : Stands 0 Any (lent table state m row) (i + 1) (before ++ take 4 part) (midOf 4 (length part - 4) part)
+  pub body-stands : Stands 0 Any (lent table state m rooms) (i + 1) (before ++ take 4 part) (midOf 4 (length part - 4) part)
       (drop (length part - 4) (drop 4 part) ++ behind)
   body-stands =
       child-stands (o .around) (o .numbers) 4 (length part - 4) (own-in (o .live .2) 3 (lit< tt)) (omega arith)
@@ -59,9 +59,9 @@ module _ {k : ℕ} {table : List ℕ} {i : ℕ} {state m row before part behind 
   flags-in : getD state (4 * i + 1) 0 ≡ own-flags part
   flags-in = byte-at (o .around) 1 (own-in (o .live .2) 1 (lit< tt))
 
-  module _ {state₁ m₁ row₁ : List ℕ} {f : ℕ} (run : HasRun 0 Any (lent table state m row) (i + 1) (lent table state₁ m₁ row₁) f) where
-    pub body-went : Went 0 Any (lent table state m row) (i + 1) (before ++ take 4 part) (midOf 4 (length part - 4) part)
-        (drop (length part - 4) (drop 4 part) ++ behind) (lent table state₁ m₁ row₁) f
+  module _ {state₁ m₁ : List ℕ} {rooms₁ : Rooms} {f : ℕ} (run : HasRun 0 Any (lent table state m rooms) (i + 1) (lent table state₁ m₁ rooms₁) f) where
+    pub body-went : Went 0 Any (lent table state m rooms) (i + 1) (before ++ take 4 part) (midOf 4 (length part - 4) part)
+        (drop (length part - 4) (drop 4 part) ++ behind) (lent table state₁ m₁ rooms₁) f
     body-went = run _ _ _ body-stands
 
     abbrev pub part₁ : List ℕ
@@ -79,7 +79,7 @@ module _ {k : ℕ} {table : List ℕ} {i : ℕ} {state m row before part behind 
     -- it waits, or has ended as the last
     pub times-wait-went : getD state (4 * i + 1) 0 ≡ 0 → f ≢ 2
         → {state₂ : List ℕ} → state₂ ≡ set (set (set state₁ (4 * i) 1) (4 * i + 2) (k / 256)) (4 * i + 3) (k % 256)
-        → Went 4 (Times k) (lent table state m row) i before part behind (lent table state₂ m₁ row₁) f
+        → Went 4 (Times k) (lent table state m rooms) i before part behind (lent table state₂ m₁ rooms₁) f
     times-wait-went z n is =
         record {
           part′ = set (set (set part₁ 0 1) 2 (k / 256)) 3 (k % 256);
@@ -92,7 +92,7 @@ module _ {k : ℕ} {table : List ℕ} {i : ℕ} {state m row before part behind 
 
     pub times-end-went : getD state (4 * i + 1) 0 ≡ 0 → f ≡ 2 → k ≡ 0
         → {state₂ : List ℕ} → state₂ ≡ set (set (set state₁ (4 * i) 0) (4 * i + 2) 0) (4 * i + 3) 0
-        → Went 4 (Times k) (lent table state m row) i before part behind (lent table state₂ m₁ row₁) 2
+        → Went 4 (Times k) (lent table state m rooms) i before part behind (lent table state₂ m₁ rooms₁) 2
     times-end-went z e l is =
         record {
           part′ = set (set (set part₁ 0 0) 2 0) 3 0;
@@ -104,7 +104,7 @@ module _ {k : ℕ} {table : List ℕ} {i : ℕ} {state m row before part behind 
 
     -- it has ended, and the next begins
     module _ (e : f ≡ 2) (l : k ≢ 0) where
-      pub next-stands : Stands 4 (Times (k - 1)) (lent table state₁ m₁ row₁) i before part₁ behind
+      pub next-stands : Stands 4 (Times (k - 1)) (lent table state₁ m₁ rooms₁) i before part₁ behind
       next-stands =
           record {
             around = around₁;
@@ -115,39 +115,39 @@ module _ {k : ℕ} {table : List ℕ} {i : ℕ} {state m row before part behind 
       pub next-no-flags : getD state (4 * i + 1) 0 ≡ 0 → getD state₁ (4 * i + 1) 0 ≡ 0
       next-no-flags z = byte-at around₁ 1 (omega (arith, own-long)) ∙ next-flags (body-went .runs) the (o .live .2) (sym flags-in ∙ z)
 
-      pub next-went : {L′ : Lent} {r : ℕ} → HasRun 4 (Times (k - 1)) (lent table state₁ m₁ row₁) i L′ r
-          → Went 4 (Times k) (lent table state m row) i before part behind L′ r
+      pub next-went : {L′ : Lent} {r : ℕ} → HasRun 4 (Times (k - 1)) (lent table state₁ m₁ rooms₁) i L′ r
+          → Went 4 (Times k) (lent table state m rooms) i before part behind L′ r
       next-went then =
           let g = then before part₁ behind next-stands in
           went-as (body-went .kept) g (λ t w h. times-again (body-went .runs) (in-run-by t w) h (is-term e) l (g .runs))
 
 -- in the words of the needs
-module _ {k : ℕ} {table : List ℕ} {i : ℕ} {state m row : List ℕ} where
-  pub times-body : CanRun 4 (Times k) (lent table state m row) i
-      → (sizeAt table (i + 1) < sizeAt table i) × CanRun 0 Any (lent table state m row) (i + 1)
+module _ {k : ℕ} {table : List ℕ} {i : ℕ} {state m : List ℕ} {rooms : Rooms} where
+  pub times-body : CanRun 4 (Times k) (lent table state m rooms) i
+      → (sizeAt table (i + 1) < sizeAt table i) × CanRun 0 Any (lent table state m rooms) (i + 1)
   times-body (before, part, behind, o) = (body-smaller o, (_, _, _, body-stands o))
 
-  module _ {state₁ m₁ row₁ : List ℕ} {f : ℕ} (run : HasRun 0 Any (lent table state m row) (i + 1) (lent table state₁ m₁ row₁) f) where
-    pub times-own : CanRun 4 (Times k) (lent table state m row) i → (4 * i + 3 < length state₁) × (k < 65536)
+  module _ {state₁ m₁ : List ℕ} {rooms₁ : Rooms} {f : ℕ} (run : HasRun 0 Any (lent table state m rooms) (i + 1) (lent table state₁ m₁ rooms₁) f) where
+    pub times-own : CanRun 4 (Times k) (lent table state m rooms) i → (4 * i + 3 < length state₁) × (k < 65536)
     times-own (before, part, behind, o) = (own-there o run, left-below o)
 
     pub times-wait : getD state (4 * i + 1) 0 ≡ 0 → f ≢ 2
         → {state₂ : List ℕ} → state₂ ≡ set (set (set state₁ (4 * i) 1) (4 * i + 2) (k / 256)) (4 * i + 3) (k % 256)
-        → HasRun 4 (Times k) (lent table state m row) i (lent table state₂ m₁ row₁) f
+        → HasRun 4 (Times k) (lent table state m rooms) i (lent table state₂ m₁ rooms₁) f
     times-wait z n is before part behind o = times-wait-went o run z n is
 
     pub times-end : getD state (4 * i + 1) 0 ≡ 0 → f ≡ 2 → k ≡ 0
         → {state₂ : List ℕ} → state₂ ≡ set (set (set state₁ (4 * i) 0) (4 * i + 2) 0) (4 * i + 3) 0
-        → HasRun 4 (Times k) (lent table state m row) i (lent table state₂ m₁ row₁) 2
+        → HasRun 4 (Times k) (lent table state m rooms) i (lent table state₂ m₁ rooms₁) 2
     times-end z e l is before part behind o = times-end-went o run z e l is
 
     module _ (e : f ≡ 2) (l : k ≢ 0) where
-      pub times-next : CanRun 4 (Times k) (lent table state m row) i → getD state (4 * i + 1) 0 ≡ 0
-          → CanRun 4 (Times (k - 1)) (lent table state₁ m₁ row₁) i × (getD state₁ (4 * i + 1) 0 ≡ 0)
+      pub times-next : CanRun 4 (Times k) (lent table state m rooms) i → getD state (4 * i + 1) 0 ≡ 0
+          → CanRun 4 (Times (k - 1)) (lent table state₁ m₁ rooms₁) i × (getD state₁ (4 * i + 1) 0 ≡ 0)
       times-next (before, part, behind, o) z = ((_, _, _, next-stands o run e l), next-no-flags o run e l z)
 
-      pub times-then : {L′ : Lent} {r : ℕ} → HasRun 4 (Times (k - 1)) (lent table state₁ m₁ row₁) i L′ r
-          → HasRun 4 (Times k) (lent table state m row) i L′ r
+      pub times-then : {L′ : Lent} {r : ℕ} → HasRun 4 (Times (k - 1)) (lent table state₁ m₁ rooms₁) i L′ r
+          → HasRun 4 (Times k) (lent table state m rooms) i L′ r
       times-then then before part behind o = next-went o run e l then
 
 -- before a turn of the loop: the repetition with `left` runs still to begin can be run, and what that does now is what it does from the entry on
@@ -159,9 +159,9 @@ pub record Turn (L₀ : Lent) (i k : ℕ) (L : Lent) (left : ℕ) : Type 0 where
 pub first-turn : {i k : ℕ} {L : Lent} → CanRun 4 (Times k) L i → getD (L .state) (4 * i + 1) 0 ≡ 0 → Turn L i k L k
 first-turn o z = record { can = o; no-flags-yet = z; goes-on = λ run. run }
 
-pub next-turn : {i k : ℕ} {L₀ : Lent} {table state m row : List ℕ} {left : ℕ} → Turn L₀ i k (lent table state m row) left
-    → {state₁ m₁ row₁ : List ℕ} {f : ℕ} → HasRun 0 Any (lent table state m row) (i + 1) (lent table state₁ m₁ row₁) f → f ≡ 2 → left ≢ 0
-    → Turn L₀ i k (lent table state₁ m₁ row₁) (left - 1)
+pub next-turn : {i k : ℕ} {L₀ : Lent} {table state m : List ℕ} {rooms : Rooms} {left : ℕ} → Turn L₀ i k (lent table state m rooms) left
+    → {state₁ m₁ : List ℕ} {rooms₁ : Rooms} {f : ℕ} → HasRun 0 Any (lent table state m rooms) (i + 1) (lent table state₁ m₁ rooms₁) f → f ≡ 2 → left ≢ 0
+    → Turn L₀ i k (lent table state₁ m₁ rooms₁) (left - 1)
 next-turn u run e l =
     let (o, z) = times-next run e l (u .can) (u .no-flags-yet) in
     record { can = o; no-flags-yet = z; goes-on = λ then. u .goes-on (times-then run e l then) }
@@ -178,7 +178,7 @@ abbrev pub timesAsked : List ℕ → ℕ → List ℕ → ℕ
 timesAsked table i tally = min (capIn (argumentAt table i)) (valuesIn tally (valueIn (argumentAt table i)))
 
 module _ {table : List ℕ} {i : ℕ} {state : List ℕ} (on : getD state (4 * i) 0 ≢ 3) {before part behind : List ℕ} (a : Around state i before part behind)
-    {words row tally : List ℕ} {t : Term} (h : Ready 0 table i part words row tally t) where
+    {words : List ℕ} {rooms : Rooms} {tally : List ℕ} {t : Term} (h : Ready 0 table i part words rooms tally t) where
   no-3 : head t .phase ≢ 3
   no-3 e = on (phase-is a h ∙ e)
 
@@ -208,18 +208,18 @@ of-one : {r : ℕ} → Repeating r → (t : Term) → OfKind r t → Repeating (
 of-one is-one t w = subst Repeating (sym w) is-one
 
 -- the repetition, of kind r, that the code finds, by its phase: not begun, when it runs `times` times, or begun
-module _ {r : ℕ} (is-one : Repeating r) {table : List ℕ} {i : ℕ} {state : List ℕ} (on : getD state (4 * i) 0 ≢ 3) {m row : List ℕ} {times : ℕ}
-    (begins : (part : List ℕ) (t : Term) → Kind r t → Ready 0 table i part (wordsOf m) row (tallyOf m) t → own-phase part ≡ 0
+module _ {r : ℕ} (is-one : Repeating r) {table : List ℕ} {i : ℕ} {state : List ℕ} (on : getD state (4 * i) 0 ≢ 3) {m : List ℕ} {rooms : Rooms} {times : ℕ}
+    (begins : (part : List ℕ) (t : Term) → Kind r t → Ready 0 table i part (wordsOf m) rooms (tallyOf m) t → own-phase part ≡ 0
     → Unbegun (valuesIn (tallyOf m)) times t) where
-  module _ {before part behind : List ℕ} (o : Stands 0 (OfKind r) (lent table state m row) i before part behind) {turns : ℕ}
+  module _ {before part behind : List ℕ} (o : Stands 0 (OfKind r) (lent table state m rooms) i before part behind) {turns : ℕ}
       (is : turns ≡ turnsBy times i state) where
-    unbegun-here : {t : Term} → OfKind r t → Ready 0 table i part (wordsOf m) row (tallyOf m) t → getD state (4 * i) 0 ≡ 0
+    unbegun-here : {t : Term} → OfKind r t → Ready 0 table i part (wordsOf m) rooms (tallyOf m) t → getD state (4 * i) 0 ≡ 0
         → Unbegun (valuesIn (tallyOf m)) turns t
     unbegun-here {t} w h ph =
         subst (λ n. Unbegun (valuesIn (tallyOf m)) n t) (sym (is ∙ fresh-turns on (o .around) h times ph))
         (begins part t (w, no-3 on (o .around) h) h (sym (phase-there on (o .around) h) ∙ ph))
 
-    none-went : turns ≡ 0 → Went 0 (OfKind r) (lent table state m row) i before part behind (lent table state m row) 2
+    none-went : turns ≡ 0 → Went 0 (OfKind r) (lent table state m rooms) i before part behind (lent table state m rooms) 2
     none-went z =
         record {
           part′ = part;
@@ -233,7 +233,7 @@ module _ {r : ℕ} (is-one : Repeating r) {table : List ℕ} {i : ℕ} {state : 
         }
 
     module _ (some : turns ≢ 0) where
-      in-turn : Live 4 (Times (turns - 1)) table i part (wordsOf m) row (tallyOf m) × (own-flags part ≡ 0)
+      in-turn : Live 4 (Times (turns - 1)) table i part (wordsOf m) rooms (tallyOf m) × (own-flags part ≡ 0)
       in-turn =
           let (t, w, h) = o .live in
           by-zero (getD state (4 * i) 0)
@@ -242,14 +242,14 @@ module _ {r : ℕ} (is-one : Repeating r) {table : List ℕ} {i : ℕ} {state : 
           counts-asks (of-one is-one t w, no-3 on (o .around) h) h (λ e. ph (phase-there on (o .around) h ∙ e))
           (less-one (is ∙ begun-turns on (o .around) h times ph)) refl .1)
 
-      turn-stands : Stands 4 (Times (turns - 1)) (lent table state m row) i before part behind
+      turn-stands : Stands 4 (Times (turns - 1)) (lent table state m rooms) i before part behind
       turn-stands = record { around = o .around; numbers = o .numbers; live = in-turn .0 }
 
       turn-no-flags : getD state (4 * i + 1) 0 ≡ 0
       turn-no-flags = let (t, w, h) = o .live in byte-there on (o .around) h 1 (lit< tt) ∙ in-turn .1
 
-      turn-went : {L′ : Lent} {f : ℕ} → HasRun 4 (Times (turns - 1)) (lent table state m row) i L′ f
-          → Went 0 (OfKind r) (lent table state m row) i before part behind L′ f
+      turn-went : {L′ : Lent} {f : ℕ} → HasRun 4 (Times (turns - 1)) (lent table state m rooms) i L′ f
+          → Went 0 (OfKind r) (lent table state m rooms) i before part behind L′ f
       turn-went run =
           let g = run before part behind turn-stands in
           record {
@@ -286,40 +286,36 @@ turns-asked table i state m argument times e =
     turns-by i state (times ∙ ap (λ a. min (capIn a) (valuesIn (tallyOf m) (valueIn a))) argument) e
 
 -- in the words of the needs: a Repeat, a RepeatExt
-module _ {table : List ℕ} {i : ℕ} {state m row : List ℕ} (on : getD state (4 * i) 0 ≢ 3) {turns : ℕ} where
+module _ {table : List ℕ} {i : ℕ} {state m : List ℕ} {rooms : Rooms} (on : getD state (4 * i) 0 ≢ 3) {turns : ℕ} where
   module _ (is : turns ≡ turnsAt table i state) where
-    pub repeat-none : turns ≡ 0 → HasRun 0 (OfKind repeat-kind) (lent table state m row) i (lent table state m row) 2
+    pub repeat-none : turns ≡ 0 → HasRun 0 (OfKind repeat-kind) (lent table state m rooms) i (lent table state m rooms) 2
     repeat-none z before part behind o = none-went (inl refl) on (λ p t w h z. repeat-begins w h z) o is z
 
     module _ (some : turns ≢ 0) where
-      pub repeat-turn : CanRun 0 (OfKind repeat-kind) (lent table state m row) i
-          → CanRun 4 (Times (turns - 1)) (lent table state m row) i × (getD state (4 * i + 1) 0 ≡ 0)
-      repeat-turn (before, part, behind, o) = (
-        (before, part, behind, turn-stands (inl refl) on (λ p t w h z. repeat-begins w h z) o is some),
-        turn-no-flags (inl refl) on (λ p t w h z. repeat-begins w h z) o is some,
-      )
+      pub repeat-turn : CanRun 0 (OfKind repeat-kind) (lent table state m rooms) i
+          → CanRun 4 (Times (turns - 1)) (lent table state m rooms) i × (getD state (4 * i + 1) 0 ≡ 0)
+      repeat-turn (before, part, behind, o) =
+          ((before, part, behind, turn-stands (inl refl) on (λ p t w h z. repeat-begins w h z) o is some), turn-no-flags (inl refl) on (λ p t w h z. repeat-begins w h z) o is some)
 
-      pub repeat-by : {L′ : Lent} {r : ℕ} → HasRun 4 (Times (turns - 1)) (lent table state m row) i L′ r
-          → HasRun 0 (OfKind repeat-kind) (lent table state m row) i L′ r
+      pub repeat-by : {L′ : Lent} {r : ℕ} → HasRun 4 (Times (turns - 1)) (lent table state m rooms) i L′ r
+          → HasRun 0 (OfKind repeat-kind) (lent table state m rooms) i L′ r
       repeat-by run before part behind o = turn-went (inl refl) on (λ p t w h z. repeat-begins w h z) o is some run
 
   module _ (is : turns ≡ turnsBy (timesAsked table i (tallyOf m)) i state) where
-    pub ext-none : turns ≡ 0 → HasRun 0 (OfKind repeat-ext-kind) (lent table state m row) i (lent table state m row) 2
+    pub ext-none : turns ≡ 0 → HasRun 0 (OfKind repeat-ext-kind) (lent table state m rooms) i (lent table state m rooms) 2
     ext-none z before part behind o = none-went (inr refl) on (λ p t w h z. ext-begins w h z) o is z
 
     module _ (some : turns ≢ 0) where
-      pub ext-turn : CanRun 0 (OfKind repeat-ext-kind) (lent table state m row) i
-          → CanRun 4 (Times (turns - 1)) (lent table state m row) i × (getD state (4 * i + 1) 0 ≡ 0)
-      ext-turn (before, part, behind, o) = (
-        (before, part, behind, turn-stands (inr refl) on (λ p t w h z. ext-begins w h z) o is some),
-        turn-no-flags (inr refl) on (λ p t w h z. ext-begins w h z) o is some,
-      )
+      pub ext-turn : CanRun 0 (OfKind repeat-ext-kind) (lent table state m rooms) i
+          → CanRun 4 (Times (turns - 1)) (lent table state m rooms) i × (getD state (4 * i + 1) 0 ≡ 0)
+      ext-turn (before, part, behind, o) =
+          ((before, part, behind, turn-stands (inr refl) on (λ p t w h z. ext-begins w h z) o is some), turn-no-flags (inr refl) on (λ p t w h z. ext-begins w h z) o is some)
 
-      pub ext-by : {L′ : Lent} {r : ℕ} → HasRun 4 (Times (turns - 1)) (lent table state m row) i L′ r
-          → HasRun 0 (OfKind repeat-ext-kind) (lent table state m row) i L′ r
+      pub ext-by : {L′ : Lent} {r : ℕ} → HasRun 4 (Times (turns - 1)) (lent table state m rooms) i L′ r
+          → HasRun 0 (OfKind repeat-ext-kind) (lent table state m rooms) i L′ r
       ext-by run before part behind o = turn-went (inr refl) on (λ p t w h z. ext-begins w h z) o is some run
 
 -- the row of numbers of what can run
-pub numbers-long : {W : Term → Type 0} {table : List ℕ} {i : ℕ} {state m row : List ℕ} → CanRun 0 W (lent table state m row) i
+pub numbers-long : {W : Term → Type 0} {table : List ℕ} {i : ℕ} {state m : List ℕ} {rooms : Rooms} → CanRun 0 W (lent table state m rooms) i
     → length m ≡ places-of-row
 numbers-long (before, part, behind, o) = o .numbers .long

@@ -6,7 +6,6 @@ use mathlib.Core.List.{List, _++_}
 use native.Mathlib.Omega.{arith}
 use lib.Dec.{lit<}
 use lib.ListN.{length, getD, take, drop, set, replicate}
-use lib.Seq.{take-at, drop-at}
 use borrow.Rule.Slice.PartMut.{putMid, mid-len}
 use Rattle.junior.specs.declared.Verdict.{Verdict}
 use Rattle.junior.specs.declared.Verdict.the-variants.{Sat, Unsat, Unknown}
@@ -14,14 +13,14 @@ use Rattle.junior.specs.Term.{Term}
 use Rattle.table.specs.Records.{sizeAt, secondAt}
 use Rattle.state.specs.Kinds.{until-kind}
 use Rattle.state.proofs.Parts.{first-of, with-first}
-use Rattle.steps.specs.Running.{Ready, Any, TestRead}
+use Rattle.steps.specs.Running.{Rooms, Ready, Any, TestRead}
 use Rattle.steps.proofs.Children.{own-in}
 use Rattle.steps.proofs.Tally.{not-ended, is-ended}
 use Rattle.steps.specs.Numbers.{ended-at, wordsOf, tallyOf}
 use Rattle.steps.specs.Kinds.{OfKind, Starred, InSecond}
 use Rattle.steps.specs.Tests.{CanTest}
 use Rattle.steps.specs.Lent.{Lent, lent, Around, Stands, Went, CanRun, HasRun}
-use Rattle.steps.proofs.Context.{inner, outer, phase-at, phase-in, put-phase, byte-in}
+use Rattle.steps.proofs.Context.{inner, outer, phase-at, phase-in, put-phase, byte-in, put-part}
 use Rattle.steps.proofs.Row.{kept-same, still}
 use Rattle.steps.proofs.FlagNumbers.{is-stop, not-stop}
 use Rattle.steps.proofs.Dispatch.{phase-is}
@@ -36,19 +35,19 @@ use Rattle.runner.proofs.GoesOn.{went-as, to-phase, by-phase}
 module _ {table : List ℕ} {i : ℕ} {state : List ℕ} (on : getD state (4 * i) 0 ≢ 3) (no-star : getD state (4 * i) 0 ≢ 1)
     (no-handler : getD state (4 * i) 0 ≢ 2) where
   in-body : {before part behind : List ℕ} → Around state i before part behind → {t : Term} → OfKind until-kind t
-      → {words row tally : List ℕ} → Ready 0 table i part words row tally t → Until0 t
+      → {words : List ℕ} {rooms : Rooms} {tally : List ℕ} → Ready 0 table i part words rooms tally t → Until0 t
   in-body a w h =
       let at = phase-at a (own-in h 0 (lit< tt)) in
       until0-by (w, λ e. on (phase-is a h ∙ e)) h (λ e. no-star (at ∙ e)) (λ e. no-handler (at ∙ e))
 
-  module _ {m row before part behind : List ℕ} (o : Stands 0 (OfKind until-kind) (lent table state m row) i before part behind) where
+  module _ {m : List ℕ} {rooms : Rooms} {before part behind : List ℕ} (o : Stands 0 (OfKind until-kind) (lent table state m rooms) i before part behind) where
     abbrev n : ℕ
     n = sizeAt table (i + 1)
 
     the : Until0 (o .live .0)
     the = in-body (o .around) (o .live .1) (o .live .2)
 
-    body-stands : Stands 0 Any (lent table state m row) (i + 1) (before ++ take 4 part) (first-of part n)
+    body-stands : Stands 0 Any (lent table state m rooms) (i + 1) (before ++ take 4 part) (first-of part n)
         (drop (4 + 4 * n - 4) (drop 4 part) ++ behind)
     body-stands =
         child-stands (o .around) (o .numbers) 4 (4 + 4 * n - 4) (own-in (o .live .2) 3 (lit< tt)) (omega arith)
@@ -57,9 +56,9 @@ module _ {table : List ℕ} {i : ℕ} {state : List ℕ} (on : getD state (4 * i
     body-smaller : sizeAt table (i + 1) < sizeAt table i
     body-smaller = smaller-by table i (i + 1) (body-asks refl the (o .live .2) 1 refl .0)
 
-    module _ {state₁ m₁ row₁ : List ℕ} {f : ℕ} (run : HasRun 0 Any (lent table state m row) (i + 1) (lent table state₁ m₁ row₁) f) where
-      body-went : Went 0 Any (lent table state m row) (i + 1) (before ++ take 4 part) (first-of part n)
-          (drop (4 + 4 * n - 4) (drop 4 part) ++ behind) (lent table state₁ m₁ row₁) f
+    module _ {state₁ m₁ : List ℕ} {rooms₁ : Rooms} {f : ℕ} (run : HasRun 0 Any (lent table state m rooms) (i + 1) (lent table state₁ m₁ rooms₁) f) where
+      body-went : Went 0 Any (lent table state m rooms) (i + 1) (before ++ take 4 part) (first-of part n)
+          (drop (4 + 4 * n - 4) (drop 4 part) ++ behind) (lent table state₁ m₁ rooms₁) f
       body-went = run _ _ _ body-stands
 
       abbrev part₁ : List ℕ
@@ -68,7 +67,7 @@ module _ {table : List ℕ} {i : ℕ} {state : List ℕ} (on : getD state (4 * i
       around₁ : Around state₁ i before part₁ behind
       around₁ = outer (o .around) 4 (4 + 4 * n - 4) (body-went .around)
 
-      until-went : f ≢ 1 → Went 0 (OfKind until-kind) (lent table state m row) i before part behind (lent table state₁ m₁ row₁) f
+      until-went : f ≢ 1 → Went 0 (OfKind until-kind) (lent table state m rooms) i before part behind (lent table state₁ m₁ rooms₁) f
       until-went a =
           record {
             part′ = part₁;
@@ -79,7 +78,7 @@ module _ {table : List ℕ} {i : ℕ} {state : List ℕ} (on : getD state (4 * i
           }
 
       module _ (stopped : f ≡ 1) where
-        now-star : Stands 1 Starred (lent table state₁ m₁ row₁) i before part₁ behind
+        now-star : Stands 1 Starred (lent table state₁ m₁ rooms₁) i before part₁ behind
         now-star =
             record {
               around = around₁;
@@ -87,49 +86,38 @@ module _ {table : List ℕ} {i : ℕ} {state : List ℕ} (on : getD state (4 * i
               live = star-asks refl (body-went .runs) the (o .live .2) (is-stop stopped);
             }
 
-        star-went : {L′ : Lent} {r : ℕ} → HasRun 1 Starred (lent table state₁ m₁ row₁) i L′ r
-            → Went 0 (OfKind until-kind) (lent table state m row) i before part behind L′ r
+        star-went : {L′ : Lent} {r : ℕ} → HasRun 1 Starred (lent table state₁ m₁ rooms₁) i L′ r
+            → Went 0 (OfKind until-kind) (lent table state m rooms) i before part behind L′ r
         star-went then =
             let g = then before part₁ behind now-star in
             went-as (body-went .kept) g
             (λ t w h. until-stops refl (body-went .runs) (in-body (o .around) w h) h (is-stop stopped) (g .runs))
 
   -- in the words of the needs
-  module _ {m row : List ℕ} where
-    pub until-first : CanRun 0 (OfKind until-kind) (lent table state m row) i
-        → (sizeAt table (i + 1) < sizeAt table i) × CanRun 0 Any (lent table state m row) (i + 1)
+  module _ {m : List ℕ} {rooms : Rooms} where
+    pub until-first : CanRun 0 (OfKind until-kind) (lent table state m rooms) i
+        → (sizeAt table (i + 1) < sizeAt table i) × CanRun 0 Any (lent table state m rooms) (i + 1)
     until-first (before, part, behind, o) = (body-smaller o, (_, _, _, body-stands o))
 
-    module _ {state₁ m₁ row₁ : List ℕ} {f : ℕ} (run : HasRun 0 Any (lent table state m row) (i + 1) (lent table state₁ m₁ row₁) f) where
-      pub until-stays : f ≢ 1 → HasRun 0 (OfKind until-kind) (lent table state m row) i (lent table state₁ m₁ row₁) f
+    module _ {state₁ m₁ : List ℕ} {rooms₁ : Rooms} {f : ℕ} (run : HasRun 0 Any (lent table state m rooms) (i + 1) (lent table state₁ m₁ rooms₁) f) where
+      pub until-stays : f ≢ 1 → HasRun 0 (OfKind until-kind) (lent table state m rooms) i (lent table state₁ m₁ rooms₁) f
       until-stays a before part behind o = until-went o run a
 
-      pub until-starred : f ≡ 1 → CanRun 0 (OfKind until-kind) (lent table state m row) i → CanRun 1 Starred (lent table state₁ m₁ row₁) i
+      pub until-starred : f ≡ 1 → CanRun 0 (OfKind until-kind) (lent table state m rooms) i → CanRun 1 Starred (lent table state₁ m₁ rooms₁) i
       until-starred e (before, part, behind, o) = (_, _, _, now-star o run e)
 
-      pub until-goes-on : f ≡ 1 → {L′ : Lent} {r : ℕ} → HasRun 1 Starred (lent table state₁ m₁ row₁) i L′ r
-          → HasRun 0 (OfKind until-kind) (lent table state m row) i L′ r
+      pub until-goes-on : f ≡ 1 → {L′ : Lent} {r : ℕ} → HasRun 1 Starred (lent table state₁ m₁ rooms₁) i L′ r
+          → HasRun 0 (OfKind until-kind) (lent table state m rooms) i L′ r
       until-goes-on e then before part behind o = star-went o run e then
 
 -- one that is Until* already
-module _ {table : List ℕ} {i : ℕ} {state m row : List ℕ} (starred : getD state (4 * i) 0 ≡ 1) where
-  pub to-star : CanRun 0 (OfKind until-kind) (lent table state m row) i → CanRun 1 Starred (lent table state m row) i
+module _ {table : List ℕ} {i : ℕ} {state m : List ℕ} {rooms : Rooms} (starred : getD state (4 * i) 0 ≡ 1) where
+  pub to-star : CanRun 0 (OfKind until-kind) (lent table state m rooms) i → CanRun 1 Starred (lent table state m rooms) i
   to-star o = to-phase (λ t k p. (k, p)) starred o
 
-  pub by-star : {L′ : Lent} {r : ℕ} → HasRun 1 Starred (lent table state m row) i L′ r
-      → HasRun 0 (OfKind until-kind) (lent table state m row) i L′ r
+  pub by-star : {L′ : Lent} {r : ℕ} → HasRun 1 Starred (lent table state m rooms) i L′ r
+      → HasRun 0 (OfKind until-kind) (lent table state m rooms) i L′ r
   by-star run = by-phase (λ t k p. (k, p)) starred run
-
--- a node's bytes written anew
-put-part : {state : List ℕ} {i : ℕ} {before part behind : List ℕ} → Around state i before part behind → (s : List ℕ)
-    → Around (putMid (4 * i) (length part) state s) i before s behind
-put-part {i = i} {before} {part} {behind} o s =
-    let at = o .starts in
-    record {
-      split =
-          rw (o .split, take-at before (part ++ behind) (4 * i) at, drop-at before (part ++ behind) (4 * i) at, drop-at part behind (length part) refl);
-      starts = at;
-    }
 
 -- the whole state with the body of an Until at node i cleared
 abbrev pub Cleared : List ℕ → ℕ → List ℕ → List ℕ → Type 0
@@ -137,8 +125,8 @@ Cleared table i state state₁ =
     let long = 4 * sizeAt table (i + 1) in state₁ ≡ putMid (4 * (i + 1)) long state (replicate long 0)
 
 -- Until*
-module _ {table : List ℕ} {i : ℕ} {state m row before part behind : List ℕ}
-    (o : Stands 1 Starred (lent table state m row) i before part behind) where
+module _ {table : List ℕ} {i : ℕ} {state m : List ℕ} {rooms : Rooms} {before part behind : List ℕ}
+    (o : Stands 1 Starred (lent table state m rooms) i before part behind) where
   abbrev size : ℕ
   size = sizeAt table (i + 1)
 
@@ -174,7 +162,7 @@ module _ {table : List ℕ} {i : ℕ} {state m row before part behind : List ℕ
         rw clear (outer (o .around) 4 (4 + 4 * size - 4) (rw body-long at (put-part body zeros)))
 
     module _ {v : Verdict} (reads : TestRead table i (wordsOf m) (tallyOf m) v) where
-      handler-stands : Stands 1 InSecond (lent table state₁ m row) i before cleared behind
+      handler-stands : Stands 1 InSecond (lent table state₁ m rooms) i before cleared behind
       handler-stands =
           record { around = around-cleared; numbers = o .numbers; live = handler-live reads refl zeros-are the-star (o .live .2) }
 
@@ -182,14 +170,14 @@ module _ {table : List ℕ} {i : ℕ} {state m row before part behind : List ℕ
       own-cleared = handler-writes reads refl zeros-are the-star (o .live .2)
 
       module _ (is : v ≡ Sat) where
-        handler-went : getD m ended-at 0 ≡ 0 → {L′ : Lent} {r : ℕ} → HasRun 1 InSecond (lent table state₁ m row) i L′ r
-            → Went 1 Starred (lent table state m row) i before part behind L′ r
+        handler-went : getD m ended-at 0 ≡ 0 → {L′ : Lent} {r : ℕ} → HasRun 1 InSecond (lent table state₁ m rooms) i L′ r
+            → Went 1 Starred (lent table state m rooms) i before part behind L′ r
         handler-went z run =
             let g = run before cleared behind handler-stands in
             went-as (kept-same m) g (λ t w h. handler-goes reads refl zeros-are (star-by t w) h is (not-ended z) (g .runs))
 
         next-went : getD m ended-at 0 ≢ 0
-            → Went 1 Starred (lent table state m row) i before part behind (lent table (set state₁ (4 * i) 2) m row) 1
+            → Went 1 Starred (lent table state m rooms) i before part behind (lent table (set state₁ (4 * i) 2) m rooms) 1
         next-went z =
             record {
               part′ = set cleared 0 2;
@@ -200,23 +188,23 @@ module _ {table : List ℕ} {i : ℕ} {state m row before part behind : List ℕ
             }
 
 -- in the words of the needs
-module _ {table : List ℕ} {i : ℕ} {state m row : List ℕ} where
-  pub star-tests : CanRun 1 Starred (lent table state m row) i → CanTest table i m
+module _ {table : List ℕ} {i : ℕ} {state m : List ℕ} {rooms : Rooms} where
+  pub star-tests : CanRun 1 Starred (lent table state m rooms) i → CanTest table i m
   star-tests (before, part, behind, o) =
       let (t, w, h) = o .live in record { has = star-has (star-by t w) h; row = o .numbers }
 
-  pub star-second-in : CanRun 1 Starred (lent table state m row) i → 6 * i + 11 < length table
+  pub star-second-in : CanRun 1 Starred (lent table state m rooms) i → 6 * i + 11 < length table
   star-second-in (before, part, behind, o) = let (t, w, h) = o .live in omega (arith, star-reads (star-by t w) h)
 
   -- the body lies from the next node to the handler
   module _ {second : ℕ} (is : second ≡ secondAt table i) where
-    pub star-few : CanRun 1 Starred (lent table state m row) i → second ≤ 4096
+    pub star-few : CanRun 1 Starred (lent table state m rooms) i → second ≤ 4096
     star-few (before, part, behind, o) = omega (arith, few-ahead o)
 
-    pub star-body : CanRun 1 Starred (lent table state m row) i → (4 * i + 4 ≤ 4 * second) × (4 * second ≤ length state)
+    pub star-body : CanRun 1 Starred (lent table state m rooms) i → (4 * i + 4 ≤ 4 * second) × (4 * second ≤ length state)
     star-body (before, part, behind, o) = (omega arith, omega (arith, body-ends o))
 
-    pub star-cleared : CanRun 1 Starred (lent table state m row) i → {state₁ : List ℕ}
+    pub star-cleared : CanRun 1 Starred (lent table state m rooms) i → {state₁ : List ℕ}
         → state₁ ≡ putMid (4 * i + 4) (4 * second - (4 * i + 4)) state (replicate (4 * second - (4 * i + 4)) 0)
         → Cleared table i state state₁
     star-cleared o e =
@@ -225,7 +213,7 @@ module _ {table : List ℕ} {i : ℕ} {state m row : List ℕ} where
         rw (from, long) at e
 
   module _ {v : Verdict} (reads : TestRead table i (wordsOf m) (tallyOf m) v) where
-    pub star-suspends : v ≡ Unknown → HasRun 1 Starred (lent table state m row) i (lent table (set state (4 * i) 1) m row) 0
+    pub star-suspends : v ≡ Unknown → HasRun 1 Starred (lent table state m rooms) i (lent table (set state (4 * i) 1) m rooms) 0
     star-suspends is before part behind o =
         record {
           part′ = set part 0 1;
@@ -235,7 +223,7 @@ module _ {table : List ℕ} {i : ℕ} {state m row : List ℕ} where
           runs = λ t w h. star-waits reads (star-by t w) h is;
         }
 
-    pub star-refused : v ≡ Unsat → HasRun 1 Starred (lent table state m row) i (lent table (set state (4 * i) 0) m row) 1
+    pub star-refused : v ≡ Unsat → HasRun 1 Starred (lent table state m rooms) i (lent table (set state (4 * i) 0) m rooms) 1
     star-refused is before part behind o =
         record {
           part′ = set part 0 0;
@@ -247,17 +235,17 @@ module _ {table : List ℕ} {i : ℕ} {state m row : List ℕ} where
 
     -- the handler begins, or waits for the next instant
     module _ {state₁ : List ℕ} (clear : Cleared table i state state₁) where
-      pub now-handler : CanRun 1 Starred (lent table state m row) i → CanRun 1 InSecond (lent table state₁ m row) i
+      pub now-handler : CanRun 1 Starred (lent table state m rooms) i → CanRun 1 InSecond (lent table state₁ m rooms) i
       now-handler (before, part, behind, o) = (_, _, _, handler-stands o clear reads)
 
-      pub handler-writes-in : CanRun 1 Starred (lent table state m row) i → 4 * i < length state₁
+      pub handler-writes-in : CanRun 1 Starred (lent table state m rooms) i → 4 * i < length state₁
       handler-writes-in (before, part, behind, o) = phase-in (around-cleared o clear) (own-cleared o clear reads)
 
       module _ (is : v ≡ Sat) where
-        pub handler-begins : getD m ended-at 0 ≡ 0 → {L′ : Lent} {r : ℕ} → HasRun 1 InSecond (lent table state₁ m row) i L′ r
-            → HasRun 1 Starred (lent table state m row) i L′ r
+        pub handler-begins : getD m ended-at 0 ≡ 0 → {L′ : Lent} {r : ℕ} → HasRun 1 InSecond (lent table state₁ m rooms) i L′ r
+            → HasRun 1 Starred (lent table state m rooms) i L′ r
         handler-begins z run before part behind o = handler-went o clear reads is z run
 
         pub handler-next : getD m ended-at 0 ≢ 0
-            → HasRun 1 Starred (lent table state m row) i (lent table (set state₁ (4 * i) 2) m row) 1
+            → HasRun 1 Starred (lent table state m rooms) i (lent table (set state₁ (4 * i) 2) m rooms) 1
         handler-next z before part behind o = next-went o clear reads is z

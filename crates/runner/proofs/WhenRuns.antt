@@ -12,7 +12,7 @@ use Rattle.junior.specs.Term.{Term}
 use Rattle.table.specs.Records.{sizeAt}
 use Rattle.state.specs.Kinds.{when-kind}
 use Rattle.state.proofs.Parts.{first-of, with-first}
-use Rattle.steps.specs.Running.{Ready, Any, TestRead, phaseAfter}
+use Rattle.steps.specs.Running.{Rooms, Ready, Any, TestRead, phaseAfter}
 use Rattle.steps.proofs.Children.{own-in}
 use Rattle.steps.proofs.Tally.{not-ended, is-ended}
 use Rattle.steps.specs.Numbers.{ended-at, wordsOf, tallyOf}
@@ -30,15 +30,15 @@ use Rattle.runner.proofs.Falling.{smaller-by}
 use Rattle.runner.proofs.GoesOn.{stands-as, went-as, to-phase, by-phase}
 
 -- in its first branch: that runs
-module _ {table : List ℕ} {i : ℕ} {state m row before part behind : List ℕ}
-    (o : Stands 1 InThen (lent table state m row) i before part behind) where
+module _ {table : List ℕ} {i : ℕ} {state m : List ℕ} {rooms : Rooms} {before part behind : List ℕ}
+    (o : Stands 1 InThen (lent table state m rooms) i before part behind) where
   abbrev n : ℕ
   n = sizeAt table (i + 1)
 
   the : Then (o .live .0)
   the = then-by (o .live .0) (o .live .1)
 
-  branch-stands : Stands 0 Any (lent table state m row) (i + 1) (before ++ take 4 part) (first-of part n)
+  branch-stands : Stands 0 Any (lent table state m rooms) (i + 1) (before ++ take 4 part) (first-of part n)
       (drop (4 + 4 * n - 4) (drop 4 part) ++ behind)
   branch-stands =
       child-stands (o .around) (o .numbers) 4 (4 + 4 * n - 4) (own-in (o .live .2) 3 (lit< tt)) (omega arith)
@@ -47,9 +47,9 @@ module _ {table : List ℕ} {i : ℕ} {state m row before part behind : List ℕ
   branch-smaller : sizeAt table (i + 1) < sizeAt table i
   branch-smaller = smaller-by table i (i + 1) (then-asks refl the (o .live .2) 1 refl .0)
 
-  module _ {state′ m′ row′ : List ℕ} {f : ℕ} (run : HasRun 0 Any (lent table state m row) (i + 1) (lent table state′ m′ row′) f) where
-    branch-went : Went 0 Any (lent table state m row) (i + 1) (before ++ take 4 part) (first-of part n)
-        (drop (4 + 4 * n - 4) (drop 4 part) ++ behind) (lent table state′ m′ row′) f
+  module _ {state′ m′ : List ℕ} {rooms′ : Rooms} {f : ℕ} (run : HasRun 0 Any (lent table state m rooms) (i + 1) (lent table state′ m′ rooms′) f) where
+    branch-went : Went 0 Any (lent table state m rooms) (i + 1) (before ++ take 4 part) (first-of part n)
+        (drop (4 + 4 * n - 4) (drop 4 part) ++ behind) (lent table state′ m′ rooms′) f
     branch-went = run _ _ _ branch-stands
 
     abbrev part-back : List ℕ
@@ -62,7 +62,7 @@ module _ {table : List ℕ} {i : ℕ} {state m row before part behind : List ℕ
     own-back = then-writes refl (branch-went .runs) the (o .live .2)
 
     then-went : {ph : ℕ} → ph ≡ phaseAfter (flagOf f) 1
-        → Went 1 InThen (lent table state m row) i before part behind (lent table (set state′ (4 * i) ph) m′ row′) f
+        → Went 1 InThen (lent table state m rooms) i before part behind (lent table (set state′ (4 * i) ph) m′ rooms′) f
     then-went {ph} e =
         record {
           part′ = set part-back 0 ph;
@@ -73,61 +73,61 @@ module _ {table : List ℕ} {i : ℕ} {state m row before part behind : List ℕ
         }
 
 -- in the words of the needs
-module _ {table : List ℕ} {i : ℕ} {state m row : List ℕ} where
-  pub then-first : CanRun 1 InThen (lent table state m row) i
-      → (sizeAt table (i + 1) < sizeAt table i) × CanRun 0 Any (lent table state m row) (i + 1)
+module _ {table : List ℕ} {i : ℕ} {state m : List ℕ} {rooms : Rooms} where
+  pub then-first : CanRun 1 InThen (lent table state m rooms) i
+      → (sizeAt table (i + 1) < sizeAt table i) × CanRun 0 Any (lent table state m rooms) (i + 1)
   then-first (before, part, behind, o) = (branch-smaller o, (_, _, _, branch-stands o))
 
-  module _ {state′ m′ row′ : List ℕ} {f : ℕ} (run : HasRun 0 Any (lent table state m row) (i + 1) (lent table state′ m′ row′) f) where
-    pub then-writes-in : CanRun 1 InThen (lent table state m row) i → 4 * i < length state′
+  module _ {state′ m′ : List ℕ} {rooms′ : Rooms} {f : ℕ} (run : HasRun 0 Any (lent table state m rooms) (i + 1) (lent table state′ m′ rooms′) f) where
+    pub then-writes-in : CanRun 1 InThen (lent table state m rooms) i → 4 * i < length state′
     then-writes-in (before, part, behind, o) = phase-in (around-back o run) (own-back o run)
 
-    pub then-below : CanRun 1 InThen (lent table state m row) i → f < 3
+    pub then-below : CanRun 1 InThen (lent table state m rooms) i → f < 3
     then-below (before, part, behind, o) = branch-went o run .below
 
     pub then-done : {ph : ℕ} → ph ≡ phaseAfter (flagOf f) 1
-        → HasRun 1 InThen (lent table state m row) i (lent table (set state′ (4 * i) ph) m′ row′) f
+        → HasRun 1 InThen (lent table state m rooms) i (lent table (set state′ (4 * i) ph) m′ rooms′) f
     then-done e before part behind o = then-went o run e
 
 -- a When that has gone over into it
-module _ {table : List ℕ} {i : ℕ} {state m row : List ℕ} (gone-over : getD state (4 * i) 0 ≡ 1) where
-  pub to-then : CanRun 0 (OfKind when-kind) (lent table state m row) i → CanRun 1 InThen (lent table state m row) i
+module _ {table : List ℕ} {i : ℕ} {state m : List ℕ} {rooms : Rooms} (gone-over : getD state (4 * i) 0 ≡ 1) where
+  pub to-then : CanRun 0 (OfKind when-kind) (lent table state m rooms) i → CanRun 1 InThen (lent table state m rooms) i
   to-then o = to-phase (λ t k p. (inl k, p)) gone-over o
 
-  pub by-then : {L′ : Lent} {r : ℕ} → HasRun 1 InThen (lent table state m row) i L′ r
-      → HasRun 0 (OfKind when-kind) (lent table state m row) i L′ r
+  pub by-then : {L′ : Lent} {r : ℕ} → HasRun 1 InThen (lent table state m rooms) i L′ r
+      → HasRun 0 (OfKind when-kind) (lent table state m rooms) i L′ r
   by-then run = by-phase (λ t k p. (inl k, p)) gone-over run
 
 -- one that tests
 module _ {table : List ℕ} {i : ℕ} {state : List ℕ} (on : getD state (4 * i) 0 ≢ 3) (no-then : getD state (4 * i) 0 ≢ 1)
     (no-else : getD state (4 * i) 0 ≢ 2) where
   testing : {before part behind : List ℕ} → Around state i before part behind → {t : Term} → OfKind when-kind t
-      → {words row tally : List ℕ} → Ready 0 table i part words row tally t → When0 t
+      → {words : List ℕ} {rooms : Rooms} {tally : List ℕ} → Ready 0 table i part words rooms tally t → When0 t
   testing a w h =
       let at = phase-at a (own-in h 0 (lit< tt)) in
       when0-by (w, λ e. on (phase-is a h ∙ e)) h (λ e. no-then (at ∙ e)) (λ e. no-else (at ∙ e))
 
-  module _ {m row : List ℕ} where
-    then-stands : {before part behind : List ℕ} → Stands 0 (OfKind when-kind) (lent table state m row) i before part behind
-        → Stands 1 InThen (lent table state m row) i before part behind
+  module _ {m : List ℕ} {rooms : Rooms} where
+    then-stands : {before part behind : List ℕ} → Stands 0 (OfKind when-kind) (lent table state m rooms) i before part behind
+        → Stands 1 InThen (lent table state m rooms) i before part behind
     then-stands o = let (t, w, h) = o .live in stands-as o (then-live (testing (o .around) w h) h)
 
-    else-stands : {before part behind : List ℕ} → Stands 0 (OfKind when-kind) (lent table state m row) i before part behind
-        → Stands 1 InSecond (lent table state m row) i before part behind
+    else-stands : {before part behind : List ℕ} → Stands 0 (OfKind when-kind) (lent table state m rooms) i before part behind
+        → Stands 1 InSecond (lent table state m rooms) i before part behind
     else-stands o = let (t, w, h) = o .live in stands-as o (else-live (testing (o .around) w h) h)
 
-    pub when-tests : CanRun 0 (OfKind when-kind) (lent table state m row) i → CanTest table i m
+    pub when-tests : CanRun 0 (OfKind when-kind) (lent table state m rooms) i → CanTest table i m
     when-tests (before, part, behind, o) =
         let (t, w, h) = o .live in record { has = when-has (testing (o .around) w h) h; row = o .numbers }
 
-    pub now-then : CanRun 0 (OfKind when-kind) (lent table state m row) i → CanRun 1 InThen (lent table state m row) i
+    pub now-then : CanRun 0 (OfKind when-kind) (lent table state m rooms) i → CanRun 1 InThen (lent table state m rooms) i
     now-then (before, part, behind, o) = (_, _, _, then-stands o)
 
-    pub now-else : CanRun 0 (OfKind when-kind) (lent table state m row) i → CanRun 1 InSecond (lent table state m row) i
+    pub now-else : CanRun 0 (OfKind when-kind) (lent table state m rooms) i → CanRun 1 InSecond (lent table state m rooms) i
     now-else (before, part, behind, o) = (_, _, _, else-stands o)
 
     module _ {v : Verdict} (reads : TestRead table i (wordsOf m) (tallyOf m) v) where
-      pub when-suspends : v ≡ Unknown → HasRun 0 (OfKind when-kind) (lent table state m row) i (lent table state m row) 0
+      pub when-suspends : v ≡ Unknown → HasRun 0 (OfKind when-kind) (lent table state m rooms) i (lent table state m rooms) 0
       when-suspends is before part behind o =
           record {
             part′ = part;
@@ -139,14 +139,14 @@ module _ {table : List ℕ} {i : ℕ} {state : List ℕ} (on : getD state (4 * i
 
       -- a branch begins, or waits for the next instant
       module _ (is : v ≡ Sat) where
-        pub then-begins : getD m ended-at 0 ≡ 0 → {L′ : Lent} {r : ℕ} → HasRun 1 InThen (lent table state m row) i L′ r
-            → HasRun 0 (OfKind when-kind) (lent table state m row) i L′ r
+        pub then-begins : getD m ended-at 0 ≡ 0 → {L′ : Lent} {r : ℕ} → HasRun 1 InThen (lent table state m rooms) i L′ r
+            → HasRun 0 (OfKind when-kind) (lent table state m rooms) i L′ r
         then-begins z run before part behind o =
             let g = run before part behind (then-stands o) in
             went-as (kept-same m) g (λ t w h. then-goes reads (testing (o .around) w h) h is (not-ended z) (g .runs))
 
         pub then-next : getD m ended-at 0 ≢ 0
-            → HasRun 0 (OfKind when-kind) (lent table state m row) i (lent table (set state (4 * i) 1) m row) 1
+            → HasRun 0 (OfKind when-kind) (lent table state m rooms) i (lent table (set state (4 * i) 1) m rooms) 1
         then-next z before part behind o =
             record {
               part′ = set part 0 1;
@@ -157,14 +157,14 @@ module _ {table : List ℕ} {i : ℕ} {state : List ℕ} (on : getD state (4 * i
             }
 
       module _ (is : v ≡ Unsat) where
-        pub else-begins : getD m ended-at 0 ≡ 0 → {L′ : Lent} {r : ℕ} → HasRun 1 InSecond (lent table state m row) i L′ r
-            → HasRun 0 (OfKind when-kind) (lent table state m row) i L′ r
+        pub else-begins : getD m ended-at 0 ≡ 0 → {L′ : Lent} {r : ℕ} → HasRun 1 InSecond (lent table state m rooms) i L′ r
+            → HasRun 0 (OfKind when-kind) (lent table state m rooms) i L′ r
         else-begins z run before part behind o =
             let g = run before part behind (else-stands o) in
             went-as (kept-same m) g (λ t w h. else-goes reads (testing (o .around) w h) h is (not-ended z) (g .runs))
 
         pub else-next : getD m ended-at 0 ≢ 0
-            → HasRun 0 (OfKind when-kind) (lent table state m row) i (lent table (set state (4 * i) 2) m row) 1
+            → HasRun 0 (OfKind when-kind) (lent table state m rooms) i (lent table (set state (4 * i) 2) m rooms) 1
         else-next z before part behind o =
             record {
               part′ = set part 0 2;

@@ -5,7 +5,8 @@ ghost use mathlib.Core.Path.{_≡_};
 ghost use Prim.Native.Nat.{_+_, _*_};
 ghost use lib.ListN.{getD};
 ghost use Rattle.table.specs.Records.{kindAt};
-ghost use Rattle.state.specs.Kinds.{seq-kind, loop-kind, repeat-kind, when-kind, until-kind, control-kind, local-kind, if-kind, repeat-ext-kind};
+ghost use Rattle.state.specs.Kinds.{seq-kind, loop-kind, repeat-kind, when-kind, until-kind, control-kind, local-kind};
+ghost use Rattle.state.specs.Kinds.{freezable-kind, if-kind, repeat-ext-kind};
 ghost use Rattle.steps.specs.Running.{Any, Times};
 ghost use Rattle.steps.specs.Kinds.{all-seen, phase-unseen, own-unseen, OfKind, BothSuspended, NotBoth};
 ghost use Rattle.steps.specs.Kinds.{Others, InSecond, InThen, Beginning, Starred};
@@ -35,6 +36,7 @@ use steps::numbers::NUMBERS;
 use steps::numbers::exchange_event;
 use steps::numbers::times_asked;
 use steps::numbers::value_of;
+use steps::parking::run_pending;
 use steps::phases::BEGUN;
 use steps::phases::COUNT;
 use steps::phases::FLAGS;
@@ -49,6 +51,7 @@ use steps::phases::clear_part;
 use steps::phases::end_turns;
 use steps::phases::fresh_par;
 use steps::phases::half_par;
+use steps::phases::par_or_seq;
 use steps::phases::turns_of;
 use table::records::argument_at;
 use table::records::kind_at;
@@ -61,19 +64,21 @@ pub fn run_child(
     state: &mut &mut [u8],
     numbers: &mut [u64; NUMBERS],
     atoms: &mut &mut [u16],
+    store: &mut &mut [u8],
 ) -> u8
-    requires { ⌜ CanRun all-seen Any (held table state numbers atoms) i ⌝ }
+    requires { ⌜ CanRun all-seen Any (held table state numbers atoms store) i ⌝ }
     ensures { λ r.
-        ⌜ HasRun all-seen Any (held (table .entry) (state .entry) (numbers .entry) (atoms .entry)) i
-        (held (table .exit) (state .exit) (numbers .exit) (atoms .exit)) r ⌝ }
-    ensures { λ r. ⌜ Named (now (state .entry)) (now (state .exit)) (now (atoms .entry)) (now (atoms .exit)) ⌝ }
+        ⌜ HasRun all-seen Any (held (table .entry) (state .entry) (numbers .entry) (atoms .entry) (store .entry)) i
+        (held (table .exit) (state .exit) (numbers .exit) (atoms .exit) (store .exit)) r ⌝ }
+    ensures { λ r.
+        ⌜ Named (now (state .entry)) (now (state .exit)) (now (atoms .entry)) (now (atoms .exit)) (now (store .entry)) (now (store .exit)) ⌝ }
 {
     let kind = kind_at(*table, i);
     if kind == kinds::PAR {
         if both_suspended(state[4 * i], state[4 * i + FLAGS]) {
-            return run_par(table, i, state, numbers, atoms);
+            return run_par(table, i, state, numbers, atoms, store);
         }
-        return run_half(table, i, state, numbers, atoms);
+        return run_half(table, i, state, numbers, atoms, store);
     }
     if kind == kinds::AWAIT {
         if lone_event(*table, i, state[4 * i], numbers) {
@@ -82,9 +87,9 @@ pub fn run_child(
         return run_await(table, i, state, numbers, atoms);
     }
     if kind == kinds::SEQ {
-        return run_seq(table, i, state, numbers, atoms);
+        return run_seq(table, i, state, numbers, atoms, store);
     }
-    run_other(table, i, state, numbers, atoms)
+    run_other(table, i, state, numbers, atoms, store)
 }
 
 // A node of another kind.
@@ -94,27 +99,30 @@ fn run_other(
     state: &mut &mut [u8],
     numbers: &mut [u64; NUMBERS],
     atoms: &mut &mut [u16],
+    store: &mut &mut [u8],
 ) -> u8
-    requires { ⌜ CanRun all-seen Others (held table state numbers atoms) i ⌝ }
+    requires { ⌜ CanRun all-seen Others (held table state numbers atoms store) i ⌝ }
     ensures { λ r.
-        ⌜ HasRun all-seen Others (held (table .entry) (state .entry) (numbers .entry) (atoms .entry)) i
-        (held (table .exit) (state .exit) (numbers .exit) (atoms .exit)) r ⌝ }
-    ensures { λ r. ⌜ Named (now (state .entry)) (now (state .exit)) (now (atoms .entry)) (now (atoms .exit)) ⌝ }
+        ⌜ HasRun all-seen Others (held (table .entry) (state .entry) (numbers .entry) (atoms .entry) (store .entry)) i
+        (held (table .exit) (state .exit) (numbers .exit) (atoms .exit) (store .exit)) r ⌝ }
+    ensures { λ r.
+        ⌜ Named (now (state .entry)) (now (state .exit)) (now (atoms .entry)) (now (atoms .exit)) (now (store .entry)) (now (store .exit)) ⌝ }
 {
     let kind = kind_at(*table, i);
     match kind {
         kinds::NOTHING => run_nothing(table, i, state, numbers, atoms),
         kinds::STOP => run_stop(table, i, state, numbers, atoms),
         kinds::ATOM => run_atom(table, i, state, numbers, atoms),
-        kinds::LOOP => run_loop(table, i, state, numbers, atoms),
-        kinds::REPEAT => run_repeat(table, i, state, numbers, atoms),
+        kinds::LOOP => run_loop(table, i, state, numbers, atoms, store),
+        kinds::REPEAT => run_repeat(table, i, state, numbers, atoms, store),
         kinds::GENERATE => run_generate(table, i, state, numbers, atoms),
-        kinds::WHEN => run_when(table, i, state, numbers, atoms),
-        kinds::UNTIL => run_until(table, i, state, numbers, atoms),
-        kinds::CONTROL => run_control(table, i, state, numbers, atoms),
-        kinds::IF => run_if(table, i, state, numbers, atoms),
-        kinds::REPEAT_EXT => run_repeat_ext(table, i, state, numbers, atoms),
-        _ => run_local(table, i, state, numbers, atoms),
+        kinds::WHEN => run_when(table, i, state, numbers, atoms, store),
+        kinds::UNTIL => run_until(table, i, state, numbers, atoms, store),
+        kinds::CONTROL => run_control(table, i, state, numbers, atoms, store),
+        kinds::FREEZABLE => run_freezable(table, i, state, numbers, atoms, store),
+        kinds::IF => run_if(table, i, state, numbers, atoms, store),
+        kinds::REPEAT_EXT => run_repeat_ext(table, i, state, numbers, atoms, store),
+        _ => run_local(table, i, state, numbers, atoms, store),
     }
 }
 
@@ -125,24 +133,26 @@ fn run_par(
     state: &mut &mut [u8],
     numbers: &mut [u64; NUMBERS],
     atoms: &mut &mut [u16],
+    store: &mut &mut [u8],
 ) -> u8
-    requires { ⌜ CanRun all-seen BothSuspended (held table state numbers atoms) i ⌝ }
+    requires { ⌜ CanRun all-seen BothSuspended (held table state numbers atoms store) i ⌝ }
     ensures { λ r.
-        ⌜ HasRun all-seen BothSuspended (held (table .entry) (state .entry) (numbers .entry) (atoms .entry)) i
-        (held (table .exit) (state .exit) (numbers .exit) (atoms .exit)) r ⌝ }
-    ensures { λ r. ⌜ Named (now (state .entry)) (now (state .exit)) (now (atoms .entry)) (now (atoms .exit)) ⌝ }
+        ⌜ HasRun all-seen BothSuspended (held (table .entry) (state .entry) (numbers .entry) (atoms .entry) (store .entry)) i
+        (held (table .exit) (state .exit) (numbers .exit) (atoms .exit) (store .exit)) r ⌝ }
+    ensures { λ r.
+        ⌜ Named (now (state .entry)) (now (state .exit)) (now (atoms .entry)) (now (atoms .exit)) (now (store .entry)) (now (store .exit)) ⌝ }
 {
-    let f = run_child(table, i + 1, state, numbers, atoms);
+    let f = run_child(table, i + 1, state, numbers, atoms, store);
     let second = second_at(*table, i);
     if fresh_par(
         kind_at(*table, second),
         state[4 * second],
         state[4 * second + FLAGS],
     ) {
-        let g = run_par(table, second, state, numbers, atoms);
+        let g = run_par(table, second, state, numbers, atoms, store);
         return both_ran(*state, 4 * i, 4 * second, f, g);
     }
-    let g = run_child(table, second, state, numbers, atoms);
+    let g = run_child(table, second, state, numbers, atoms, store);
     both_ran(*state, 4 * i, 4 * second, f, g)
 }
 
@@ -153,12 +163,14 @@ fn run_half(
     state: &mut &mut [u8],
     numbers: &mut [u64; NUMBERS],
     atoms: &mut &mut [u16],
+    store: &mut &mut [u8],
 ) -> u8
-    requires { ⌜ CanRun all-seen NotBoth (held table state numbers atoms) i ⌝ }
+    requires { ⌜ CanRun all-seen NotBoth (held table state numbers atoms store) i ⌝ }
     ensures { λ r.
-        ⌜ HasRun all-seen NotBoth (held (table .entry) (state .entry) (numbers .entry) (atoms .entry)) i
-        (held (table .exit) (state .exit) (numbers .exit) (atoms .exit)) r ⌝ }
-    ensures { λ r. ⌜ Named (now (state .entry)) (now (state .exit)) (now (atoms .entry)) (now (atoms .exit)) ⌝ }
+        ⌜ HasRun all-seen NotBoth (held (table .entry) (state .entry) (numbers .entry) (atoms .entry) (store .entry)) i
+        (held (table .exit) (state .exit) (numbers .exit) (atoms .exit) (store .exit)) r ⌝ }
+    ensures { λ r.
+        ⌜ Named (now (state .entry)) (now (state .exit)) (now (atoms .entry)) (now (atoms .exit)) (now (store .entry)) (now (store .exit)) ⌝ }
 {
     if state[4 * i] == GONE {
         state[4 * i] = 0;
@@ -169,7 +181,7 @@ fn run_half(
     let f = flags % 4;
     if f == SUSP {
         let g = flags / 4;
-        let f = run_child(table, i + 1, state, numbers, atoms);
+        let f = run_child(table, i + 1, state, numbers, atoms, store);
         return first_ran(*state, 4 * i, 4 * second, f, g);
     }
     if half_par(
@@ -177,10 +189,10 @@ fn run_half(
         state[4 * second],
         state[4 * second + FLAGS],
     ) {
-        let g = run_half(table, second, state, numbers, atoms);
+        let g = run_half(table, second, state, numbers, atoms, store);
         return par_end(*state, 4 * i, 4 * second, f, g);
     }
-    let g = run_child(table, second, state, numbers, atoms);
+    let g = run_child(table, second, state, numbers, atoms, store);
     par_end(*state, 4 * i, 4 * second, f, g)
 }
 
@@ -191,12 +203,14 @@ fn run_seq(
     state: &mut &mut [u8],
     numbers: &mut [u64; NUMBERS],
     atoms: &mut &mut [u16],
+    store: &mut &mut [u8],
 ) -> u8
-    requires { ⌜ CanRun all-seen (OfKind seq-kind) (held table state numbers atoms) i ⌝ }
+    requires { ⌜ CanRun all-seen (OfKind seq-kind) (held table state numbers atoms store) i ⌝ }
     ensures { λ r.
-        ⌜ HasRun all-seen (OfKind seq-kind) (held (table .entry) (state .entry) (numbers .entry) (atoms .entry)) i
-        (held (table .exit) (state .exit) (numbers .exit) (atoms .exit)) r ⌝ }
-    ensures { λ r. ⌜ Named (now (state .entry)) (now (state .exit)) (now (atoms .entry)) (now (atoms .exit)) ⌝ }
+        ⌜ HasRun all-seen (OfKind seq-kind) (held (table .entry) (state .entry) (numbers .entry) (atoms .entry) (store .entry)) i
+        (held (table .exit) (state .exit) (numbers .exit) (atoms .exit) (store .exit)) r ⌝ }
+    ensures { λ r.
+        ⌜ Named (now (state .entry)) (now (state .exit)) (now (atoms .entry)) (now (atoms .exit)) (now (store .entry)) (now (store .exit)) ⌝ }
 {
     let phase = state[4 * i];
     if phase == GONE {
@@ -204,19 +218,19 @@ fn run_seq(
         return TERM;
     }
     if phase == SECOND {
-        return run_second(table, i, state, numbers, atoms);
+        return run_second(table, i, state, numbers, atoms, store);
     }
-    let f = run_child(table, i + 1, state, numbers, atoms);
+    let f = run_child(table, i + 1, state, numbers, atoms, store);
     if f != TERM {
         return f;
     }
     let second = second_at(*table, i);
     if kind_at(*table, second) == kinds::SEQ {
-        let g = run_seq(table, second, state, numbers, atoms);
+        let g = run_seq(table, second, state, numbers, atoms, store);
         state[4 * i] = phase_after(g, SECOND);
         return g;
     }
-    let g = run_child(table, second, state, numbers, atoms);
+    let g = run_child(table, second, state, numbers, atoms, store);
     state[4 * i] = phase_after(g, SECOND);
     g
 }
@@ -228,20 +242,22 @@ fn run_second(
     state: &mut &mut [u8],
     numbers: &mut [u64; NUMBERS],
     atoms: &mut &mut [u16],
+    store: &mut &mut [u8],
 ) -> u8
-    requires { ⌜ CanRun phase-unseen InSecond (held table state numbers atoms) i ⌝ }
+    requires { ⌜ CanRun phase-unseen InSecond (held table state numbers atoms store) i ⌝ }
     ensures { λ r.
-        ⌜ HasRun phase-unseen InSecond (held (table .entry) (state .entry) (numbers .entry) (atoms .entry)) i
-        (held (table .exit) (state .exit) (numbers .exit) (atoms .exit)) r ⌝ }
-    ensures { λ r. ⌜ Named (now (state .entry)) (now (state .exit)) (now (atoms .entry)) (now (atoms .exit)) ⌝ }
+        ⌜ HasRun phase-unseen InSecond (held (table .entry) (state .entry) (numbers .entry) (atoms .entry) (store .entry)) i
+        (held (table .exit) (state .exit) (numbers .exit) (atoms .exit) (store .exit)) r ⌝ }
+    ensures { λ r.
+        ⌜ Named (now (state .entry)) (now (state .exit)) (now (atoms .entry)) (now (atoms .exit)) (now (store .entry)) (now (store .exit)) ⌝ }
 {
     let second = second_at(*table, i);
     if state[4 * second] == SECOND {
-        let f = run_second(table, second, state, numbers, atoms);
+        let f = run_second(table, second, state, numbers, atoms, store);
         state[4 * i] = phase_after(f, SECOND);
         return f;
     }
-    let f = run_child(table, second, state, numbers, atoms);
+    let f = run_child(table, second, state, numbers, atoms, store);
     state[4 * i] = phase_after(f, SECOND);
     f
 }
@@ -253,12 +269,14 @@ fn run_loop(
     state: &mut &mut [u8],
     numbers: &mut [u64; NUMBERS],
     atoms: &mut &mut [u16],
+    store: &mut &mut [u8],
 ) -> u8
-    requires { ⌜ CanRun all-seen (OfKind loop-kind) (held table state numbers atoms) i ⌝ }
+    requires { ⌜ CanRun all-seen (OfKind loop-kind) (held table state numbers atoms store) i ⌝ }
     ensures { λ r.
-        ⌜ HasRun all-seen (OfKind loop-kind) (held (table .entry) (state .entry) (numbers .entry) (atoms .entry)) i
-        (held (table .exit) (state .exit) (numbers .exit) (atoms .exit)) r ⌝ }
-    ensures { λ r. ⌜ Named (now (state .entry)) (now (state .exit)) (now (atoms .entry)) (now (atoms .exit)) ⌝ }
+        ⌜ HasRun all-seen (OfKind loop-kind) (held (table .entry) (state .entry) (numbers .entry) (atoms .entry) (store .entry)) i
+        (held (table .exit) (state .exit) (numbers .exit) (atoms .exit) (store .exit)) r ⌝ }
+    ensures { λ r.
+        ⌜ Named (now (state .entry)) (now (state .exit)) (now (atoms .entry)) (now (atoms .exit)) (now (store .entry)) (now (store .exit)) ⌝ }
 {
     let phase = state[4 * i];
     if phase == GONE {
@@ -266,20 +284,20 @@ fn run_loop(
         return TERM;
     }
     if phase != BEGUN {
-        return begin_loop(table, i, state, numbers, atoms);
+        return begin_loop(table, i, state, numbers, atoms, store);
     }
     if kind_at(*table, i + 1) == kinds::LOOP {
-        let f = run_loop(table, i + 1, state, numbers, atoms);
+        let f = run_loop(table, i + 1, state, numbers, atoms, store);
         if f != TERM {
             return f;
         }
-        return begin_loop(table, i, state, numbers, atoms);
+        return begin_loop(table, i, state, numbers, atoms, store);
     }
-    let f = run_child(table, i + 1, state, numbers, atoms);
+    let f = run_child(table, i + 1, state, numbers, atoms, store);
     if f != TERM {
         return f;
     }
-    begin_loop(table, i, state, numbers, atoms)
+    begin_loop(table, i, state, numbers, atoms, store)
 }
 
 // Rule 12: the body runs from its start. It stops, so it doesn't end in this pass, and 000's rule 13 is never met (L5).
@@ -289,14 +307,16 @@ fn begin_loop(
     state: &mut &mut [u8],
     numbers: &mut [u64; NUMBERS],
     atoms: &mut &mut [u16],
+    store: &mut &mut [u8],
 ) -> u8
-    requires { ⌜ CanRun phase-unseen Beginning (held table state numbers atoms) i ⌝ }
+    requires { ⌜ CanRun phase-unseen Beginning (held table state numbers atoms store) i ⌝ }
     ensures { λ r.
-        ⌜ HasRun phase-unseen Beginning (held (table .entry) (state .entry) (numbers .entry) (atoms .entry)) i
-        (held (table .exit) (state .exit) (numbers .exit) (atoms .exit)) r ⌝ }
-    ensures { λ r. ⌜ Named (now (state .entry)) (now (state .exit)) (now (atoms .entry)) (now (atoms .exit)) ⌝ }
+        ⌜ HasRun phase-unseen Beginning (held (table .entry) (state .entry) (numbers .entry) (atoms .entry) (store .entry)) i
+        (held (table .exit) (state .exit) (numbers .exit) (atoms .exit) (store .exit)) r ⌝ }
+    ensures { λ r.
+        ⌜ Named (now (state .entry)) (now (state .exit)) (now (atoms .entry)) (now (atoms .exit)) (now (store .entry)) (now (store .exit)) ⌝ }
 {
-    let f = run_child(table, i + 1, state, numbers, atoms);
+    let f = run_child(table, i + 1, state, numbers, atoms, store);
     state[4 * i] = BEGUN;
     f
 }
@@ -308,12 +328,14 @@ fn run_repeat(
     state: &mut &mut [u8],
     numbers: &mut [u64; NUMBERS],
     atoms: &mut &mut [u16],
+    store: &mut &mut [u8],
 ) -> u8
-    requires { ⌜ CanRun all-seen (OfKind repeat-kind) (held table state numbers atoms) i ⌝ }
+    requires { ⌜ CanRun all-seen (OfKind repeat-kind) (held table state numbers atoms store) i ⌝ }
     ensures { λ r.
-        ⌜ HasRun all-seen (OfKind repeat-kind) (held (table .entry) (state .entry) (numbers .entry) (atoms .entry)) i
-        (held (table .exit) (state .exit) (numbers .exit) (atoms .exit)) r ⌝ }
-    ensures { λ r. ⌜ Named (now (state .entry)) (now (state .exit)) (now (atoms .entry)) (now (atoms .exit)) ⌝ }
+        ⌜ HasRun all-seen (OfKind repeat-kind) (held (table .entry) (state .entry) (numbers .entry) (atoms .entry) (store .entry)) i
+        (held (table .exit) (state .exit) (numbers .exit) (atoms .exit) (store .exit)) r ⌝ }
+    ensures { λ r.
+        ⌜ Named (now (state .entry)) (now (state .exit)) (now (atoms .entry)) (now (atoms .exit)) (now (store .entry)) (now (store .exit)) ⌝ }
 {
     let phase = state[4 * i];
     if phase == GONE {
@@ -331,7 +353,7 @@ fn run_repeat(
     }
     let left = turns - 1;
     if kind_at(*table, i + 1) == kinds::REPEAT {
-        let f = run_repeat(table, i + 1, state, numbers, atoms);
+        let f = run_repeat(table, i + 1, state, numbers, atoms, store);
         if f != TERM {
             begin_turn(*state, 4 * i, left);
             return f;
@@ -340,9 +362,9 @@ fn run_repeat(
             end_turns(*state, 4 * i);
             return TERM;
         }
-        return run_times(table, i, state, numbers, atoms, left - 1);
+        return run_times(table, i, state, numbers, atoms, store, left - 1);
     }
-    run_times(table, i, state, numbers, atoms, left)
+    run_times(table, i, state, numbers, atoms, store, left)
 }
 
 // A RepeatExt: how often it runs is asked of the box when it begins (001, "Extended Repeat"); from then on it is a Repeat.
@@ -352,12 +374,14 @@ fn run_repeat_ext(
     state: &mut &mut [u8],
     numbers: &mut [u64; NUMBERS],
     atoms: &mut &mut [u16],
+    store: &mut &mut [u8],
 ) -> u8
-    requires { ⌜ CanRun all-seen (OfKind repeat-ext-kind) (held table state numbers atoms) i ⌝ }
+    requires { ⌜ CanRun all-seen (OfKind repeat-ext-kind) (held table state numbers atoms store) i ⌝ }
     ensures { λ r.
-        ⌜ HasRun all-seen (OfKind repeat-ext-kind) (held (table .entry) (state .entry) (numbers .entry) (atoms .entry)) i
-        (held (table .exit) (state .exit) (numbers .exit) (atoms .exit)) r ⌝ }
-    ensures { λ r. ⌜ Named (now (state .entry)) (now (state .exit)) (now (atoms .entry)) (now (atoms .exit)) ⌝ }
+        ⌜ HasRun all-seen (OfKind repeat-ext-kind) (held (table .entry) (state .entry) (numbers .entry) (atoms .entry) (store .entry)) i
+        (held (table .exit) (state .exit) (numbers .exit) (atoms .exit) (store .exit)) r ⌝ }
+    ensures { λ r.
+        ⌜ Named (now (state .entry)) (now (state .exit)) (now (atoms .entry)) (now (atoms .exit)) (now (store .entry)) (now (store .exit)) ⌝ }
 {
     let phase = state[4 * i];
     if phase == GONE {
@@ -375,7 +399,7 @@ fn run_repeat_ext(
     }
     let left = turns - 1;
     if kind_at(*table, i + 1) == kinds::REPEAT_EXT {
-        let f = run_repeat_ext(table, i + 1, state, numbers, atoms);
+        let f = run_repeat_ext(table, i + 1, state, numbers, atoms, store);
         if f != TERM {
             begin_turn(*state, 4 * i, left);
             return f;
@@ -384,9 +408,9 @@ fn run_repeat_ext(
             end_turns(*state, 4 * i);
             return TERM;
         }
-        return run_times(table, i, state, numbers, atoms, left - 1);
+        return run_times(table, i, state, numbers, atoms, store, left - 1);
     }
-    run_times(table, i, state, numbers, atoms, left)
+    run_times(table, i, state, numbers, atoms, store, left)
 }
 
 // The rest of the body of a Repeat or a RepeatExt by rules 4 and 5, k runs being still to begin.
@@ -396,19 +420,21 @@ fn run_times(
     state: &mut &mut [u8],
     numbers: &mut [u64; NUMBERS],
     atoms: &mut &mut [u16],
+    store: &mut &mut [u8],
     k: usize,
 ) -> u8
-    requires { ⌜ CanRun own-unseen (Times k) (held table state numbers atoms) i ⌝ }
+    requires { ⌜ CanRun own-unseen (Times k) (held table state numbers atoms store) i ⌝ }
     requires { ⌜ getD (now (now state)) (4 * i + 1) 0 ≡ 0 ⌝ }
     ensures { λ r.
-        ⌜ HasRun own-unseen (Times k) (held (table .entry) (state .entry) (numbers .entry) (atoms .entry)) i
-        (held (table .exit) (state .exit) (numbers .exit) (atoms .exit)) r ⌝ }
-    ensures { λ r. ⌜ Named (now (state .entry)) (now (state .exit)) (now (atoms .entry)) (now (atoms .exit)) ⌝ }
+        ⌜ HasRun own-unseen (Times k) (held (table .entry) (state .entry) (numbers .entry) (atoms .entry) (store .entry)) i
+        (held (table .exit) (state .exit) (numbers .exit) (atoms .exit) (store .exit)) r ⌝ }
+    ensures { λ r.
+        ⌜ Named (now (state .entry)) (now (state .exit)) (now (atoms .entry)) (now (atoms .exit)) (now (store .entry)) (now (store .exit)) ⌝ }
 {
     let kind = kind_at(*table, i + 1);
     let mut left = k;
     loop {
-        let f = run_turn(table, i + 1, state, numbers, atoms, kind);
+        let f = run_turn(table, i + 1, state, numbers, atoms, store, kind);
         if f != TERM {
             begin_turn(*state, 4 * i, left);
             return f;
@@ -428,28 +454,27 @@ fn run_turn(
     state: &mut &mut [u8],
     numbers: &mut [u64; NUMBERS],
     atoms: &mut &mut [u16],
+    store: &mut &mut [u8],
     kind: usize,
 ) -> u8
-    requires { ⌜ CanRun all-seen Any (held table state numbers atoms) i ⌝ }
+    requires { ⌜ CanRun all-seen Any (held table state numbers atoms store) i ⌝ }
     requires { ⌜ kind ≡ kindAt (now (now table)) i ⌝ }
     ensures { λ r.
-        ⌜ HasRun all-seen Any (held (table .entry) (state .entry) (numbers .entry) (atoms .entry)) i
-        (held (table .exit) (state .exit) (numbers .exit) (atoms .exit)) r ⌝ }
-    ensures { λ r. ⌜ Named (now (state .entry)) (now (state .exit)) (now (atoms .entry)) (now (atoms .exit)) ⌝ }
+        ⌜ HasRun all-seen Any (held (table .entry) (state .entry) (numbers .entry) (atoms .entry) (store .entry)) i
+        (held (table .exit) (state .exit) (numbers .exit) (atoms .exit) (store .exit)) r ⌝ }
+    ensures { λ r.
+        ⌜ Named (now (state .entry)) (now (state .exit)) (now (atoms .entry)) (now (atoms .exit)) (now (store .entry)) (now (store .exit)) ⌝ }
 {
     if kind == kinds::NOTHING {
         return run_nothing(table, i, state, numbers, atoms);
     }
-    if kind == kinds::PAR {
-        return run_child(table, i, state, numbers, atoms);
-    }
     if kind == kinds::AWAIT {
         return run_await(table, i, state, numbers, atoms);
     }
-    if kind == kinds::SEQ {
-        return run_seq(table, i, state, numbers, atoms);
+    if par_or_seq(kind) {
+        return run_child(table, i, state, numbers, atoms, store);
     }
-    run_other(table, i, state, numbers, atoms)
+    run_other(table, i, state, numbers, atoms, store)
 }
 
 // Rules 17 to 21.
@@ -459,12 +484,14 @@ fn run_when(
     state: &mut &mut [u8],
     numbers: &mut [u64; NUMBERS],
     atoms: &mut &mut [u16],
+    store: &mut &mut [u8],
 ) -> u8
-    requires { ⌜ CanRun all-seen (OfKind when-kind) (held table state numbers atoms) i ⌝ }
+    requires { ⌜ CanRun all-seen (OfKind when-kind) (held table state numbers atoms store) i ⌝ }
     ensures { λ r.
-        ⌜ HasRun all-seen (OfKind when-kind) (held (table .entry) (state .entry) (numbers .entry) (atoms .entry)) i
-        (held (table .exit) (state .exit) (numbers .exit) (atoms .exit)) r ⌝ }
-    ensures { λ r. ⌜ Named (now (state .entry)) (now (state .exit)) (now (atoms .entry)) (now (atoms .exit)) ⌝ }
+        ⌜ HasRun all-seen (OfKind when-kind) (held (table .entry) (state .entry) (numbers .entry) (atoms .entry) (store .entry)) i
+        (held (table .exit) (state .exit) (numbers .exit) (atoms .exit) (store .exit)) r ⌝ }
+    ensures { λ r.
+        ⌜ Named (now (state .entry)) (now (state .exit)) (now (atoms .entry)) (now (atoms .exit)) (now (store .entry)) (now (store .exit)) ⌝ }
 {
     let phase = state[4 * i];
     if phase == GONE {
@@ -473,14 +500,14 @@ fn run_when(
     }
     if phase == THEN {
         if kind_at(*table, i + 1) == kinds::WHEN {
-            let f = run_when(table, i + 1, state, numbers, atoms);
+            let f = run_when(table, i + 1, state, numbers, atoms, store);
             state[4 * i] = phase_after(f, THEN);
             return f;
         }
-        return run_then(table, i, state, numbers, atoms);
+        return run_then(table, i, state, numbers, atoms, store);
     }
     if phase == SECOND {
-        return run_second(table, i, state, numbers, atoms);
+        return run_second(table, i, state, numbers, atoms, store);
     }
     let rank = test_rank(*table, i, numbers);
     if rank == UNKNOWN {
@@ -488,13 +515,13 @@ fn run_when(
     }
     if rank == UNSAT {
         if numbers[ENDED] == 0 {
-            return run_second(table, i, state, numbers, atoms);
+            return run_second(table, i, state, numbers, atoms, store);
         }
         state[4 * i] = SECOND;
         return STOP;
     }
     if numbers[ENDED] == 0 {
-        return run_then(table, i, state, numbers, atoms);
+        return run_then(table, i, state, numbers, atoms, store);
     }
     state[4 * i] = THEN;
     STOP
@@ -507,12 +534,14 @@ fn run_if(
     state: &mut &mut [u8],
     numbers: &mut [u64; NUMBERS],
     atoms: &mut &mut [u16],
+    store: &mut &mut [u8],
 ) -> u8
-    requires { ⌜ CanRun all-seen (OfKind if-kind) (held table state numbers atoms) i ⌝ }
+    requires { ⌜ CanRun all-seen (OfKind if-kind) (held table state numbers atoms store) i ⌝ }
     ensures { λ r.
-        ⌜ HasRun all-seen (OfKind if-kind) (held (table .entry) (state .entry) (numbers .entry) (atoms .entry)) i
-        (held (table .exit) (state .exit) (numbers .exit) (atoms .exit)) r ⌝ }
-    ensures { λ r. ⌜ Named (now (state .entry)) (now (state .exit)) (now (atoms .entry)) (now (atoms .exit)) ⌝ }
+        ⌜ HasRun all-seen (OfKind if-kind) (held (table .entry) (state .entry) (numbers .entry) (atoms .entry) (store .entry)) i
+        (held (table .exit) (state .exit) (numbers .exit) (atoms .exit) (store .exit)) r ⌝ }
+    ensures { λ r.
+        ⌜ Named (now (state .entry)) (now (state .exit)) (now (atoms .entry)) (now (atoms .exit)) (now (store .entry)) (now (store .exit)) ⌝ }
 {
     let phase = state[4 * i];
     if phase == GONE {
@@ -521,19 +550,19 @@ fn run_if(
     }
     if phase == THEN {
         if kind_at(*table, i + 1) == kinds::IF {
-            let f = run_if(table, i + 1, state, numbers, atoms);
+            let f = run_if(table, i + 1, state, numbers, atoms, store);
             state[4 * i] = phase_after(f, THEN);
             return f;
         }
-        return run_then(table, i, state, numbers, atoms);
+        return run_then(table, i, state, numbers, atoms, store);
     }
     if phase == SECOND {
-        return run_second(table, i, state, numbers, atoms);
+        return run_second(table, i, state, numbers, atoms, store);
     }
     if value_of(numbers, argument_at(*table, i)) == 0 {
-        return run_second(table, i, state, numbers, atoms);
+        return run_second(table, i, state, numbers, atoms, store);
     }
-    run_then(table, i, state, numbers, atoms)
+    run_then(table, i, state, numbers, atoms, store)
 }
 
 // A When or an If that has gone over, or now goes over, into its first branch.
@@ -543,14 +572,16 @@ fn run_then(
     state: &mut &mut [u8],
     numbers: &mut [u64; NUMBERS],
     atoms: &mut &mut [u16],
+    store: &mut &mut [u8],
 ) -> u8
-    requires { ⌜ CanRun phase-unseen InThen (held table state numbers atoms) i ⌝ }
+    requires { ⌜ CanRun phase-unseen InThen (held table state numbers atoms store) i ⌝ }
     ensures { λ r.
-        ⌜ HasRun phase-unseen InThen (held (table .entry) (state .entry) (numbers .entry) (atoms .entry)) i
-        (held (table .exit) (state .exit) (numbers .exit) (atoms .exit)) r ⌝ }
-    ensures { λ r. ⌜ Named (now (state .entry)) (now (state .exit)) (now (atoms .entry)) (now (atoms .exit)) ⌝ }
+        ⌜ HasRun phase-unseen InThen (held (table .entry) (state .entry) (numbers .entry) (atoms .entry) (store .entry)) i
+        (held (table .exit) (state .exit) (numbers .exit) (atoms .exit) (store .exit)) r ⌝ }
+    ensures { λ r.
+        ⌜ Named (now (state .entry)) (now (state .exit)) (now (atoms .entry)) (now (atoms .exit)) (now (store .entry)) (now (store .exit)) ⌝ }
 {
-    let f = run_child(table, i + 1, state, numbers, atoms);
+    let f = run_child(table, i + 1, state, numbers, atoms, store);
     state[4 * i] = phase_after(f, THEN);
     f
 }
@@ -562,12 +593,14 @@ fn run_until(
     state: &mut &mut [u8],
     numbers: &mut [u64; NUMBERS],
     atoms: &mut &mut [u16],
+    store: &mut &mut [u8],
 ) -> u8
-    requires { ⌜ CanRun all-seen (OfKind until-kind) (held table state numbers atoms) i ⌝ }
+    requires { ⌜ CanRun all-seen (OfKind until-kind) (held table state numbers atoms store) i ⌝ }
     ensures { λ r.
-        ⌜ HasRun all-seen (OfKind until-kind) (held (table .entry) (state .entry) (numbers .entry) (atoms .entry)) i
-        (held (table .exit) (state .exit) (numbers .exit) (atoms .exit)) r ⌝ }
-    ensures { λ r. ⌜ Named (now (state .entry)) (now (state .exit)) (now (atoms .entry)) (now (atoms .exit)) ⌝ }
+        ⌜ HasRun all-seen (OfKind until-kind) (held (table .entry) (state .entry) (numbers .entry) (atoms .entry) (store .entry)) i
+        (held (table .exit) (state .exit) (numbers .exit) (atoms .exit) (store .exit)) r ⌝ }
+    ensures { λ r.
+        ⌜ Named (now (state .entry)) (now (state .exit)) (now (atoms .entry)) (now (atoms .exit)) (now (store .entry)) (now (store .exit)) ⌝ }
 {
     let phase = state[4 * i];
     if phase == GONE {
@@ -575,23 +608,23 @@ fn run_until(
         return TERM;
     }
     if phase == STARRED {
-        return run_star(table, i, state, numbers, atoms);
+        return run_star(table, i, state, numbers, atoms, store);
     }
     if phase == SECOND {
-        return run_second(table, i, state, numbers, atoms);
+        return run_second(table, i, state, numbers, atoms, store);
     }
     if kind_at(*table, i + 1) == kinds::UNTIL {
-        let f = run_until(table, i + 1, state, numbers, atoms);
+        let f = run_until(table, i + 1, state, numbers, atoms, store);
         if f != STOP {
             return f;
         }
-        return run_star(table, i, state, numbers, atoms);
+        return run_star(table, i, state, numbers, atoms, store);
     }
-    let f = run_child(table, i + 1, state, numbers, atoms);
+    let f = run_child(table, i + 1, state, numbers, atoms, store);
     if f != STOP {
         return f;
     }
-    run_star(table, i, state, numbers, atoms)
+    run_star(table, i, state, numbers, atoms, store)
 }
 
 // Rules 31 to 34.
@@ -601,12 +634,14 @@ fn run_star(
     state: &mut &mut [u8],
     numbers: &mut [u64; NUMBERS],
     atoms: &mut &mut [u16],
+    store: &mut &mut [u8],
 ) -> u8
-    requires { ⌜ CanRun phase-unseen Starred (held table state numbers atoms) i ⌝ }
+    requires { ⌜ CanRun phase-unseen Starred (held table state numbers atoms store) i ⌝ }
     ensures { λ r.
-        ⌜ HasRun phase-unseen Starred (held (table .entry) (state .entry) (numbers .entry) (atoms .entry)) i
-        (held (table .exit) (state .exit) (numbers .exit) (atoms .exit)) r ⌝ }
-    ensures { λ r. ⌜ Named (now (state .entry)) (now (state .exit)) (now (atoms .entry)) (now (atoms .exit)) ⌝ }
+        ⌜ HasRun phase-unseen Starred (held (table .entry) (state .entry) (numbers .entry) (atoms .entry) (store .entry)) i
+        (held (table .exit) (state .exit) (numbers .exit) (atoms .exit) (store .exit)) r ⌝ }
+    ensures { λ r.
+        ⌜ Named (now (state .entry)) (now (state .exit)) (now (atoms .entry)) (now (atoms .exit)) (now (store .entry)) (now (store .exit)) ⌝ }
 {
     let rank = test_rank(*table, i, numbers);
     if rank == UNKNOWN {
@@ -619,7 +654,7 @@ fn run_star(
     }
     clear_part(*state, 4 * i + 4, 4 * second_at(*table, i));
     if numbers[ENDED] == 0 {
-        return run_second(table, i, state, numbers, atoms);
+        return run_second(table, i, state, numbers, atoms, store);
     }
     state[4 * i] = SECOND;
     STOP
@@ -632,12 +667,14 @@ fn run_control(
     state: &mut &mut [u8],
     numbers: &mut [u64; NUMBERS],
     atoms: &mut &mut [u16],
+    store: &mut &mut [u8],
 ) -> u8
-    requires { ⌜ CanRun all-seen (OfKind control-kind) (held table state numbers atoms) i ⌝ }
+    requires { ⌜ CanRun all-seen (OfKind control-kind) (held table state numbers atoms store) i ⌝ }
     ensures { λ r.
-        ⌜ HasRun all-seen (OfKind control-kind) (held (table .entry) (state .entry) (numbers .entry) (atoms .entry)) i
-        (held (table .exit) (state .exit) (numbers .exit) (atoms .exit)) r ⌝ }
-    ensures { λ r. ⌜ Named (now (state .entry)) (now (state .exit)) (now (atoms .entry)) (now (atoms .exit)) ⌝ }
+        ⌜ HasRun all-seen (OfKind control-kind) (held (table .entry) (state .entry) (numbers .entry) (atoms .entry) (store .entry)) i
+        (held (table .exit) (state .exit) (numbers .exit) (atoms .exit) (store .exit)) r ⌝ }
+    ensures { λ r.
+        ⌜ Named (now (state .entry)) (now (state .exit)) (now (atoms .entry)) (now (atoms .exit)) (now (store .entry)) (now (store .exit)) ⌝ }
 {
     if state[4 * i] == GONE {
         state[4 * i] = 0;
@@ -645,9 +682,9 @@ fn run_control(
     }
     if marked(numbers, argument_at(*table, i)) {
         if kind_at(*table, i + 1) == kinds::CONTROL {
-            return run_control(table, i + 1, state, numbers, atoms);
+            return run_control(table, i + 1, state, numbers, atoms, store);
         }
-        return run_child(table, i + 1, state, numbers, atoms);
+        return run_child(table, i + 1, state, numbers, atoms, store);
     }
     numbers[ENDED] as u8
 }
@@ -659,12 +696,14 @@ fn run_local(
     state: &mut &mut [u8],
     numbers: &mut [u64; NUMBERS],
     atoms: &mut &mut [u16],
+    store: &mut &mut [u8],
 ) -> u8
-    requires { ⌜ CanRun all-seen (OfKind local-kind) (held table state numbers atoms) i ⌝ }
+    requires { ⌜ CanRun all-seen (OfKind local-kind) (held table state numbers atoms store) i ⌝ }
     ensures { λ r.
-        ⌜ HasRun all-seen (OfKind local-kind) (held (table .entry) (state .entry) (numbers .entry) (atoms .entry)) i
-        (held (table .exit) (state .exit) (numbers .exit) (atoms .exit)) r ⌝ }
-    ensures { λ r. ⌜ Named (now (state .entry)) (now (state .exit)) (now (atoms .entry)) (now (atoms .exit)) ⌝ }
+        ⌜ HasRun all-seen (OfKind local-kind) (held (table .entry) (state .entry) (numbers .entry) (atoms .entry) (store .entry)) i
+        (held (table .exit) (state .exit) (numbers .exit) (atoms .exit) (store .exit)) r ⌝ }
+    ensures { λ r.
+        ⌜ Named (now (state .entry)) (now (state .exit)) (now (atoms .entry)) (now (atoms .exit)) (now (store .entry)) (now (store .exit)) ⌝ }
 {
     let phase = state[4 * i];
     if phase == GONE {
@@ -674,13 +713,51 @@ fn run_local(
     let event = argument_at(*table, i);
     let outside = exchange_event(numbers, event, phase == PLUS);
     if kind_at(*table, i + 1) == kinds::LOCAL {
-        let f = run_local(table, i + 1, state, numbers, atoms);
+        let f = run_local(table, i + 1, state, numbers, atoms, store);
         let inside = exchange_event(numbers, event, outside);
         state[4 * i] = sign_after(f, inside);
         return f;
     }
-    let f = run_child(table, i + 1, state, numbers, atoms);
+    let f = run_child(table, i + 1, state, numbers, atoms, store);
     let inside = exchange_event(numbers, event, outside);
     state[4 * i] = sign_after(f, inside);
     f
+}
+
+// Rules 40 and 41.
+fn run_freezable(
+    table: &&[u8],
+    i: usize,
+    state: &mut &mut [u8],
+    numbers: &mut [u64; NUMBERS],
+    atoms: &mut &mut [u16],
+    store: &mut &mut [u8],
+) -> u8
+    requires { ⌜ CanRun all-seen (OfKind freezable-kind) (held table state numbers atoms store) i ⌝ }
+    ensures { λ r.
+        ⌜ HasRun all-seen (OfKind freezable-kind) (held (table .entry) (state .entry) (numbers .entry) (atoms .entry) (store .entry)) i
+        (held (table .exit) (state .exit) (numbers .exit) (atoms .exit) (store .exit)) r ⌝ }
+    ensures { λ r.
+        ⌜ Named (now (state .entry)) (now (state .exit)) (now (atoms .entry)) (now (atoms .exit)) (now (store .entry)) (now (store .exit)) ⌝ }
+{
+    let phase = state[4 * i];
+    if phase == GONE {
+        state[4 * i] = 0;
+        return TERM;
+    }
+    if phase == STARRED {
+        return run_pending(table, i, state, numbers, store);
+    }
+    if kind_at(*table, i + 1) == kinds::FREEZABLE {
+        let f = run_freezable(table, i + 1, state, numbers, atoms, store);
+        if f != STOP {
+            return f;
+        }
+        return run_pending(table, i, state, numbers, store);
+    }
+    let f = run_child(table, i + 1, state, numbers, atoms, store);
+    if f != STOP {
+        return f;
+    }
+    run_pending(table, i, state, numbers, store)
 }

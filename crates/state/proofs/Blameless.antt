@@ -12,7 +12,8 @@ use Rattle.junior.specs.declared.Flag.{Flag}
 use Rattle.junior.specs.declared.Flag.the-variants.{SUSP, STOP, TERM}
 use Rattle.junior.specs.Program.{Program, Nothing, Stop, Atom, Loop, Repeat, Generate, Await, When, If, size, kind}
 use Rattle.junior.specs.Term.{Term, done, nothing, stop, atom, generate, await, seq0, seq2, par, loop0, loop1}
-use Rattle.junior.specs.Term.{repeat0, repeat1, when0, when1, when2, until0, until*, until2, control, local, if0, if1, if2, prog, fresh}
+use Rattle.junior.specs.Term.{repeat0, repeat1, when0, when1, when2, until0, until*, until2, control, local, freezable0, freezable*, if0, if1, if2, prog}
+use Rattle.junior.specs.Term.{fresh}
 use Rattle.junior.specs.Values.{exactly, asked}
 use Rattle.junior.specs.AtRest.{AtRest, Waiting, Over}
 use Rattle.table.specs.Records.{nodes, sizeAt, secondAt}
@@ -20,11 +21,12 @@ use Rattle.table.specs.Spells.{Spells, treeOf}
 use Rattle.table.specs.Inside.{Loaded, Placed}
 use Rattle.table.proofs.Tree.{size-pos, written, spells-two, second-is, second}
 use Rattle.table.proofs.Loaded.{all-nodes}
+use Rattle.table.proofs.Subtrees.{rooted}
 use Rattle.state.specs.StateBytes.{Own, head, code, before, in-phase, zeros, below, stateBytes}
 use Rattle.state.specs.Resting.{phaseAt, firstZero, secondZero, belowZero, phaseRests, flagsRest, countRests, rests, blamed}
 use Rattle.state.proofs.Parts.{blank, len-bytes, fresh-zeros, own-phase}
 use Rattle.state.proofs.Frames.{Side, only-part, first-part, second-part, Frame, size-in, spells-in, seq-first, seq-second, loop-body}
-use Rattle.state.proofs.Frames.{repeat-body, when-first, when-second, until-first, until-second, if-first, if-second, control-body, local-body}
+use Rattle.state.proofs.Frames.{repeat-body, when-first, when-second, until-first, until-second, if-first, if-second, control-body, local-body, freezable-body}
 use Rattle.state.proofs.Zeros.{Owns, zero-each}
 use Rattle.state.proofs.Firsts.{Hold, hold-more, hold-join, first-at, first-lowest}
 use Rattle.state.proofs.Fresh.{zero-rests}
@@ -56,7 +58,7 @@ module _ (t s : List ℕ) (l : Loaded t) (long : 4 * nodes t ≤ length s) where
       let w = written t i p sp in
       let f : i + sizeAt t i ≡ j + n = omega arith in
       let z = zero-each s j n (bytes-zero s j n (omega arith) b) in
-      rw f at (zero-rests s l i (omega (arith, size-pos p)) j g (rw f z))
+      rw f at (zero-rests s (rooted l) i (omega (arith, size-pos p)) j g (rw f z))
 
   idle : (p : Program) (i : ℕ) → Spells t i p → i + size p ≤ nodes t → bytesAt s i (size p) ≡ zeros p → Calm i (size p)
   idle p i sp h b = idle-from p i i (size p) sp h (omega arith) refl b
@@ -181,6 +183,9 @@ module _ (t s : List ℕ) (l : Loaded t) (long : 4 * nodes t ≤ length s) where
   calm (local true e u) i sp h b a = absurd (true≢false (a .0))
   calm (local false e u) i sp h b a =
       within (local-body false e) u i sp h b (λ j k m c. calm u j k m c (a .1)) (λ o z₁ z₂. simp (sp .0 .0, o .0, o .1, o .2))
+  calm (freezable0 e u) i sp h b a =
+      within (freezable-body e) u i sp h b (λ j k m c. calm u j k m c a) (λ o z₁ z₂. simp (sp .0 .0, o .0, o .1, o .2))
+  calm (freezable* e u) i sp h b a = absurd a
   calm (par α β u v) i sp h b a =
       let m = size (prog u) in
       let n = size (prog v) in

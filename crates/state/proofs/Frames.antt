@@ -6,11 +6,11 @@ use mathlib.Core.List.{List, _++_, append-nil}
 use native.Mathlib.Omega.{arith}
 use native.Mathlib.Nat.{add-zero}
 use Rattle.junior.specs.Configuration.{Config}
-use Rattle.junior.specs.Program.{Program, One, loop, repeat, control, local, Two, seq, when, until, if, size}
+use Rattle.junior.specs.Program.{Program, One, loop, repeat, control, local, freezable, Two, seq, when, until, if, size}
 use Rattle.junior.specs.Values.{Times}
-use Rattle.junior.specs.Term.{Term, seq0, seq2, loop1, repeat1, when1, when2, until0, until2, if1, if2, prog}
+use Rattle.junior.specs.Term.{Term, seq0, seq2, loop1, repeat1, when1, when2, until0, until2, freezable0, if1, if2, prog}
 use Rattle.junior.specs.Term
-use Rattle.junior.specs.Figures.{LoopsStop, per}
+use Rattle.junior.specs.Figures.{LoopsStop}
 use Rattle.junior.specs.Inside.{pot}
 use Rattle.table.specs.Spells.{Spells}
 use Rattle.table.proofs.Parts.{of-one, of-two}
@@ -30,14 +30,14 @@ pub record Frame (own : Own) (ahead behind : ℕ) (f : Term → Term) : Type 0 w
   pub below-is : (x : Term) → below (f x) ≡ blank ahead ++ (stateBytes x ++ blank behind)
   pub side : (x : Term) → Side (prog (f x)) (prog x) ahead behind
   pub loops : (x : Term) → LoopsStop (prog (f x)) → LoopsStop (prog x)
-  pub pot-in : (x : Term) → pot (per 2) x ≤ pot (per 2) (f x)
+  pub pot-in : (k : Program → ℕ) (x : Term) → pot k x ≤ pot k (f x)
 
 frame : {own : Own} {ahead behind : ℕ} {f : Term → Term}
     → ((x : Term) → head (f x) ≡ own)
     → ((x : Term) → below (f x) ≡ blank ahead ++ (stateBytes x ++ blank behind))
     → ((x : Term) → Side (prog (f x)) (prog x) ahead behind)
     → ((x : Term) → LoopsStop (prog (f x)) → LoopsStop (prog x))
-    → ((x : Term) → pot (per 2) x ≤ pot (per 2) (f x))
+    → ((k : Program → ℕ) (x : Term) → pot k x ≤ pot k (f x))
     → Frame own ahead behind f
 frame a b c d e = record { head-is = a; below-is = b; side = c; loops = d; pot-in = e }
 
@@ -60,48 +60,52 @@ module _ {own : Own} {ahead behind : ℕ} {f : Term → Term} (o : Frame own ahe
 
 pub seq-first : (q : Program) → Frame (in-phase 0) 0 (size q) (λ x. seq0 x q)
 unfolding below prog LoopsStop pot
-seq-first q = frame (λ x. refl) (λ x. refl) (λ x. first-part (seq (prog x) q)) (λ x h. h .0) (λ x. omega arith)
+seq-first q = frame (λ x. refl) (λ x. refl) (λ x. first-part (seq (prog x) q)) (λ x h. h .0) (λ k x. omega arith)
 
 pub seq-second : (p : Program) → Frame (in-phase 2) (size p) 0 (λ x. seq2 p x)
 unfolding below prog LoopsStop pot
-seq-second p = frame (λ x. refl) (λ x. simp append-nil) (λ x. second-part (seq p (prog x))) (λ x h. h .1) (λ x. omega arith)
+seq-second p = frame (λ x. refl) (λ x. simp append-nil) (λ x. second-part (seq p (prog x))) (λ x h. h .1) (λ k x. omega arith)
 
 pub loop-body : Frame (in-phase 1) 0 0 (λ x. loop1 x)
 unfolding below prog LoopsStop pot
-loop-body = frame (λ x. refl) (λ x. simp append-nil) (λ x. only-part (loop (prog x))) (λ x h. h .1) (λ x. omega arith)
+loop-body = frame (λ x. refl) (λ x. simp append-nil) (λ x. only-part (loop (prog x))) (λ x h. h .1) (λ k x. omega arith)
 
 pub repeat-body : (n : Times) (k : ℕ) → Frame (record { phase = 1; flags = 0; count = k }) 0 0 (λ x. repeat1 n k x)
 unfolding below prog LoopsStop pot
-repeat-body n k = frame (λ x. refl) (λ x. simp append-nil) (λ x. only-part (repeat n (prog x))) (λ x h. h) (λ x. omega arith)
+repeat-body n k = frame (λ x. refl) (λ x. simp append-nil) (λ x. only-part (repeat n (prog x))) (λ x h. h) (λ k x. omega arith)
 
 pub when-first : (c : Config) (q : Program) → Frame (in-phase 1) 0 (size q) (λ x. when1 c x q)
 unfolding below prog LoopsStop pot
-when-first c q = frame (λ x. refl) (λ x. refl) (λ x. first-part (when c (prog x) q)) (λ x h. h .0) (λ x. omega arith)
+when-first c q = frame (λ x. refl) (λ x. refl) (λ x. first-part (when c (prog x) q)) (λ x h. h .0) (λ k x. omega arith)
 
 pub when-second : (c : Config) (p : Program) → Frame (in-phase 2) (size p) 0 (λ x. when2 c p x)
 unfolding below prog LoopsStop pot
-when-second c p = frame (λ x. refl) (λ x. simp append-nil) (λ x. second-part (when c p (prog x))) (λ x h. h .1) (λ x. omega arith)
+when-second c p = frame (λ x. refl) (λ x. simp append-nil) (λ x. second-part (when c p (prog x))) (λ x h. h .1) (λ k x. omega arith)
 
 pub until-first : (c : Config) (q : Program) → Frame (in-phase 0) 0 (size q) (λ x. until0 c x q)
 unfolding below prog LoopsStop pot
-until-first c q = frame (λ x. refl) (λ x. refl) (λ x. first-part (until c (prog x) q)) (λ x h. h .0) (λ x. omega arith)
+until-first c q = frame (λ x. refl) (λ x. refl) (λ x. first-part (until c (prog x) q)) (λ x h. h .0) (λ k x. omega arith)
 
 pub until-second : (c : Config) (p : Program) → Frame (in-phase 2) (size p) 0 (λ x. until2 c p x)
 unfolding below prog LoopsStop pot
-until-second c p = frame (λ x. refl) (λ x. simp append-nil) (λ x. second-part (until c p (prog x))) (λ x h. h .1) (λ x. omega arith)
+until-second c p = frame (λ x. refl) (λ x. simp append-nil) (λ x. second-part (until c p (prog x))) (λ x h. h .1) (λ k x. omega arith)
 
 pub if-first : (v : ℕ) (q : Program) → Frame (in-phase 1) 0 (size q) (λ x. if1 v x q)
 unfolding below prog LoopsStop pot
-if-first v q = frame (λ x. refl) (λ x. refl) (λ x. first-part (if v (prog x) q)) (λ x h. h .0) (λ x. omega arith)
+if-first v q = frame (λ x. refl) (λ x. refl) (λ x. first-part (if v (prog x) q)) (λ x h. h .0) (λ k x. omega arith)
 
 pub if-second : (v : ℕ) (p : Program) → Frame (in-phase 2) (size p) 0 (λ x. if2 v p x)
 unfolding below prog LoopsStop pot
-if-second v p = frame (λ x. refl) (λ x. simp append-nil) (λ x. second-part (if v p (prog x))) (λ x h. h .1) (λ x. omega arith)
+if-second v p = frame (λ x. refl) (λ x. simp append-nil) (λ x. second-part (if v p (prog x))) (λ x h. h .1) (λ k x. omega arith)
 
 pub control-body : (s : ℕ) → Frame (in-phase 0) 0 0 (λ x. Term.control s x)
 unfolding below prog LoopsStop pot
-control-body s = frame (λ x. refl) (λ x. simp append-nil) (λ x. only-part (control s (prog x))) (λ x h. h) (λ x. omega arith)
+control-body s = frame (λ x. refl) (λ x. simp append-nil) (λ x. only-part (control s (prog x))) (λ x h. h) (λ k x. omega arith)
 
 pub local-body : (b : Bool) (s : ℕ) → Frame (in-phase (cond b 1 0)) 0 0 (λ x. Term.local b s x)
 unfolding below prog LoopsStop pot
-local-body b s = frame (λ x. refl) (λ x. simp append-nil) (λ x. only-part (local s (prog x))) (λ x h. h) (λ x. omega arith)
+local-body b s = frame (λ x. refl) (λ x. simp append-nil) (λ x. only-part (local s (prog x))) (λ x h. h) (λ k x. omega arith)
+
+pub freezable-body : (s : ℕ) → Frame (in-phase 0) 0 0 (λ x. freezable0 s x)
+unfolding below prog LoopsStop pot
+freezable-body s = frame (λ x. refl) (λ x. simp append-nil) (λ x. only-part (freezable s (prog x))) (λ x h. h) (λ k x. omega arith)

@@ -6,9 +6,9 @@ use mathlib.Core.List.{List}
 use native.Mathlib.Omega.{arith}
 use lib.Dec.{eqb}
 use borrow.Author.Tests.{eqb-true}
-use Rattle.table.specs.Records.{nodes, kindAt, sizeAt}
+use Rattle.table.specs.Records.{kindAt, sizeAt}
 use Rattle.table.specs.Good.{children}
-use Rattle.table.specs.Inside.{Loaded}
+use Rattle.table.specs.Inside.{Rooted}
 use Rattle.table.proofs.Laid.{both}
 use Rattle.table.proofs.Subtrees.{body, pair, nested, ends}
 use Rattle.state.specs.Resting.{zeroNode, firstZero, secondZero, belowZero, repeats, phaseRests, flagsRest, countRests, rests}
@@ -24,7 +24,7 @@ unfolding rests flagsRest countRests
 fresh-rests t s i z = let (a, b, c) = zero-owns s i z in rw (a, b, c) (simp (cond-same, and-false, and-true))
 
 -- all below being zero as well, it does rest
-module _ {t : List ℕ} (s : List ℕ) (l : Loaded t) (i : ℕ) (h : i < nodes t) (z : belowZero t s i ≡ true) where
+module _ {t : List ℕ} {n : ℕ} (s : List ℕ) (l : Rooted t n) (i : ℕ) (h : i < n) (z : belowZero t s i ≡ true) where
   first-wanted : children (kindAt t i) ≡ 1 → firstZero t s i ≡ true
   first-wanted e = sym (body-below s (body l i h e)) ∙ z
 
@@ -68,7 +68,7 @@ module _ {t : List ℕ} (s : List ℕ) (l : Loaded t) (i : ℕ) (h : i < nodes t
   idle-rests e = fresh-rests t s i e ∙ idle-phase
 
 -- every node of an all-zero subtree rests, also if only those from j on are all zero
-pub zero-rests : {t : List ℕ} (s : List ℕ) → Loaded t → (i : ℕ) → i < nodes t → (j : ℕ) → i ≤ j
+pub zero-rests : {t : List ℕ} {n : ℕ} (s : List ℕ) → Rooted t n → (i : ℕ) → i < n → (j : ℕ) → i ≤ j
     → Hold (zeroNode s) j (i + sizeAt t i)
     → Hold (rests t s) j (i + sizeAt t i)
 zero-rests {t} s l i h j g z k a b =
@@ -77,7 +77,7 @@ zero-rests {t} s l i h j g z k a b =
     idle-rests s l k (omega arith) (zero-all s (k + 1) (sizeAt t k - 1) (λ n c d. z n (omega arith) (omega arith))) (z k a b)
 
 module _ {t s : List ℕ} {i near : ℕ} (j : Judged t s i near) (at : ℕ) (a : i ≤ at) (b : at < near) where
-  pub at-in : at < nodes t
+  pub at-in : at < sizeAt t 0
   at-in = omega arith
 
   -- the nodes up to `at` rest, and so do those of the all-zero subtree there
@@ -85,7 +85,7 @@ module _ {t s : List ℕ} {i near : ℕ} (j : Judged t s i near) (at : ℕ) (a :
   on-past m e h r =
       rw e
       (hold-join (rests t s) i at (at + sizeAt t at) r
-      (zero-rests s (j .loaded) at at-in at (omega arith) (λ k c d. j .nearest .before k (omega arith) (omega arith))))
+      (zero-rests s (j .rooted) at at-in at (omega arith) (λ k c d. j .nearest .before k (omega arith) (omega arith))))
 
   pub at-rests : (k : ℕ) → k ≡ kindAt t at → rests t s at ≡ phaseRests t s at k 0
   at-rests k e = rw e (fresh-rests t s at (j .nearest .before at a b))

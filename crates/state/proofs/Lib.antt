@@ -1,9 +1,11 @@
--- Laws, in the order in which they lean on one another: a term's bytes; zeros and the first that isn't; who is to blame, and what term stands there.
+-- Laws, in the order in which they lean on one another: a term's bytes, a piece's; zeros and the first that isn't; who is to blame, and what term
+-- stands there; the same of a part of a table.
 pub mod Little
 pub mod Parts
 pub mod Shape
 pub mod Frames
 pub mod OneTerm
+pub mod Pieces
 pub mod Zeros
 pub mod Firsts
 pub mod Near
@@ -11,3 +13,4 @@ pub mod Fresh
 pub mod NodeBytes
 pub mod Standing
 pub mod Blameless
+pub mod PartRests

@@ -9,9 +9,9 @@ use lib.Seq.{drop-at}
 use lib.Dec.{eqb}
 use Rattle.junior.specs.declared.Flag.{Flag}
 use Rattle.junior.specs.declared.Flag.the-variants.{SUSP, STOP, TERM}
-use Rattle.junior.specs.Program.{Program, One, loop, repeat, control, local, Two, seq, par, when, until, if}
+use Rattle.junior.specs.Program.{Program, One, loop, repeat, control, local, freezable, Two, seq, par, when, until, if}
 use Rattle.junior.specs.Program.{Parts, no-part, one-part, two-parts, parts, size}
-use Rattle.junior.specs.Term.{Term, done, seq0, seq2, loop0, loop1, repeat0, repeat1, when0, when1, when2, until0, until*, until2, if0, if1, if2}
+use Rattle.junior.specs.Term.{Term, done, seq0, seq2, loop0, loop1, repeat0, repeat1, when0, when1, when2, until0, until*, until2, freezable0, freezable*, if0, if1, if2}
 use Rattle.junior.specs.Term.{prog, fresh}
 use Rattle.junior.specs.Term
 use Rattle.state.specs.StateBytes.{code, zeros, below, stateBytes}
@@ -45,6 +45,7 @@ of-one (loop p) l x = by-phase l (loop0 p) (loop1 x) (loop1 x)
 of-one (repeat n p) l x = let y = repeat1 n (getD l 2 0 * 256 + getD l 3 0) x in by-phase l (repeat0 n p) y y
 of-one (control s p) l x = Term.control s x
 of-one (local s p) l x = by-phase l (Term.local false s x) (Term.local true s x) (Term.local true s x)
+of-one (freezable s p) l x = by-phase l (freezable0 s x) (freezable* s x) (freezable* s x)
 
 abbrev of-two : {p q r : Program} → Two p q r → List ℕ → Term → Term → Term
 of-two (seq p q) l x y = by-phase l (seq0 x q) (seq0 x q) (seq2 p y)
@@ -104,6 +105,8 @@ reads (until2 c p t) r = ap (until2 c p) (behind-zeros p t (prog t) r (reads t))
 reads (Term.control s t) r = ap (Term.control s) (reads t r)
 reads (Term.local true s t) r = ap (Term.local true s) (reads t r)
 reads (Term.local false s t) r = ap (Term.local false s) (reads t r)
+reads (freezable0 s t) r = ap (freezable0 s) (reads t r)
+reads (freezable* s t) r = ap (freezable* s) (reads t r)
 reads (if0 v p q) r = refl
 reads (if1 v t q) r = ap (λ x. if1 v x q) (from-first (prog t) (stateBytes t) (zeros q) r (reads t))
 reads (if2 v p t) r = ap (if2 v p) (behind-zeros p t (prog t) r (reads t))

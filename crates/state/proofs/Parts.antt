@@ -7,9 +7,10 @@ use lib.ListN.{length, getD, drop, replicate, length-append, length-replicate}
 use lib.ListN.{replicate-append-replicate}
 use lib.Seq.{take-at, drop-at}
 use borrow.Rule.Slice.PartMut.{midOf, putMid}
-use Rattle.junior.specs.Program.{Program, Nothing, Stop, Atom, Seq, Par, Loop, Repeat, Generate, Await, When, Until, Control, Local, If, size}
+use Rattle.junior.specs.Program.{Program, Nothing, Stop, Atom, Seq, Par, Loop, Repeat, Generate, Await, When, Until, Control, Local, Freezable, If, size}
 use Rattle.junior.specs.Term.{Term, done, nothing, stop, atom, generate, await, seq0, seq2, par, loop0, loop1}
-use Rattle.junior.specs.Term.{repeat0, repeat1, when0, when1, when2, until0, until*, until2, control, local, if0, if1, if2, prog, fresh}
+use Rattle.junior.specs.Term.{repeat0, repeat1, when0, when1, when2, until0, until*, until2, control, local, freezable0, freezable*, if0, if1, if2, prog}
+use Rattle.junior.specs.Term.{fresh}
 use Rattle.table.proofs.Tree.{size-pos}
 use Rattle.state.specs.StateBytes.{before, in-phase, zeros, below, stateBytes}
 
@@ -43,6 +44,8 @@ len-bytes (until* c t q) = simp (length-append, len-zeros) (omega (arith, len-by
 len-bytes (until2 c p t) = simp (length-append, len-zeros) (omega (arith, len-bytes t))
 len-bytes (control s t) = omega (arith, len-bytes t)
 len-bytes (local b s t) = omega (arith, len-bytes t)
+len-bytes (freezable0 s t) = omega (arith, len-bytes t)
+len-bytes (freezable* s t) = omega (arith, len-bytes t)
 len-bytes (if0 v p q) = simp (length-append, len-zeros) (omega arith)
 len-bytes (if1 v t q) = simp (length-append, len-zeros) (omega (arith, len-bytes t))
 len-bytes (if2 v p t) = simp (length-append, len-zeros) (omega (arith, len-bytes t))
@@ -78,6 +81,7 @@ fresh-zeros (When c p q) = blank-two p q
 fresh-zeros (Until c p q) = ap (λ l. before (in-phase 0) (l ++ zeros q)) (fresh-zeros p) ∙ blank-two p q
 fresh-zeros (Control s p) = ap (λ l. before (in-phase 0) l) (fresh-zeros p) ∙ blank-below (size p)
 fresh-zeros (Local s p) = ap (λ l. before (in-phase 0) l) (fresh-zeros p) ∙ blank-below (size p)
+fresh-zeros (Freezable s p) = ap (λ l. before (in-phase 0) l) (fresh-zeros p) ∙ blank-below (size p)
 fresh-zeros (If v p q) = blank-two p q
 
 -- the phase and the flags of the node whose bytes a list begins with

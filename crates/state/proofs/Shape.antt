@@ -7,11 +7,11 @@ use Rattle.junior.specs.declared.Flag.{Flag}
 use Rattle.junior.specs.Configuration.{Config}
 use Rattle.junior.specs.Program.{Program, kind}
 use Rattle.junior.specs.Term.{Term, done, nothing, stop, atom, generate, await, seq0, seq2, par, loop0, loop1}
-use Rattle.junior.specs.Term.{repeat0, repeat1, when0, when1, when2, until0, until*, until2, control, local, if0, if1, if2, prog}
+use Rattle.junior.specs.Term.{repeat0, repeat1, when0, when1, when2, until0, until*, until2, control, local, freezable0, freezable*, if0, if1, if2, prog}
 use Rattle.junior.specs.Values.{exactly, asked}
 use Rattle.state.specs.Kinds.{nothing-kind, stop-kind, atom-kind, seq-kind, par-kind, loop-kind}
 use Rattle.state.specs.Kinds.{repeat-kind, generate-kind, await-kind, when-kind, until-kind, control-kind, local-kind, if-kind}
-use Rattle.state.specs.Kinds.{repeat-ext-kind}
+use Rattle.state.specs.Kinds.{freezable-kind, repeat-ext-kind}
 use Rattle.state.specs.StateBytes.{head}
 
 pub data Shape : Term → ℕ → ℕ → Type 0 where
@@ -36,6 +36,8 @@ pub data Shape : Term → ℕ → ℕ → Type 0 where
   is-until2 : (c : Config) (p : Program) (t : Term) → Shape (until2 c p t) until-kind 2
   is-control : (s : ℕ) (t : Term) → Shape (control s t) control-kind 0
   is-local : (b : Bool) (s : ℕ) (t : Term) {ph : ℕ} → cond b 1 0 ≡ ph → Shape (local b s t) local-kind ph
+  is-freezable0 : (s : ℕ) (t : Term) → Shape (freezable0 s t) freezable-kind 0
+  is-freezable* : (s : ℕ) (t : Term) → Shape (freezable* s t) freezable-kind 1
   is-if0 : (v : ℕ) (p q : Program) → Shape (if0 v p q) if-kind 0
   is-if1 : (v : ℕ) (t : Term) (q : Program) → Shape (if1 v t q) if-kind 1
   is-if2 : (v : ℕ) (p : Program) (t : Term) → Shape (if2 v p t) if-kind 2
@@ -67,6 +69,8 @@ shape (until* c t q) = is-until* c t q
 shape (until2 c p t) = is-until2 c p t
 shape (control s t) = is-control s t
 shape (local b s t) = is-local b s t refl
+shape (freezable0 s t) = is-freezable0 s t
+shape (freezable* s t) = is-freezable* s t
 shape (if0 v p q) = is-if0 v p q
 shape (if1 v t q) = is-if1 v t q
 shape (if2 v p t) = is-if2 v p t

@@ -12,7 +12,7 @@ use Rattle.junior.specs.declared.Flag.{Flag}
 use Rattle.junior.specs.declared.Flag.the-variants.{SUSP, TERM}
 use Rattle.junior.specs.Values.{Times, exactly, asked, most}
 use Rattle.junior.specs.Program.{Program, Par, Loop, Repeat, When, If, Leaf, nothing, stop, atom, generate, await, One, loop, repeat}
-use Rattle.junior.specs.Program.{control, local, Two, seq, par, when, until, if, Parts, no-part, one-part, two-parts, parts, size, kind}
+use Rattle.junior.specs.Program.{control, local, freezable, Two, seq, par, when, until, if, Parts, no-part, one-part, two-parts, parts, size, kind}
 use Rattle.junior.specs.Term.{Term, done, prog, fresh}
 use Rattle.junior.specs.Term
 use Rattle.junior.specs.AtRest.{AtRest, Over}
@@ -33,7 +33,7 @@ use Rattle.state.proofs.Little.{either-true}
 use Rattle.state.proofs.Parts.{blank, blank-below, blank-both, fresh-zeros, own-phase}
 use Rattle.state.proofs.Shape.{Shape, is-done, is-local, shape-by, no-sign}
 use Rattle.state.proofs.Frames.{Frame, size-in, seq-first, seq-second, loop-body, repeat-body, when-first, when-second}
-use Rattle.state.proofs.Frames.{until-first, until-second, if-first, if-second, control-body, local-body}
+use Rattle.state.proofs.Frames.{until-first, until-second, if-first, if-second, control-body, local-body, freezable-body}
 use Rattle.state.proofs.Zeros.{Owns}
 use Rattle.state.proofs.NodeBytes.{bytesAt, both-parts, node-bytes, zero-bytes, first-byte}
 
@@ -182,6 +182,8 @@ module _ (t s : List ℕ) (small : (i : ℕ) → byte s i < 256) (long : 4 * nod
         around (control-body e) i x (omega arith) (plain i (c .flags) (c .counts) 0 (c .phases)) refl refl h (x .at-rest)
     of-one (local e q) sp h c =
         around (local-body false e) i x (omega arith) (plain i (c .flags) (c .counts) 0 (c .phases)) refl refl h (refl, x .at-rest)
+    of-one (freezable e q) sp h c =
+        around (freezable-body e) i x (omega arith) (plain i (c .flags) (c .counts) 0 (c .phases)) refl refl h (x .at-rest)
 
     module _ {v : Term} (y : Rests s (i + 1 + size (prog u)) v) (b : Spells t (secondAt t i) (prog v)) where
       none₂ : i + 1 + size (prog u) + size (prog v) ≤ nodes t → secondZero t s i ≡ true

@@ -4,8 +4,8 @@ use mathlib.Core.Bool.{Bool, true, false}
 use mathlib.Core.Path.{_≡_}
 use mathlib.Core.List.{List}
 use lib.ListN.{length}
-use Rattle.table.specs.Records.{nodes}
-use Rattle.table.specs.Inside.{Loaded}
+use Rattle.table.specs.Records.{sizeAt}
+use Rattle.table.specs.Inside.{Rooted}
 use Rattle.state.specs.Resting.{zeroNode, zeroNodes, rests}
 
 -- r is the first of the nodes from i to n of which it doesn't hold; n if it holds of all
@@ -20,7 +20,7 @@ abbrev pub Nearest : List ℕ → ℕ → ℕ → ℕ → Type 0
 Nearest s i n near = First (zeroNode s) i n near
 
 abbrev pub Blamed : List ℕ → List ℕ → ℕ → ℕ → Type 0
-Blamed t s i low = First (rests t s) i (nodes t) low
+Blamed t s i low = First (rests t s) i (sizeAt t 0) low
 
 -- the nodes from r to near have no byte but zeros, and r is the first such
 pub record ZeroFrom (s : List ℕ) (near r : ℕ) : Type 0 where
@@ -34,13 +34,13 @@ pub record Tells (s : List ℕ) (near a m : ℕ) : Type 0 where
   pub all-zero : a + m ≤ near → zeroNodes s a m ≡ true
   pub not-zero : a ≤ near → near < a + m → zeroNodes s a m ≡ false
 
--- the nodes of a loaded table from i on can be judged: their state is there, and the first that isn't zero is known
+-- the nodes from i on of the subtree at node 0 can be judged: their state is there, and the first that isn't zero is known
 pub record Judged (t s : List ℕ) (i near : ℕ) : Type 0 where
-  pub loaded : Loaded t
-  pub room : 4 * nodes t ≤ length s
-  pub nearest : Nearest s i (nodes t) near
+  pub rooted : Rooted t (sizeAt t 0)
+  pub room : 4 * sizeAt t 0 ≤ length s
+  pub nearest : Nearest s i (sizeAt t 0) near
 
 -- node i can, by what stands behind it
 pub record Judging (t s : List ℕ) (i near : ℕ) : Type 0 where
-  pub inside : i < nodes t
+  pub inside : i < sizeAt t 0
   pub behind : Judged t s (i + 1) near

@@ -1,4 +1,4 @@
--- The kinds of nodes by name (01, "The table"; L14).
+-- The kinds of nodes by name (01, "The table"; L8, L14).
 use Prim.Native.Nat.{ℕ}
 
 abbrev pub nothing-kind : ℕ
@@ -39,6 +39,9 @@ control-kind = 11
 
 abbrev pub local-kind : ℕ
 local-kind = 12
+
+abbrev pub freezable-kind : ℕ
+freezable-kind = 13
 
 abbrev pub if-kind : ℕ
 if-kind = 14

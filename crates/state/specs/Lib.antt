@@ -1,4 +1,5 @@
 pub mod Kinds
 pub mod StateBytes
+pub mod Pieces
 pub mod Resting
 pub mod Inside

@@ -1,5 +1,5 @@
--- States at rest, in the raw bytes (01, "State"; L14: "If keeps When's phases, RepeatExt Repeat's, its count below the cap"): which node is to
--- blame for one that isn't.
+-- States at rest, in the raw bytes (01, "State"; L8: "phase 1 is the pending form and isn't at rest"; L14: "If keeps When's phases, RepeatExt
+-- Repeat's, its count below the cap"): which node is to blame for one that isn't.
 use Prim.Native.Nat.{ℕ, zero, suc, _+_, _-_, _*_}
 use mathlib.Core.Bool.{Bool, true, cond, not, _&&_, _||_}
 use mathlib.Core.List.{List}

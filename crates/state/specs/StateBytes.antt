@@ -7,7 +7,7 @@ use Rattle.junior.specs.declared.Flag.{Flag}
 use Rattle.junior.specs.declared.Flag.the-variants.{SUSP, STOP, TERM}
 use Rattle.junior.specs.Program.{Program, size}
 use Rattle.junior.specs.Term.{Term, done, nothing, stop, atom, generate, await, seq0, seq2, par, loop0, loop1, repeat0}
-use Rattle.junior.specs.Term.{repeat1, when0, when1, when2, until0, until*, until2, control, local, if0, if1, if2}
+use Rattle.junior.specs.Term.{repeat1, when0, when1, when2, until0, until*, until2, control, local, freezable0, freezable*, if0, if1, if2}
 
 pub record Own : Type 0 where
   pub phase : ℕ
@@ -45,6 +45,8 @@ head (until* c t q) = in-phase 1
 head (until2 c p t) = in-phase 2
 head (control s t) = in-phase 0
 head (local b s t) = in-phase (cond b 1 0)
+head (freezable0 s t) = in-phase 0
+head (freezable* s t) = in-phase 1
 head (if0 v p q) = in-phase 0
 head (if1 v t q) = in-phase 1
 head (if2 v p t) = in-phase 2
@@ -79,6 +81,8 @@ below (until* c t q) = before (head t) (below t) ++ zeros q
 below (until2 c p t) = zeros p ++ before (head t) (below t)
 below (control s t) = before (head t) (below t)
 below (local b s t) = before (head t) (below t)
+below (freezable0 s t) = before (head t) (below t)
+below (freezable* s t) = before (head t) (below t)
 below (if0 v p q) = zeros p ++ zeros q
 below (if1 v t q) = before (head t) (below t) ++ zeros q
 below (if2 v p t) = zeros p ++ before (head t) (below t)

@@ -1,15 +1,16 @@
 // Refusal 10: a state that isn't at rest (specs/Resting.antt). The nodes with a byte other than zero are met from the last to the first.
 // The last one met is the nearest such node, `near`, behind all nodes that are still to judge, and so tells which subtrees are all zero.
 ghost use mathlib.Core.Path.{_≡_};
-ghost use mathlib.Core.Bool.{cond, _&&_, _||_};
+ghost use mathlib.Core.Bool.{cond, not, _&&_, _||_};
 ghost use Prim.Native.Nat.{_+_, _*_, _<_, _≤_};
 ghost use lib.Dec.{eqb, leb};
 ghost use lib.ListN.{length};
-ghost use Rattle.table.specs.Records.{nodes, kindAt, secondAt};
+ghost use Rattle.events.specs.Events.{lowest};
+ghost use Rattle.table.specs.Records.{kindAt, sizeAt, secondAt};
 ghost use Rattle.table.specs.Good.{children};
-ghost use Rattle.table.specs.Inside.{Loaded};
+ghost use Rattle.table.specs.Inside.{Rooted};
 ghost use Rattle.state.specs.Resting.{phaseAt, flagsAt, countAt, zeroNodes, firstZero, secondZero};
-ghost use Rattle.state.specs.Resting.{branchRests, phaseRests, flagsRest, countRests, rests, blamed};
+ghost use Rattle.state.specs.Resting.{branchRests, phaseRests, flagsRest, countRests, rests};
 ghost use Rattle.state.specs.Inside.{ZeroFrom, Tells, Judged, Judging, Blamed};
 use table::records::argument_at;
 use table::records::kind_at;
@@ -128,9 +129,9 @@ fn phase_rests(table: &[u8], state: &[u8], i: usize, near: usize, k: usize, phas
 
 // Whether the flags of node i, of kind k, rest.
 fn flags_rest(table: &[u8], state: &[u8], i: usize, k: usize, flags: usize) -> bool
-    requires { ⌜ Loaded (now table) ⌝ }
-    requires { ⌜ 4 * nodes (now table) ≤ length (now state) ⌝ }
-    requires { ⌜ (i < nodes (now table)) × (k ≡ kindAt (now table) i) ⌝ }
+    requires { ⌜ Rooted (now table) (sizeAt (now table) 0) ⌝ }
+    requires { ⌜ 4 * sizeAt (now table) 0 ≤ length (now state) ⌝ }
+    requires { ⌜ (i < sizeAt (now table) 0) × (k ≡ kindAt (now table) i) ⌝ }
     ensures { λ r. ⌜ r ≡ cond (eqb k 4) (flagsRest (now (table .entry)) (now (state .entry)) i flags) (eqb flags 0) ⌝ }
 {
     if flags == 0 {
@@ -228,12 +229,12 @@ fn zero_from(state: &[u8], near: usize) -> usize
     0
 }
 
-// The lowest node to blame for a state that isn't at rest; n if none is.
+// The lowest node to blame for a state that isn't at rest; n if none is. The table's first n records are a subtree: all of a table's, or those of a
+// part of it from its first record on.
 pub fn first_blamed(table: &[u8], n: usize, state: &[u8]) -> usize
-    requires { ⌜ Loaded (now table) ⌝ }
-    requires { ⌜ n ≡ nodes (now table) ⌝ }
+    requires { ⌜ Rooted (now table) n ⌝ }
     requires { ⌜ 4 * n ≤ length (now state) ⌝ }
-    ensures { λ r. ⌜ r ≡ blamed (now (table .entry)) (now (state .entry)) ⌝ }
+    ensures { λ r. ⌜ r ≡ lowest n (λ i. not (rests (now (table .entry)) (now (state .entry)) i)) ⌝ }
 {
     let mut near = n;
     let mut low = n;

@@ -16,7 +16,7 @@ use Rattle.table.specs.Spells.{Configured, tested}
 use Rattle.table.specs.Inside.Ranks.{unranked}
 use Rattle.state.specs.Kinds.{await-kind}
 use Rattle.state.proofs.Shape.{shape-by}
-use Rattle.steps.specs.Running.{TestRead, Runs}
+use Rattle.steps.specs.Running.{Rooms, TestRead, Runs}
 use Rattle.steps.proofs.Children.{own-in}
 use Rattle.steps.proofs.LeafParts.{await-has, await-waits, await-fails, await-ends, await-stops}
 use Rattle.steps.proofs.Tally.{not-ended, is-ended}
@@ -63,15 +63,15 @@ lone-sat : (table : List ℕ) (i : ℕ) (m : List ℕ) → partKind table (teste
 unfolding unranked
 lone-sat table i m k here = lone-ranked table i m k true here
 
-module _ {table : List ℕ} {i : ℕ} {state m row : List ℕ} (on : getD state (4 * i) 0 ≢ 3) where
-  pub await-tests : CanRun 0 (OfKind await-kind) (lent table state m row) i → CanTest table i m
+module _ {table : List ℕ} {i : ℕ} {state m : List ℕ} {rooms : Rooms} (on : getD state (4 * i) 0 ≢ 3) where
+  pub await-tests : CanRun 0 (OfKind await-kind) (lent table state m rooms) i → CanTest table i m
   await-tests (before, part, behind, o) =
       let (t, w, h) = o .live in
       record { has = await-has (shape-by t w refl) (λ e. on (phase-is (o .around) h ∙ e)) h; row = o .numbers }
 
   -- a lone event that is absent: it answers whether the end is declared
   pub lone-run : partKind table (tested table i) ≡ 0 → marks (wordsOf m) (partEvent table (tested table i)) ≡ false
-      → HasRun 0 (OfKind await-kind) (lent table state m row) i (lent table state m row) (getD m ended-at 0)
+      → HasRun 0 (OfKind await-kind) (lent table state m rooms) i (lent table state m rooms) (getD m ended-at 0)
   lone-run k a before part behind o =
       record {
         part′ = part;
@@ -82,13 +82,13 @@ module _ {table : List ℕ} {i : ℕ} {state m row : List ℕ} (on : getD state 
       }
     where
       go : (n : ℕ) → n < 2 → TestRead table i (wordsOf m) (tallyOf m) (verdict (ltb 0 n) false)
-          → Runs 0 (OfKind await-kind) table i part (wordsOf m) row (tallyOf m) part (wordsOf m) row (tallyOf m) (flagOf n)
+          → Runs 0 (OfKind await-kind) table i part (wordsOf m) rooms (tallyOf m) part (wordsOf m) rooms (tallyOf m) (flagOf n)
       go zero l reads t w h P at = await-waits reads (shape-by t w refl) (λ e. on (phase-is (o .around) h ∙ e)) h refl
       go (suc zero) l reads t w h P at = await-fails reads (shape-by t w refl) (λ e. on (phase-is (o .around) h ∙ e)) h refl
       go (suc (suc n)) l reads t w h P at = absurd (omega arith)
 
   module _ {r : ℕ} (reads : TestRanked table i m r) where
-    pub await-suspends : r ≡ 1 → HasRun 0 (OfKind await-kind) (lent table state m row) i (lent table state m row) 0
+    pub await-suspends : r ≡ 1 → HasRun 0 (OfKind await-kind) (lent table state m rooms) i (lent table state m rooms) 0
     await-suspends is before part behind o =
         record {
           part′ = part;
@@ -98,7 +98,7 @@ module _ {table : List ℕ} {i : ℕ} {state m row : List ℕ} (on : getD state 
           runs = λ t w h P at. await-waits reads (shape-by t w refl) (λ e. on (phase-is (o .around) h ∙ e)) h (ranked-1 is);
         }
 
-    pub await-refused : r ≡ 0 → HasRun 0 (OfKind await-kind) (lent table state m row) i (lent table state m row) 1
+    pub await-refused : r ≡ 0 → HasRun 0 (OfKind await-kind) (lent table state m rooms) i (lent table state m rooms) 1
     await-refused is before part behind o =
         record {
           part′ = part;
@@ -108,7 +108,7 @@ module _ {table : List ℕ} {i : ℕ} {state m row : List ℕ} (on : getD state 
           runs = λ t w h P at. await-fails reads (shape-by t w refl) (λ e. on (phase-is (o .around) h ∙ e)) h (ranked-0 is);
         }
 
-    pub await-met : r ≢ 1 → r ≢ 0 → getD m ended-at 0 ≡ 0 → HasRun 0 (OfKind await-kind) (lent table state m row) i (lent table state m row) 2
+    pub await-met : r ≢ 1 → r ≢ 0 → getD m ended-at 0 ≡ 0 → HasRun 0 (OfKind await-kind) (lent table state m rooms) i (lent table state m rooms) 2
     await-met a b z before part behind o =
         record {
           part′ = part;
@@ -120,7 +120,7 @@ module _ {table : List ℕ} {i : ℕ} {state m row : List ℕ} (on : getD state 
         }
 
     pub await-met-late : r ≢ 1 → r ≢ 0 → getD m ended-at 0 ≢ 0
-        → HasRun 0 (OfKind await-kind) (lent table state m row) i (lent table (set state (4 * i) 3) m row) 1
+        → HasRun 0 (OfKind await-kind) (lent table state m rooms) i (lent table (set state (4 * i) 3) m rooms) 1
     await-met-late a b z before part behind o =
         record {
           part′ = set part 0 3;
@@ -133,11 +133,11 @@ module _ {table : List ℕ} {i : ℕ} {state m row : List ℕ} (on : getD state 
 
   -- one that is present
   module _ (k : partKind table (tested table i) ≡ 0) (here : marks (wordsOf m) (partEvent table (tested table i)) ≡ true) where
-    pub lone-met : getD m ended-at 0 ≡ 0 → HasRun 0 (OfKind await-kind) (lent table state m row) i (lent table state m row) 2
+    pub lone-met : getD m ended-at 0 ≡ 0 → HasRun 0 (OfKind await-kind) (lent table state m rooms) i (lent table state m rooms) 2
     lone-met z = await-met (lone-sat table i m k here) (λ e. omega arith) (λ e. omega arith) z
 
     pub lone-met-late : getD m ended-at 0 ≢ 0
-        → HasRun 0 (OfKind await-kind) (lent table state m row) i (lent table (set state (4 * i) 3) m row) 1
+        → HasRun 0 (OfKind await-kind) (lent table state m rooms) i (lent table (set state (4 * i) 3) m rooms) 1
     lone-met-late z = await-met-late (lone-sat table i m k here) (λ e. omega arith) (λ e. omega arith) z
 
 -- what the test for a lone event says

@@ -11,16 +11,16 @@ use Rattle.junior.specs.declared.Flag.{Flag}
 use Rattle.junior.specs.declared.Flag.the-variants.{SUSP, STOP, TERM}
 use Rattle.junior.specs.Flags.{γ, δ₁, δ₂}
 use Rattle.state.specs.StateBytes.{code}
-use Rattle.steps.specs.Running.{Live, Any, isTERM, gone, ended, parEnd}
+use Rattle.steps.specs.Running.{Rooms, Live, Any, isTERM, gone, ended, parEnd}
 use Rattle.steps.specs.Numbers.{Numbers, wordsOf, tallyOf}
 use Rattle.steps.specs.Flags.{parEndAt}
 use Rattle.steps.specs.Lent.{lent, Around, Stands}
 use Rattle.steps.proofs.Context.{put-byte, inner}
 
-pub child-stands : {table : List ℕ} {i : ℕ} {state m row before part behind : List ℕ} → Around state i before part behind
+pub child-stands : {table : List ℕ} {i : ℕ} {state m : List ℕ} {rooms : Rooms} {before part behind : List ℕ} → Around state i before part behind
     → Numbers table m → (a k : ℕ) {j : ℕ} → a ≤ length part → 4 * i + a ≡ 4 * j
-    → Live 0 Any table j (midOf a k part) (wordsOf m) row (tallyOf m)
-    → Stands 0 Any (lent table state m row) j (before ++ take a part) (midOf a k part) (drop k (drop a part) ++ behind)
+    → Live 0 Any table j (midOf a k part) (wordsOf m) rooms (tallyOf m)
+    → Stands 0 Any (lent table state m rooms) j (before ++ take a part) (midOf a k part) (drop k (drop a part) ++ behind)
 child-stands o n a k l e v = record { around = inner o a k l e; numbers = n; live = v }
 
 -- the bytes before a part stay when it is back

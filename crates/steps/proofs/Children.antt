@@ -12,6 +12,7 @@ use Rattle.junior.specs.declared.Flag.{Flag}
 use Rattle.junior.specs.Program.{Program, size}
 use Rattle.junior.specs.Term.{Term, prog}
 use Rattle.junior.specs.Trace.{Place}
+use Rattle.junior.specs.Figures.{per, parking}
 use Rattle.junior.specs.Inside.{Going}
 use Rattle.table.specs.Records.{sizeAt}
 use Rattle.table.specs.Inside.{Placed}
@@ -20,10 +21,10 @@ use Rattle.table.proofs.Loaded.{size-of, in-table}
 use Rattle.state.specs.StateBytes.{Own, head, below, stateBytes}
 use Rattle.state.proofs.Parts.{blank, len-bytes, own-of, own-below, part-is, put-is, own-phase}
 use Rattle.state.proofs.Frames.{Frame, size-in, spells-in}
-use Rattle.steps.specs.Running.{Ready, Ran, Live, Runs, Any}
+use Rattle.steps.specs.Running.{Rooms, Ready, Ran, Live, Runs, Any}
 
-module _ {skip : ℕ} {table : List ℕ} {i : ℕ} {state words row tally : List ℕ} {t : Term}
-    (h : Ready skip table i state words row tally t) where
+module _ {skip : ℕ} {table : List ℕ} {i : ℕ} {state words : List ℕ} {rooms : Rooms} {tally : List ℕ} {t : Term}
+    (h : Ready skip table i state words rooms tally t) where
   -- a byte that is not skipped
   pub byte-is : (k : ℕ) → skip ≤ k → getD state k 0 ≡ getD (stateBytes t) k 0
   byte-is k l =
@@ -46,13 +47,13 @@ module _ {skip : ℕ} {table : List ℕ} {i : ℕ} {state words row tally : List
   pub own-in : (k : ℕ) → k < 4 → k < length state
   own-in k l = omega (arith, size-pos (prog t), h .long)
 
-module _ {table : List ℕ} {i : ℕ} {state words row tally : List ℕ} {t : Term}
-    (h : Ready 0 table i state words row tally t) where
+module _ {table : List ℕ} {i : ℕ} {state words : List ℕ} {rooms : Rooms} {tally : List ℕ} {t : Term}
+    (h : Ready 0 table i state words rooms tally t) where
   pub phase-is : own-phase state ≡ head t .phase
   phase-is = byte-is h 0 (omega arith)
 
   -- looked at less closely
-  pub unseen : (skip : ℕ) → Ready skip table i state words row tally t
+  pub unseen : (skip : ℕ) → Ready skip table i state words rooms tally t
   unseen skip =
       record {
         placed = h .placed;
@@ -63,28 +64,29 @@ module _ {table : List ℕ} {i : ℕ} {state words row tally : List ℕ} {t : Te
         bytes = ap (drop skip) (h .bytes);
         going = h .going;
         room = h .room;
+        store-room = h .store-room;
       }
 
 -- a node's falling number: its size first, then a rank at the node, run_node's being the highest
 abbrev pub falling : List ℕ → ℕ → ℕ → ℕ
 falling table i rank = 4 * sizeAt table i + rank
 
-pub falls : {skip : ℕ} {table : List ℕ} {i : ℕ} {state words row tally : List ℕ} {t : Term} {k : ℕ} (rank lower : ℕ)
-    → Ready skip table i state words row tally t
+pub falls : {skip : ℕ} {table : List ℕ} {i : ℕ} {state words : List ℕ} {rooms : Rooms} {tally : List ℕ} {t : Term} {k : ℕ} (rank lower : ℕ)
+    → Ready skip table i state words rooms tally t
     → falling table i rank ≡ k
     → lower < rank
     → falling table i lower < k
 falls rank lower h e l = omega arith
 
 -- what run_node asks for a smaller x: the falling number, and that it is live
-pub asks-for : {skip : ℕ} {table : List ℕ} {i : ℕ} {state words row tally : List ℕ} {t : Term} {k : ℕ}
-    → Ready skip table i state words row tally t
+pub asks-for : {skip : ℕ} {table : List ℕ} {i : ℕ} {state words : List ℕ} {rooms : Rooms} {tally : List ℕ} {t : Term} {k : ℕ}
+    → Ready skip table i state words rooms tally t
     → (rank : ℕ)
     → falling table i rank ≡ k
-    → {j : ℕ} {part words₁ row₁ tally₁ : List ℕ} {x : Term}
-    → Ready 0 table j part words₁ row₁ tally₁ x
+    → {j : ℕ} {part words₁ : List ℕ} {rooms₁ : Rooms} {tally₁ : List ℕ} {x : Term}
+    → Ready 0 table j part words₁ rooms₁ tally₁ x
     → size (prog x) < size (prog t)
-    → (falling table j 3 < k) × Live 0 Any table j part words₁ row₁ tally₁
+    → (falling table j 3 < k) × Live 0 Any table j part words₁ rooms₁ tally₁
 asks-for h rank e {x = x} c l = (omega (arith, size-of (c .placed), size-of (h .placed)), (x, tt, c))
 
 -- the child x's part of its node's state, from byte a to byte e
@@ -93,7 +95,7 @@ pub record Cut (ahead : ℕ) (x : Term) (a e : ℕ) : Type 0 where
   pub till : e ≡ a + 4 * size (prog x)
 
 module _ {own : Own} {ahead behind : ℕ} {f : Term → Term} (o : Frame own ahead behind f) {skip : ℕ} {table : List ℕ}
-    {i : ℕ} {state words row tally : List ℕ} {x : Term} (h : Ready skip table i state words row tally (f x)) where
+    {i : ℕ} {state words : List ℕ} {rooms : Rooms} {tally : List ℕ} {x : Term} (h : Ready skip table i state words rooms tally (f x)) where
   child-placed : Placed table (i + 1 + ahead) (prog x)
   child-placed =
       record {
@@ -122,7 +124,7 @@ module _ {own : Own} {ahead behind : ℕ} {f : Term → Term} (o : Frame own ahe
     pub child : skip ≤ 4 → {j : ℕ} → j ≡ i + 1 + ahead → {words₁ : List ℕ}
         → 64 * length words₁ ≡ places
         → Going (marks words₁) x
-        → Ready 0 table j (midOf a (e - a) state) words₁ row tally x
+        → Ready 0 table j (midOf a (e - a) state) words₁ rooms tally x
     child low at-j w g =
         let part =
         part-is state (own-of state (blank ahead)) (stateBytes x) (blank behind) (split low) a e own-long to-end in
@@ -134,7 +136,8 @@ module _ {own : Own} {ahead behind : ℕ} {f : Term → Term} (o : Frame own ahe
           long = ap length part ∙ len-bytes x;
           bytes = part;
           going = g;
-          room = omega (arith, h .room, o .pot-in x);
+          room = omega (arith, h .room, o .pot-in (per 2) x);
+          store-room = omega (arith, h .store-room, o .pot-in parking x);
         }
 
     pub put-back : skip ≤ 4 → (s : List ℕ) → putMid a (e - a) state s ≡ own-of state (blank ahead ++ (s ++ blank behind))
@@ -144,17 +147,17 @@ module _ {own : Own} {ahead behind : ℕ} {f : Term → Term} (o : Frame own ahe
     pub asks : skip ≤ 4 → {j m : ℕ} (rank : ℕ) → falling table i rank ≡ m → j ≡ i + 1 + ahead → {words₁ : List ℕ}
         → 64 * length words₁ ≡ places
         → Going (marks words₁) x
-        → (falling table j 3 < m) × Live 0 Any table j (midOf a (e - a) state) words₁ row tally
+        → (falling table j 3 < m) × Live 0 Any table j (midOf a (e - a) state) words₁ rooms tally
     asks low rank z at-j w g = asks-for h rank z (child low at-j w g) (omega (arith, size-in o x))
 
     -- so it ran
-    pub child-ran : skip ≤ 4 → {j : ℕ} → j ≡ i + 1 + ahead → {words₁ s words′ row′ tally′ : List ℕ} {α : Flag}
+    pub child-ran : skip ≤ 4 → {j : ℕ} → j ≡ i + 1 + ahead → {words₁ s words′ : List ℕ} {rooms′ : Rooms} {tally′ : List ℕ} {α : Flag}
         → 64 * length words₁ ≡ places
         → Going (marks words₁) x
-        → Runs 0 Any table j (midOf a (e - a) state) words₁ row tally s words′ row′ tally′ α
+        → Runs 0 Any table j (midOf a (e - a) state) words₁ rooms tally s words′ rooms′ tally′ α
         → (Q : Place)
         → Q .node ≡ j
-        → Ran Q x words₁ row tally s words′ row′ tally′ α
+        → Ran Q x words₁ rooms tally s words′ rooms′ tally′ α
     child-ran low at-j w g run Q at = run x tt (child low at-j w g) Q at
 
 -- a place at a node, for what holds at any
@@ -172,8 +175,8 @@ pub second-at : {k i n : ℕ} → k ≡ i → (p : Program) → n ≡ size p →
 second-at at p e = omega arith
 
 -- where the parts of a first, a second and an only child lie
-module _ {skip : ℕ} {table : List ℕ} {i : ℕ} {state words row tally : List ℕ} {x : Term} {f : Term → Term}
-    (h : Ready skip table i state words row tally (f x)) where
+module _ {skip : ℕ} {table : List ℕ} {i : ℕ} {state words : List ℕ} {rooms : Rooms} {tally : List ℕ} {x : Term} {f : Term → Term}
+    (h : Ready skip table i state words rooms tally (f x)) where
   pub first-cut : {own : Own} {behind : ℕ} → Frame own 0 behind f
       → {n : ℕ}
       → n ≡ sizeAt table (i + 1)

@@ -1,12 +1,12 @@
 -- A node's bytes in the whole state: a byte of them by its index, a child's bytes in its parent's, and the parent's when the child is back.
 -- A child's surroundings are its parent's and its siblings: that is the whole framing.
 use Prim.Native.Nat.{ℕ, suc, _+_, _*_, _≤_, _<_}
-use mathlib.Core.Path.{_≡_, ap, sym, _∙_}
+use mathlib.Core.Path.{_≡_, refl, ap, sym, _∙_}
 use mathlib.Core.List.{List, [], _∷_, _++_, append-assoc}
 use native.Mathlib.Omega.{arith}
 use native.Mathlib.Nat.{add-zero}
 use lib.ListN.{length, getD, take, drop, set, length-append, List·getD-append}
-use lib.Seq.{getD-append-add, set-append-left, length-take-le}
+use lib.Seq.{getD-append-add, set-append-left, take-at, drop-at, length-take-le}
 use borrow.Rule.Slice.PartMut.{midOf, putMid, put-same}
 use Rattle.steps.specs.Lent.{Around}
 
@@ -44,6 +44,19 @@ module _ {state : List ℕ} {i : ℕ} {before part behind : List ℕ} (o : Aroun
 
   pub put-phase : (v : ℕ) → 0 < length part → Around (set state (4 * i) v) i before (set part 0 v) behind
   put-phase v l = rw add-zero at (put-byte 0 v l)
+
+  -- a node's bytes, read and written anew
+  pub part-there : midOf (4 * i) (length part) state ≡ part
+  part-there = rw (o .split, drop-at before (part ++ behind) (4 * i) (o .starts), take-at part behind (length part) refl)
+
+  pub put-part : (s : List ℕ) → Around (putMid (4 * i) (length part) state s) i before s behind
+  put-part s =
+      let at = o .starts in
+      record {
+        split =
+            rw (o .split, take-at before (part ++ behind) (4 * i) at, drop-at before (part ++ behind) (4 * i) at, drop-at part behind (length part) refl);
+        starts = at;
+      }
 
   -- the part of k bytes behind the first a is node j's, and comes back as s
   module _ (a k : ℕ) {j : ℕ} where

@@ -1,30 +1,28 @@
 -- What can be read of a node that is to run; and a function that runs only some terms runs all that stand there.
 use Prim.Native.Nat.{ℕ, suc, _+_, _*_, _≤_, _<_}
-use mathlib.Core.Bool.{true, not, false≢true}
+use mathlib.Core.Bool.{true}
 use mathlib.Core.Path.{_≡_, sym, subst, _∙_}
 use mathlib.Core.Logic.{_≢_}
 use mathlib.Core.List.{List, [], _∷_}
 use native.Mathlib.Omega.{arith}
-use lib.Dec.{eqb, leb}
 use lib.ListN.{length, getD}
-use borrow.Author.Tests.{leb-true, eq-eqb}
+use borrow.Author.Tests.{leb-true}
 use Rattle.junior.specs.Term.{Term, prog}
 use Rattle.junior.specs.Program.{kind}
 use Rattle.table.specs.Records.{kindAt}
 use Rattle.table.specs.Good.{known}
-use Rattle.table.proofs.Laid.{both as both-so}
 use Rattle.table.proofs.Parts.{by-kind as its-kind}
 use Rattle.table.proofs.Loaded.{kind-of, own-node}
 use Rattle.state.specs.Kinds.{seq-kind, par-kind, await-kind, local-kind}
 use Rattle.state.specs.StateBytes.{head}
-use Rattle.steps.specs.Running.{Ready}
+use Rattle.steps.specs.Running.{Rooms, Ready}
 use Rattle.steps.proofs.Children.{byte-is, own-in}
 use Rattle.steps.specs.Numbers.{wordsOf, tallyOf}
 use Rattle.steps.specs.Kinds.{OfKind, BothSuspended, NotBoth, Others}
 use Rattle.steps.specs.Lent.{Lent, lent, Around, Stands, CanRun, HasRun}
 use Rattle.steps.proofs.Context.{byte-at, byte-in, phase-at, phase-in}
 
-module _ {skip : ℕ} {W : Term → Type 0} {table : List ℕ} {i : ℕ} {state m row : List ℕ} (o : CanRun skip W (lent table state m row) i) where
+module _ {skip : ℕ} {W : Term → Type 0} {table : List ℕ} {i : ℕ} {state m : List ℕ} {rooms : Rooms} (o : CanRun skip W (lent table state m rooms) i) where
   own-long : (k : ℕ) → k < 4 → k < length (o .1)
   own-long k l = own-in (o .3 .live .2) k l
 
@@ -50,19 +48,19 @@ module _ {skip : ℕ} {W : Term → Type 0} {table : List ℕ} {i : ℕ} {state 
   phase-reads = phase-in (o .3 .around) (own-long 0 (omega arith))
 
 -- a function that runs the terms of W runs those of U, if all of U that stand there are of W
-module _ {W U : Term → Type 0} {table : List ℕ} {i : ℕ} {state m row : List ℕ}
+module _ {W U : Term → Type 0} {table : List ℕ} {i : ℕ} {state m : List ℕ} {rooms : Rooms}
     (are : (before part behind : List ℕ) → Around state i before part behind → (t : Term)
-    → Ready 0 table i part (wordsOf m) row (tallyOf m) t → W t) where
-  pub narrow : {before part behind : List ℕ} → Stands 0 U (lent table state m row) i before part behind
-      → Stands 0 W (lent table state m row) i before part behind
+    → Ready 0 table i part (wordsOf m) rooms (tallyOf m) t → W t) where
+  pub narrow : {before part behind : List ℕ} → Stands 0 U (lent table state m rooms) i before part behind
+      → Stands 0 W (lent table state m rooms) i before part behind
   narrow o =
       let (t, u, h) = o .live in
       record { around = o .around; numbers = o .numbers; live = (t, are _ _ _ (o .around) t h, h) }
 
-  pub can-narrow : CanRun 0 U (lent table state m row) i → CanRun 0 W (lent table state m row) i
+  pub can-narrow : CanRun 0 U (lent table state m rooms) i → CanRun 0 W (lent table state m rooms) i
   can-narrow (before, part, behind, o) = (before, part, behind, narrow o)
 
-  pub widen : {L′ : Lent} {r : ℕ} → HasRun 0 W (lent table state m row) i L′ r → HasRun 0 U (lent table state m row) i L′ r
+  pub widen : {L′ : Lent} {r : ℕ} → HasRun 0 W (lent table state m rooms) i L′ r → HasRun 0 U (lent table state m rooms) i L′ r
   widen run before part behind o =
       let g = run before part behind (narrow o) in
       record {
@@ -73,13 +71,13 @@ module _ {W U : Term → Type 0} {table : List ℕ} {i : ℕ} {state m row : Lis
         runs = λ t u h. g .runs t (are _ _ _ (o .around) t h) h;
       }
 
-kind-is : {table : List ℕ} {i : ℕ} {part words row tally : List ℕ} {t : Term} {n : ℕ} → n ≡ kindAt table i
-    → Ready 0 table i part words row tally t → kind (prog t) ≡ n
+kind-is : {table : List ℕ} {i : ℕ} {part words : List ℕ} {rooms : Rooms} {tally : List ℕ} {t : Term} {n : ℕ} → n ≡ kindAt table i
+    → Ready 0 table i part words rooms tally t → kind (prog t) ≡ n
 kind-is read h = sym (kind-of (h .placed)) ∙ sym read
 
 -- the bytes in the state that say a node's phase and flags
 module _ {state : List ℕ} {i : ℕ} {before part behind : List ℕ} (a : Around state i before part behind)
-    {table words row tally : List ℕ} {t : Term} (h : Ready 0 table i part words row tally t) where
+    {table words : List ℕ} {rooms : Rooms} {tally : List ℕ} {t : Term} (h : Ready 0 table i part words rooms tally t) where
   pub phase-is : getD state (4 * i) 0 ≡ head t .phase
   phase-is = phase-at a (own-in h 0 (omega arith)) ∙ byte-is h 0 (omega arith)
 
@@ -88,7 +86,7 @@ module _ {state : List ℕ} {i : ℕ} {before part behind : List ℕ} (a : Aroun
 
 -- what stands there is of the kind that the code has read, n; a Par, by its phase and its flags
 module _ {state : List ℕ} {i : ℕ} {before part behind : List ℕ} (a : Around state i before part behind)
-    {table words row tally : List ℕ} {t : Term} (h : Ready 0 table i part words row tally t) {n : ℕ} (read : n ≡ kindAt table i) where
+    {table words : List ℕ} {rooms : Rooms} {tally : List ℕ} {t : Term} (h : Ready 0 table i part words rooms tally t) {n : ℕ} (read : n ≡ kindAt table i) where
   of-kind : {k : ℕ} → n ≡ k → OfKind k t
   of-kind is = kind-is read h ∙ is
 
@@ -102,45 +100,41 @@ module _ {state : List ℕ} {i : ℕ} {before part behind : List ℕ} (a : Aroun
   other x y z =
       (λ e. x (sym (kind-is read h) ∙ e), λ e. y (sym (kind-is read h) ∙ e), λ e. z (sym (kind-is read h) ∙ e))
 
-module _ {U : Term → Type 0} {table : List ℕ} {i : ℕ} {state m row : List ℕ} {n : ℕ} (read : n ≡ kindAt table i) where
-  pub to-kind : {k : ℕ} → n ≡ k → CanRun 0 U (lent table state m row) i → CanRun 0 (OfKind k) (lent table state m row) i
+module _ {U : Term → Type 0} {table : List ℕ} {i : ℕ} {state m : List ℕ} {rooms : Rooms} {n : ℕ} (read : n ≡ kindAt table i) where
+  pub to-kind : {k : ℕ} → n ≡ k → CanRun 0 U (lent table state m rooms) i → CanRun 0 (OfKind k) (lent table state m rooms) i
   to-kind is o = can-narrow (λ b p q a t h. of-kind a h read is) o
 
-  pub by-kind : {L′ : Lent} {r k : ℕ} → n ≡ k → HasRun 0 (OfKind k) (lent table state m row) i L′ r
-      → HasRun 0 U (lent table state m row) i L′ r
+  pub by-kind : {L′ : Lent} {r k : ℕ} → n ≡ k → HasRun 0 (OfKind k) (lent table state m rooms) i L′ r
+      → HasRun 0 U (lent table state m rooms) i L′ r
   by-kind is run = widen (λ b p q a t h. of-kind a h read is) run
 
   module _ (is : n ≡ par-kind) where
-    pub to-both : (getD state (4 * i) 0 ≡ 0) × (getD state (4 * i + 1) 0 ≡ 0) → CanRun 0 U (lent table state m row) i
-        → CanRun 0 BothSuspended (lent table state m row) i
+    pub to-both : (getD state (4 * i) 0 ≡ 0) × (getD state (4 * i + 1) 0 ≡ 0) → CanRun 0 U (lent table state m rooms) i
+        → CanRun 0 BothSuspended (lent table state m rooms) i
     to-both z o = can-narrow (λ b p q a t h. both a h read is z) o
 
     pub by-both : {L′ : Lent} {r : ℕ} → (getD state (4 * i) 0 ≡ 0) × (getD state (4 * i + 1) 0 ≡ 0)
-        → HasRun 0 BothSuspended (lent table state m row) i L′ r → HasRun 0 U (lent table state m row) i L′ r
+        → HasRun 0 BothSuspended (lent table state m rooms) i L′ r → HasRun 0 U (lent table state m rooms) i L′ r
     by-both z run = widen (λ b p q a t h. both a h read is z) run
 
-    pub to-half : (getD state (4 * i) 0 ≡ 0 → getD state (4 * i + 1) 0 ≢ 0) → CanRun 0 U (lent table state m row) i
-        → CanRun 0 NotBoth (lent table state m row) i
+    pub to-half : (getD state (4 * i) 0 ≡ 0 → getD state (4 * i + 1) 0 ≢ 0) → CanRun 0 U (lent table state m rooms) i
+        → CanRun 0 NotBoth (lent table state m rooms) i
     to-half z o = can-narrow (λ b p q a t h. half a h read is z) o
 
     pub by-half : {L′ : Lent} {r : ℕ} → (getD state (4 * i) 0 ≡ 0 → getD state (4 * i + 1) 0 ≢ 0)
-        → HasRun 0 NotBoth (lent table state m row) i L′ r → HasRun 0 U (lent table state m row) i L′ r
+        → HasRun 0 NotBoth (lent table state m rooms) i L′ r → HasRun 0 U (lent table state m rooms) i L′ r
     by-half z run = widen (λ b p q a t h. half a h read is z) run
 
   module _ (x : n ≢ par-kind) (y : n ≢ await-kind) (z : n ≢ seq-kind) where
-    pub to-others : CanRun 0 U (lent table state m row) i → CanRun 0 Others (lent table state m row) i
+    pub to-others : CanRun 0 U (lent table state m rooms) i → CanRun 0 Others (lent table state m rooms) i
     to-others o = can-narrow (λ b p q a t h. other a h read x y z) o
 
-    pub by-others : {L′ : Lent} {r : ℕ} → HasRun 0 Others (lent table state m row) i L′ r → HasRun 0 U (lent table state m row) i L′ r
+    pub by-others : {L′ : Lent} {r : ℕ} → HasRun 0 Others (lent table state m rooms) i L′ r → HasRun 0 U (lent table state m rooms) i L′ r
     by-others run = widen (λ b p q a t h. other a h read x y z) run
 
 -- a kind that there is, from 12 on
-between : (k : ℕ) → 12 ≤ k → known k ≡ true → k ≢ 14 → k ≢ 15 → k ≡ 12
-between k l h a b =
-    let (most, other) = both-so {a = leb k 15} {b = not (eqb k 13)} h in
-    let not-13 : (k ≢ 13) = λ e. false≢true (rw (eq-eqb k 13 e) at other) in
-    let up : k ≤ 15 = leb-true k 15 most in
-    omega arith
+between : (k : ℕ) → 12 ≤ k → known k ≡ true → k ≢ 13 → k ≢ 14 → k ≢ 15 → k ≡ 12
+between k l h a b c = omega (arith, leb-true k 15 h)
 
 -- n is none of these numbers
 abbrev pub none-of : List ℕ → ℕ → Type 0
@@ -151,16 +145,16 @@ past : {k n : ℕ} → k ≤ n → n ≢ k → suc k ≤ n
 past l d = omega arith
 
 -- what no arm before the last takes, and is none of the kinds told apart first, is a Local
-pub the-last : {table : List ℕ} {i : ℕ} {state m row : List ℕ} → CanRun 0 Others (lent table state m row) i → {n : ℕ} → n ≡ kindAt table i
-    → none-of (15 ∷ 14 ∷ 11 ∷ 10 ∷ 9 ∷ 7 ∷ 6 ∷ 5 ∷ 2 ∷ 1 ∷ 0 ∷ []) n → n ≡ local-kind
-the-last (before, part, behind, o) {n} read (((((((((((z, n0), n1), n2), n5), n6), n7), n9), n10), n11), n14), n15) =
+pub the-last : {table : List ℕ} {i : ℕ} {state m : List ℕ} {rooms : Rooms} → CanRun 0 Others (lent table state m rooms) i → {n : ℕ} → n ≡ kindAt table i
+    → none-of (15 ∷ 14 ∷ 13 ∷ 11 ∷ 10 ∷ 9 ∷ 7 ∷ 6 ∷ 5 ∷ 2 ∷ 1 ∷ 0 ∷ []) n → n ≡ local-kind
+the-last (before, part, behind, o) {n} read ((((((((((((z, n0), n1), n2), n5), n6), n7), n9), n10), n11), n13), n14), n15) =
     let (t, w, h) = o .live in
     let is = kind-is read h in
     let least : 0 ≤ n = omega arith in
     let beyond-2 = past (past (past least n0) n1) n2 in
     let beyond-7 = past (past (past (past (past beyond-2 (λ e. w .2 (is ∙ e))) (λ e. w .0 (is ∙ e))) n5) n6) n7 in
     let beyond-11 = past (past (past (past beyond-7 (λ e. w .1 (is ∙ e))) n9) n10) n11 in
-    between n beyond-11 (rw is at (its-kind (prog t) .known-kind)) n14 n15
+    between n beyond-11 (rw is at (its-kind (prog t) .known-kind)) n13 n14 n15
 
 -- the node that the code has found is the one that the laws speak of
 pub run-at : {W : Term → Type 0} {L L′ : Lent} {r j k : ℕ} → j ≡ k → HasRun 0 W L j L′ r → HasRun 0 W L k L′ r

@@ -8,12 +8,13 @@ use Rattle.junior.specs.Term.{Term}
 use Rattle.state.proofs.Shape.{shape-by}
 use Rattle.steps.proofs.Children.{own-in, phase-is}
 use Rattle.steps.proofs.LeafParts.{done-ran}
+use Rattle.steps.specs.Running.{Rooms}
 use Rattle.steps.specs.Lent.{lent, HasRun}
 use Rattle.steps.proofs.Context.{phase-at, put-phase}
 use Rattle.steps.proofs.Row.{kept-same}
 
-pub done-run : {W : Term → Type 0} {table : List ℕ} {i : ℕ} {state m row : List ℕ} → getD state (4 * i) 0 ≡ 3
-    → HasRun 0 W (lent table state m row) i (lent table (set state (4 * i) 0) m row) 2
+pub done-run : {W : Term → Type 0} {table : List ℕ} {i : ℕ} {state m : List ℕ} {rooms : Rooms} → getD state (4 * i) 0 ≡ 3
+    → HasRun 0 W (lent table state m rooms) i (lent table (set state (4 * i) 0) m rooms) 2
 done-run {m = m} e before part behind o =
     let l = own-in (o .live .2) 0 (lit< tt) in
     record {

@@ -12,6 +12,8 @@ pub mod Tested
 pub mod Dispatch
 pub mod Ended
 pub mod LeafRuns
+pub mod Pending
+pub mod PendingRuns
 pub mod Awaits
 pub mod TestsRead
 pub mod ChildContext

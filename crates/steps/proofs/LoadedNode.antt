@@ -6,7 +6,7 @@ use native.Mathlib.Omega.{arith}
 use lib.ListN.{length}
 use Rattle.events.specs.Members.{places}
 use Rattle.junior.specs.Configuration.{Config}
-use Rattle.junior.specs.Program.{Program, Repeat, Generate, Await, When, Until, Control, Local, If, kind}
+use Rattle.junior.specs.Program.{Program, Repeat, Generate, Await, When, Until, Control, Local, Freezable, If, kind}
 use Rattle.junior.specs.Values.{Times, exactly, asked, most}
 use Rattle.table.specs.Records.{configurations, events, argumentAt, sizeAt}
 use Rattle.table.specs.Good.{argumentLimit}
@@ -23,7 +23,7 @@ module _ {table : List ℕ} {i : ℕ} {p : Program} (h : Placed table i p) where
   event-placed e = omega (arith, argument-below e, h .loaded .framed .v-most)
 
   has-test : argumentLimit table (kind p) ≡ configurations table → (c : Config) → Configured table (tested table i) c
-      → {tally : List ℕ} → length tally ≡ 5 → HasTest table i tally
+      → {tally : List ℕ} → length tally ≡ 6 → HasTest table i tally
   has-test e c s n =
       record { loaded = h .loaded; node = own-node h; tests = argument-below e; spelled = (c, s); tallied = n }
 
@@ -36,6 +36,10 @@ module _ {table : List ℕ} {i s : ℕ} where
   pub control-placed : {p : Program} → Placed table i (Control s p) → s < places
   unfolding Spells kind argumentLimit
   control-placed h = omega (arith, event-placed h refl, h .spelled .1)
+
+  pub freezable-placed : {p : Program} → Placed table i (Freezable s p) → s < places
+  unfolding Spells kind argumentLimit
+  freezable-placed h = omega (arith, event-placed h refl, h .spelled .1)
 
   pub local-placed : {p : Program} → Placed table i (Local s p) → s < places
   unfolding Spells kind argumentLimit
@@ -58,7 +62,7 @@ module _ {table : List ℕ} {i v : ℕ} where
   ext-placed h = omega (arith, h .spelled .1 .0)
 
 -- the configurations that nodes test
-module _ {table : List ℕ} {i : ℕ} {c : Config} {tally : List ℕ} (n : length tally ≡ 5) where
+module _ {table : List ℕ} {i : ℕ} {c : Config} {tally : List ℕ} (n : length tally ≡ 6) where
   pub await-test : Placed table i (Await c) → HasTest table i tally
   unfolding Spells kind argumentLimit
   await-test h = has-test h refl c (h .spelled .1) n

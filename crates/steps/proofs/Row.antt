@@ -2,11 +2,11 @@
 use Prim.Native.Nat.{ℕ, zero, suc, _+_, _*_, _/_, _%_, _^_, _≤_, _<_}
 use mathlib.Core.Bool.{Bool, true, false}
 use mathlib.Core.Path.{_≡_, refl, ap, sym, subst, _∙_}
-use mathlib.Core.Logic.{_≢_}
+use mathlib.Core.Logic.{_≢_, _⊎_, inl, inr}
 use mathlib.Core.List.{List, [], _∷_, _++_}
 use native.Mathlib.Omega.{arith}
 use mir.Val.{boolByte}
-use lib.Dec.{eqb}
+use lib.Dec.{eqb, lit<}
 use lib.ListN.{length, getD, take, drop, set, replicate, length-append, length-set, length-drop}
 use lib.Seq.{getD-append-add, getD-drop, getD-take, getD-set-same, getD-set-other, take-at, take-set-le, take-set-lt, length-take-le}
 use Rattle.events.specs.Events.{put}
@@ -16,7 +16,7 @@ use Rattle.events.proofs.Words.{marks-put}
 use Rattle.table.specs.Records.{nodes}
 use Rattle.table.specs.Reading.{event-words}
 use Rattle.steps.specs.Running.{valuesIn}
-use Rattle.steps.specs.Numbers.{atoms-at, moved-at, ended-at, base-at, values-at, places-of-row}
+use Rattle.steps.specs.Numbers.{atoms-at, moved-at, ended-at, base-at, values-at, parked-at, places-of-row}
 use Rattle.steps.specs.Numbers.{wordsOf, tallyOf, withWords, firstNumbers, nextNumbers, Numbers, Kept, Put}
 
 pub kept-same : (numbers : List ℕ) → Kept numbers numbers
@@ -67,7 +67,7 @@ module _ (m words : List ℕ) (l : length words ≡ event-words) where
       }
 
   pub words-tally : tallyOf (withWords words m) ≡ tallyOf m
-  words-tally = rw (behind 0, behind 1, behind 2, behind 4, behind 5)
+  words-tally = rw (behind 0, behind 1, behind 2, behind 6, behind 4, behind 5)
 
 -- one number of the tally written anew
 others : (m : List ℕ) (k v : ℕ) (j : ℕ) → k ≢ event-words + j → getD (set m k v) (event-words + j) 0 ≡ getD m (event-words + j) 0
@@ -80,6 +80,7 @@ module _ (m : List ℕ) (v : ℕ) (l : length m ≡ places-of-row) where
         getD-set-same m atoms-at v 0 (omega arith),
         others m atoms-at v 1 (λ e. omega arith),
         others m atoms-at v 2 (λ e. omega arith),
+        others m atoms-at v 6 (λ e. omega arith),
         others m atoms-at v 4 (λ e. omega arith),
         others m atoms-at v 5 (λ e. omega arith),
       )
@@ -90,6 +91,7 @@ module _ (m : List ℕ) (v : ℕ) (l : length m ≡ places-of-row) where
         others m moved-at v 0 (λ e. omega arith),
         getD-set-same m moved-at v 0 (omega arith),
         others m moved-at v 2 (λ e. omega arith),
+        others m moved-at v 6 (λ e. omega arith),
         others m moved-at v 4 (λ e. omega arith),
         others m moved-at v 5 (λ e. omega arith),
       )
@@ -100,8 +102,20 @@ module _ (m : List ℕ) (v : ℕ) (l : length m ≡ places-of-row) where
         others m ended-at v 0 (λ e. omega arith),
         others m ended-at v 1 (λ e. omega arith),
         getD-set-same m ended-at v 0 (omega arith),
+        others m ended-at v 6 (λ e. omega arith),
         others m ended-at v 4 (λ e. omega arith),
         others m ended-at v 5 (λ e. omega arith),
+      )
+
+  pub tally-3 : tallyOf (set m parked-at v) ≡ set (tallyOf m) 3 v
+  tally-3 =
+      rw (
+        others m parked-at v 0 (λ e. omega arith),
+        others m parked-at v 1 (λ e. omega arith),
+        others m parked-at v 2 (λ e. omega arith),
+        getD-set-same m parked-at v 0 (omega arith),
+        others m parked-at v 4 (λ e. omega arith),
+        others m parked-at v 5 (λ e. omega arith),
       )
 
 -- the row before the first pass
@@ -123,33 +137,43 @@ module _ (table words : List ℕ) (l : length words ≡ event-words) where
     based-long = length-set filled base-at base ∙ words-kept blank words l refl .long
 
     -- a number that none of the three is written to
-    apart : (j : ℕ) → j < 3 → getD (firstNumbers words low high base) (event-words + j) 0 ≡ 0
-    apart j h =
-        others valued (values-at + 1) high j (λ e. omega arith)
-        ∙ (others based values-at low j (λ e. omega arith) ∙ (others filled base-at base j (λ e. omega arith) ∙ zero-at j h))
+    apart : (j : ℕ) → (j < 3) ⊎ (5 < j) → getD filled (event-words + j) 0 ≡ 0 → getD (firstNumbers words low high base) (event-words + j) 0 ≡ 0
+    apart j a z =
+        others valued (values-at + 1) high j (differs j 5 a (lit< tt) (lit< tt))
+        ∙ (others based values-at low j (differs j 4 a (lit< tt) (lit< tt)) ∙ (others filled base-at base j (differs j 3 a (lit< tt) (lit< tt)) ∙ z))
       where
-        zero-at : (j : ℕ) → j < 3 → getD filled (event-words + j) 0 ≡ 0
-        zero-at zero h = behind blank words l 0
-        zero-at (suc zero) h = behind blank words l 1
-        zero-at (suc (suc zero)) h = behind blank words l 2
-        zero-at (suc (suc (suc j))) h = absurd (omega arith)
+        differs : (j k : ℕ) → (j < 3) ⊎ (5 < j) → 2 < k → k < 6 → event-words + k ≢ event-words + j
+        differs j k (inl l) a b e = omega arith
+        differs j k (inr l) a b e = omega arith
+
+    nothing-done : getD (firstNumbers words low high base) atoms-at 0 ≡ 0
+    nothing-done = apart 0 (inl (lit< tt)) (behind blank words l 0)
+
+    nothing-moved : getD (firstNumbers words low high base) moved-at 0 ≡ 0
+    nothing-moved = apart 1 (inl (lit< tt)) (behind blank words l 1)
+
+    nothing-ended : getD (firstNumbers words low high base) ended-at 0 ≡ 0
+    nothing-ended = apart 2 (inl (lit< tt)) (behind blank words l 2)
+
+    nothing-parked : getD (firstNumbers words low high base) parked-at 0 ≡ 0
+    nothing-parked = apart 6 (inr (lit< tt)) (behind blank words l 6)
 
     pub first-words : wordsOf (firstNumbers words low high base) ≡ words
     first-words =
         words-stay valued (values-at + 1) high (omega arith)
         ∙ (words-stay based values-at low (omega arith) ∙ (words-stay filled base-at base (omega arith) ∙ words-in blank words l))
 
-    pub first-tally : tallyOf (firstNumbers words low high base) ≡ 0 ∷ 0 ∷ 0 ∷ low ∷ high ∷ []
+    pub first-tally : tallyOf (firstNumbers words low high base) ≡ 0 ∷ 0 ∷ 0 ∷ 0 ∷ low ∷ high ∷ []
     first-tally =
         let low-is = others valued (values-at + 1) high 4 (λ e. omega arith) ∙ getD-set-same based values-at low 0 (omega (arith, based-long)) in
         let high-is = getD-set-same valued (values-at + 1) high 0 (omega (arith, length-set based values-at low, based-long)) in
-        rw (apart 0 (omega arith), apart 1 (omega arith), apart 2 (omega arith), low-is, high-is)
+        rw (nothing-done, nothing-moved, nothing-ended, nothing-parked, low-is, high-is)
 
     pub first-holds : base ≡ 6 * nodes table → Numbers table (firstNumbers words low high base)
     first-holds e =
         record {
           long = length-set valued (values-at + 1) high ∙ (length-set based values-at low ∙ based-long);
-          ended-below = rw (apart 2 (omega arith)) (omega arith);
+          ended-below = rw nothing-ended (omega arith);
           base =
               others valued (values-at + 1) high 3 (λ e. omega arith)
               ∙ (others based values-at low 3 (λ e. omega arith)
@@ -198,6 +222,7 @@ module _ (m : List ℕ) (e : ℕ) (l : length m ≡ places-of-row) (there : e < 
               other atoms-at (omega arith),
               other moved-at (omega arith),
               other ended-at (omega arith),
+              other parked-at (omega arith),
               other values-at (omega arith),
               other (values-at + 1) (omega arith),
             );
@@ -221,7 +246,7 @@ copy-more (suc k) (x ∷ xs) (y ∷ ys) l n = ap (λ (l : List ℕ). x ∷ l) (c
 pub value-at : (m : List ℕ) (v : ℕ) → v < 16 → getD m (values-at + v / 8) 0 / 2 ^ (8 * (v % 8)) % 256 ≡ valuesIn (tallyOf m) v
 value-at m v h = ap (λ n. n / 2 ^ (8 * (v % 8)) % 256) (go (v / 8) (omega arith))
   where
-    go : (k : ℕ) → k < 2 → getD m (values-at + k) 0 ≡ getD (tallyOf m) (3 + k) 0
+    go : (k : ℕ) → k < 2 → getD m (values-at + k) 0 ≡ getD (tallyOf m) (4 + k) 0
     go zero l = refl
     go (suc zero) l = refl
     go (suc (suc k)) l = absurd (omega arith)

@@ -4,7 +4,7 @@ use mathlib.Core.Path.{_≡_}
 use mathlib.Core.Logic.{_≢_, _⊎_}
 use Rattle.junior.specs.Program.{kind}
 use Rattle.junior.specs.Term.{Term, prog}
-use Rattle.state.specs.Kinds.{seq-kind, par-kind, loop-kind, await-kind, when-kind, until-kind, if-kind}
+use Rattle.state.specs.Kinds.{seq-kind, par-kind, loop-kind, await-kind, when-kind, until-kind, freezable-kind, if-kind}
 use Rattle.state.specs.StateBytes.{head}
 use Rattle.steps.specs.Running.{Phase, KindPhase}
 
@@ -37,7 +37,7 @@ NotBoth t = OfKind par-kind t × (head t .phase ≡ 0 → head t .flags ≢ 0)
 abbrev pub Choosing : ℕ → Type 0
 Choosing k = (k ≡ when-kind) ⊎ (k ≡ if-kind)
 
--- a Seq, When, Until or If in its second child; a When or an If in its first; a Loop whose body begins; an Until*
+-- a Seq, When, Until or If in its second child; a When or an If in its first; a Loop whose body begins; an Until*; a Freezable*
 abbrev pub InSecond : Term → Type 0
 InSecond = Phase 2
 
@@ -49,3 +49,6 @@ Beginning = KindPhase loop-kind 0
 
 abbrev pub Starred : Term → Type 0
 Starred = KindPhase until-kind 1
+
+abbrev pub Pending : Term → Type 0
+Pending = KindPhase freezable-kind 1

@@ -5,23 +5,32 @@ use mathlib.Core.List.{List, _++_}
 use lib.ListN.{length}
 use denote.Ref.{RefT}
 use Rattle.junior.specs.Term.{Term}
-use Rattle.steps.specs.Running.{Live, Runs}
+use Rattle.steps.specs.Running.{Rooms, rooms-of, Live, Runs}
 use Rattle.steps.specs.Numbers.{Numbers, Kept, wordsOf, tallyOf}
 use Rattle.steps.specs.Flags.{flagOf}
 
--- all that is lent; a room more changes this, `lent` and `held`
+-- all that is lent; a room more changes `Rooms` and `held`
 pub record Lent : Type 0 where
   pub table : List ℕ
   pub state : List ℕ
   pub numbers : List ℕ
-  pub row : List ℕ
+  pub rooms : Rooms
 
-abbrev pub lent : List ℕ → List ℕ → List ℕ → List ℕ → Lent
-lent table state numbers row = record { table = table; state = state; numbers = numbers; row = row }
+abbrev pub lent : List ℕ → List ℕ → List ℕ → Rooms → Lent
+lent table state numbers rooms = record { table = table; state = state; numbers = numbers; rooms = rooms }
 
 -- what stands behind the references
-abbrev pub held : RefT (RefT (List ℕ)) → RefT (RefT (List ℕ)) → RefT (List ℕ) → RefT (RefT (List ℕ)) → Lent
-held table state numbers atoms = lent (table .now .now) (state .now .now) (numbers .now) (atoms .now .now)
+abbrev pub held :
+    RefT (RefT (List ℕ)) → RefT (RefT (List ℕ)) → RefT (List ℕ) → RefT (RefT (List ℕ)) → RefT (RefT (List ℕ)) → Lent
+held table state numbers atoms store =
+    lent (table .now .now) (state .now .now) (numbers .now) (rooms-of (atoms .now .now) (store .now .now))
+
+-- the same for a node that parks nothing, whatever the store is; and for one that does no atom, whatever the row is
+abbrev pub besides : RefT (RefT (List ℕ)) → RefT (RefT (List ℕ)) → RefT (List ℕ) → RefT (RefT (List ℕ)) → List ℕ → Lent
+besides table state numbers atoms store = lent (table .now .now) (state .now .now) (numbers .now) (rooms-of (atoms .now .now) store)
+
+abbrev pub storing : RefT (RefT (List ℕ)) → RefT (RefT (List ℕ)) → RefT (List ℕ) → RefT (RefT (List ℕ)) → List ℕ → Lent
+storing table state numbers store row = lent (table .now .now) (state .now .now) (numbers .now) (rooms-of row (store .now .now))
 
 -- the bytes `part` of node i and all below it stand in the whole state
 pub record Around (state : List ℕ) (i : ℕ) (before part behind : List ℕ) : Type 0 where
@@ -32,7 +41,7 @@ pub record Around (state : List ℕ) (i : ℕ) (before part behind : List ℕ) :
 pub record Stands (skip : ℕ) (W : Term → Type 0) (L : Lent) (i : ℕ) (before part behind : List ℕ) : Type 0 where
   pub around : Around (L .state) i before part behind
   pub numbers : Numbers (L .table) (L .numbers)
-  pub live : Live skip W (L .table) i part (wordsOf (L .numbers)) (L .row) (tallyOf (L .numbers))
+  pub live : Live skip W (L .table) i part (wordsOf (L .numbers)) (L .rooms) (tallyOf (L .numbers))
 
 -- whatever such term stands there was run once, all around it is as it was, and r is its flag
 pub record Went (skip : ℕ) (W : Term → Type 0) (L : Lent) (i : ℕ) (before part behind : List ℕ) (L′ : Lent) (r : ℕ) : Type 0 where
@@ -41,8 +50,8 @@ pub record Went (skip : ℕ) (W : Term → Type 0) (L : Lent) (i : ℕ) (before 
   pub kept : Kept (L .numbers) (L′ .numbers)
   pub below : r < 3
   pub runs :
-      Runs skip W (L .table) i part (wordsOf (L .numbers)) (L .row) (tallyOf (L .numbers))
-      part′ (wordsOf (L′ .numbers)) (L′ .row) (tallyOf (L′ .numbers)) (flagOf r)
+      Runs skip W (L .table) i part (wordsOf (L .numbers)) (L .rooms) (tallyOf (L .numbers))
+      part′ (wordsOf (L′ .numbers)) (L′ .rooms) (tallyOf (L′ .numbers)) (flagOf r)
 
 -- what each function of the cycle asks, and what it gives
 abbrev pub CanRun : ℕ → (Term → Type 0) → Lent → ℕ → Type 0
@@ -52,6 +61,16 @@ abbrev pub HasRun : ℕ → (Term → Type 0) → Lent → ℕ → Lent → ℕ 
 HasRun skip W L i L′ r =
     (before part behind : List ℕ) → Stands skip W L i before part behind → Went skip W L i before part behind L′ r
 
+-- the same where a room isn't looked at: whatever it is, it stays
+abbrev pub CanRunBeside : ℕ → (Term → Type 0) → (List ℕ → Lent) → ℕ → Type 0
+CanRunBeside skip W L i = (room : List ℕ) × CanRun skip W (L room) i
+
+abbrev pub HasRunBeside : ℕ → (Term → Type 0) → (List ℕ → Lent) → ℕ → (List ℕ → Lent) → ℕ → Type 0
+HasRunBeside skip W L i L′ r = (room : List ℕ) → HasRun skip W (L room) i (L′ room) r
+
 -- the slices behind the thin references are the same ones
-abbrev pub Named : RefT (List ℕ) → RefT (List ℕ) → RefT (List ℕ) → RefT (List ℕ) → Type 0
-Named state state′ atoms atoms′ = (state′ .name ≡ state .name) × (atoms′ .name ≡ atoms .name)
+abbrev pub Same : RefT (List ℕ) → RefT (List ℕ) → Type 0
+Same slice slice′ = slice′ .name ≡ slice .name
+
+abbrev pub Named : RefT (List ℕ) → RefT (List ℕ) → RefT (List ℕ) → RefT (List ℕ) → RefT (List ℕ) → RefT (List ℕ) → Type 0
+Named state state′ atoms atoms′ store store′ = Same state state′ × Same atoms atoms′ × Same store store′

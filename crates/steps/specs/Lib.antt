@@ -4,3 +4,4 @@ pub mod Kinds
 pub mod Flags
 pub mod Tests
 pub mod Lent
+pub mod Parking

@@ -1,6 +1,6 @@
 -- The row of numbers that a pass carries: the event words, then one number each for how many atoms are done, whether something moved, whether
--- the end is declared, the byte of the table where the configurations begin, and two for the box's values, eight each. A number more is a place
--- more here.
+-- the end is declared, the byte of the table where the configurations begin, two for the box's values, eight each, and one for how many bytes are
+-- parked. A number more is a place more here.
 use Prim.Native.Nat.{ℕ, _+_, _*_, _<_}
 use mathlib.Core.Bool.{Bool}
 use mathlib.Core.Path.{_≡_}
@@ -29,19 +29,23 @@ base-at = event-words + 3
 abbrev pub values-at : ℕ
 values-at = event-words + 4
 
+abbrev pub parked-at : ℕ
+parked-at = event-words + 6
+
 abbrev pub places-of-row : ℕ
-places-of-row = event-words + 6
+places-of-row = event-words + 7
 
 -- the event words of a row
 abbrev pub wordsOf : List ℕ → List ℕ
 wordsOf numbers = take event-words numbers
 
--- the tally of a row: atoms done, moved, ended, the values
+-- the tally of a row: atoms done, moved, ended, bytes parked, the values
 abbrev pub tallyOf : List ℕ → List ℕ
 tallyOf numbers =
     getD numbers atoms-at 0
     ∷ getD numbers moved-at 0
     ∷ getD numbers ended-at 0
+    ∷ getD numbers parked-at 0
     ∷ getD numbers values-at 0
     ∷ getD numbers (values-at + 1) 0
     ∷ []
@@ -69,7 +73,7 @@ pub record Put (e : ℕ) (present : Bool) (numbers numbers′ : List ℕ) : Type
   pub tally : tallyOf numbers′ ≡ tallyOf numbers
   pub kept : Kept numbers numbers′
 
--- before the first pass: the events and the values handed in; nothing is done, moved or ended
+-- before the first pass: the events and the values handed in; nothing is done, moved, ended or parked
 abbrev pub firstNumbers : List ℕ → ℕ → ℕ → ℕ → List ℕ
 firstNumbers words low high base =
     set (set (set (withWords words (replicate places-of-row 0)) base-at base) values-at low) (values-at + 1) high

@@ -15,18 +15,19 @@ use Rattle.junior.specs.Configuration.{Config, Env, test}
 use Rattle.junior.specs.Values.{Values}
 use Rattle.junior.specs.Program.{kind, size}
 use Rattle.junior.specs.Term.{Term, prog}
-use Rattle.junior.specs.Trace.{Place, Act, atoms}
+use Rattle.junior.specs.Trace.{Place, Act, atoms, parks}
 use Rattle.junior.specs.Rules.{left-first, Rewrites, answers}
-use Rattle.junior.specs.Figures.{LoopsStop, per}
+use Rattle.junior.specs.Figures.{LoopsStop, per, parking}
 use Rattle.junior.specs.Inside.{Going, pot}
 use Rattle.table.specs.Records.{nodes, configurations, argumentAt}
 use Rattle.table.specs.Spells.{Configured, tested}
 use Rattle.table.specs.Inside.{Loaded, Placed}
 use Rattle.state.specs.Kinds.{par-kind, repeat-kind, repeat-ext-kind}
 use Rattle.state.specs.StateBytes.{code, head, zeros, stateBytes}
+use Rattle.state.specs.Pieces.{piecesBytes}
 
--- The tally of an instant: how many atoms are done, whether something moved, whether the end is declared (0 for no); behind these the box's
--- values, eight to a number, which no run changes.
+-- The tally of an instant: how many atoms are done, whether something moved, whether the end is declared (0 for no), how many bytes are parked;
+-- behind these the box's values, eight to a number, which no run changes.
 abbrev pub atoms-done : List ℕ → ℕ
 atoms-done tally = getD tally 0 0
 
@@ -36,8 +37,11 @@ something-moved tally = getD tally 1 0
 abbrev pub end-declared : List ℕ → ℕ
 end-declared tally = getD tally 2 0
 
+abbrev pub bytes-parked : List ℕ → ℕ
+bytes-parked tally = getD tally 3 0
+
 abbrev pub valuesIn : List ℕ → Values
-valuesIn tally v = getD tally (3 + v / 8) 0 / 2 ^ (8 * (v % 8)) % 256
+valuesIn tally v = getD tally (4 + v / 8) 0 / 2 ^ (8 * (v % 8)) % 256
 
 -- the environment that the words and the tally stand for
 abbrev pub envOf : List ℕ → List ℕ → Env
@@ -47,17 +51,26 @@ envOf words tally = record { now = marks words; eoi = ltb 0 (end-declared tally)
 abbrev pub Bytes : ℕ → List ℕ → Term → Type 0
 Bytes skip state t = drop skip state ≡ drop skip (stateBytes t)
 
--- t, at node i of the table, can be run: its Loops stop, its bytes but for the first `skip` are in the state, and the row has room for its
--- atoms
-pub record Ready (skip : ℕ) (table : List ℕ) (i : ℕ) (state words row tally : List ℕ) (t : Term) : Type 0 where
+-- the rooms that a pass writes behind what it has done: the row of atoms, and the free part of the store
+pub record Rooms : Type 0 where
+  pub row : List ℕ
+  pub store : List ℕ
+
+abbrev pub rooms-of : List ℕ → List ℕ → Rooms
+rooms-of row store = record { row = row; store = store }
+
+-- t, at node i of the table, can be run: its Loops stop, its bytes but for the first `skip` are in the state, and there is room for its atoms
+-- and for what it parks
+pub record Ready (skip : ℕ) (table : List ℕ) (i : ℕ) (state words : List ℕ) (rooms : Rooms) (tally : List ℕ) (t : Term) : Type 0 where
   pub placed : Placed table i (prog t)
   pub loops : LoopsStop (prog t)
   pub wide : 64 * length words ≡ places
-  pub tallied : length tally ≡ 5
+  pub tallied : length tally ≡ 6
   pub long : length state ≡ 4 * size (prog t)
   pub bytes : Bytes skip state t
   pub going : Going (marks words) t
-  pub room : atoms-done tally + pot (per 2) t ≤ length row
+  pub room : atoms-done tally + pot (per 2) t ≤ length (rooms .row)
+  pub store-room : bytes-parked tally + pot parking t ≤ length (rooms .store)
 
 -- the bytes that a node leaves: all zero if it answers TERM, for whoever keeps it in sight to mark it as phase 3
 abbrev pub left : Flag → Term → List ℕ
@@ -65,10 +78,15 @@ left SUSP t = stateBytes t
 left STOP t = stateBytes t
 left TERM t = zeros (prog t)
 
--- the atoms xs went into the row behind the first `at`
+-- the numbers xs went into a row behind the first `at`
 pub record Wrote (xs row : List ℕ) (at : ℕ) (row′ : List ℕ) (at′ : ℕ) : Type 0 where
   pub done-is : at′ ≡ at + length xs
   pub row-is : row′ ≡ take at row ++ (xs ++ drop (at + length xs) row)
+
+-- all that the acts leave: the atoms in the row, the pieces that are parked in the store
+pub record Leaves (acts : List Act) (rooms : Rooms) (tally : List ℕ) (rooms′ : Rooms) (tally′ : List ℕ) : Type 0 where
+  pub atoms-in : Wrote (atoms acts) (rooms .row) (atoms-done tally) (rooms′ .row) (atoms-done tally′)
+  pub pieces-in : Wrote (piecesBytes (parks acts)) (rooms .store) (bytes-parked tally) (rooms′ .store) (bytes-parked tally′)
 
 -- words and tally are as long as they were, and the values the same
 pub record SameLengths (words tally words′ tally′ : List ℕ) : Type 0 where
@@ -77,12 +95,13 @@ pub record SameLengths (words tally words′ tally′ : List ℕ) : Type 0 where
   pub of-values : valuesIn tally′ ≡ valuesIn tally
 
 -- t at place P was run once, by the rules
-pub record Ran (P : Place) (t : Term) (words row tally state′ words′ row′ tally′ : List ℕ) (α : Flag) : Type 0 where
+pub record Ran (P : Place) (t : Term) (words : List ℕ) (rooms : Rooms) (tally state′ words′ : List ℕ) (rooms′ : Rooms) (tally′ : List ℕ) (α : Flag)
+    : Type 0 where
   pub to : Term
   pub acts : List Act
   pub rewrites : Rewrites (left-first (valuesIn tally)) P t (envOf words tally) (answers α to (envOf words′ tally′) acts)
   pub bytes : state′ ≡ left α to
-  pub wrote : Wrote (atoms acts) row (atoms-done tally) row′ (atoms-done tally′)
+  pub wrote : Leaves acts rooms tally rooms′ tally′
   pub lengths : SameLengths words tally words′ tally′
 
 -- which terms a function runs
@@ -116,8 +135,8 @@ abbrev pub RightSuspended : Term → Type 0
 RightSuspended t = Kind par-kind t × (head t .flags % 4 ≢ 0)
 
 -- what each function of the cycle asks, and what it gives: whatever such term stands there was run once
-abbrev pub Live : ℕ → (Term → Type 0) → List ℕ → ℕ → List ℕ → List ℕ → List ℕ → List ℕ → Type 0
-Live skip W table i state words row tally = (t : Term) × W t × Ready skip table i state words row tally t
+abbrev pub Live : ℕ → (Term → Type 0) → List ℕ → ℕ → List ℕ → List ℕ → Rooms → List ℕ → Type 0
+Live skip W table i state words rooms tally = (t : Term) × W t × Ready skip table i state words rooms tally t
 
 abbrev pub Runs :
     ℕ
@@ -126,21 +145,21 @@ abbrev pub Runs :
     → ℕ
     → List ℕ
     → List ℕ
+    → Rooms
     → List ℕ
     → List ℕ
     → List ℕ
-    → List ℕ
-    → List ℕ
+    → Rooms
     → List ℕ
     → Flag
     → Type 0
-Runs skip W table i state words row tally state′ words′ row′ tally′ α =
+Runs skip W table i state words rooms tally state′ words′ rooms′ tally′ α =
     (t : Term)
     → W t
-    → Ready skip table i state words row tally t
+    → Ready skip table i state words rooms tally t
     → (P : Place)
     → P .node ≡ i
-    → Ran P t words row tally state′ words′ row′ tally′ α
+    → Ran P t words rooms tally state′ words′ rooms′ tally′ α
 
 -- node i tests a configuration, which stands in the table, and what reading it gives
 pub record HasTest (table : List ℕ) (i : ℕ) (tally : List ℕ) : Type 0 where
@@ -148,7 +167,7 @@ pub record HasTest (table : List ℕ) (i : ℕ) (tally : List ℕ) : Type 0 wher
   pub node : i < nodes table
   pub tests : argumentAt table i < configurations table
   pub spelled : (c : Config) × Configured table (tested table i) c
-  pub tallied : length tally ≡ 5
+  pub tallied : length tally ≡ 6
 
 abbrev pub TestRead : List ℕ → ℕ → List ℕ → List ℕ → Verdict → Type 0
 TestRead table i words tally r = (c : Config) → Configured table (tested table i) c → r ≡ test c (envOf words tally)

@@ -1,4 +1,4 @@
-// The kinds of nodes by name (01, "The table"; L14).
+// The kinds of nodes by name (01, "The table"; L8, L14).
 pub const NOTHING: usize = 0;
 
 pub const STOP: usize = 1;
@@ -24,6 +24,8 @@ pub const UNTIL: usize = 10;
 pub const CONTROL: usize = 11;
 
 pub const LOCAL: usize = 12;
+
+pub const FREEZABLE: usize = 13;
 
 pub const IF: usize = 14;
 

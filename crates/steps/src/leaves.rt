@@ -7,7 +7,7 @@ ghost use lib.ListN.{length, getD, set};
 ghost use Rattle.table.specs.Inside.Ranks.{unranked};
 ghost use Rattle.state.specs.Kinds.{nothing-kind, stop-kind, atom-kind, generate-kind, await-kind};
 ghost use Rattle.steps.specs.Kinds.{OfKind, all-seen};
-ghost use Rattle.steps.specs.Lent.{held, CanRun, HasRun, Named};
+ghost use Rattle.steps.specs.Lent.{besides, CanRunBeside, HasRunBeside, Same};
 ghost use Rattle.steps.specs.Numbers.{wordsOf, tallyOf};
 ghost use Rattle.steps.specs.Running.{TestRead};
 ghost use Rattle.steps.specs.Tests.{CanTest, TestRanked, loneEvent};
@@ -43,11 +43,11 @@ pub fn run_nothing(
     numbers: &mut [u64; NUMBERS],
     atoms: &mut &mut [u16],
 ) -> u8
-    requires { ⌜ CanRun all-seen (OfKind nothing-kind) (held table state numbers atoms) i ⌝ }
+    requires { ⌜ CanRunBeside all-seen (OfKind nothing-kind) (besides table state numbers atoms) i ⌝ }
     ensures { λ r.
-        ⌜ HasRun all-seen (OfKind nothing-kind) (held (table .entry) (state .entry) (numbers .entry) (atoms .entry)) i
-        (held (table .exit) (state .exit) (numbers .exit) (atoms .exit)) r ⌝ }
-    ensures { λ r. ⌜ Named (now (state .entry)) (now (state .exit)) (now (atoms .entry)) (now (atoms .exit)) ⌝ }
+        ⌜ HasRunBeside all-seen (OfKind nothing-kind) (besides (table .entry) (state .entry) (numbers .entry) (atoms .entry)) i
+        (besides (table .exit) (state .exit) (numbers .exit) (atoms .exit)) r ⌝ }
+    ensures { λ r. ⌜ Same (now (state .entry)) (now (state .exit)) × Same (now (atoms .entry)) (now (atoms .exit)) ⌝ }
 {
     state[4 * i] = 0;
     TERM
@@ -61,11 +61,11 @@ pub fn run_stop(
     numbers: &mut [u64; NUMBERS],
     atoms: &mut &mut [u16],
 ) -> u8
-    requires { ⌜ CanRun all-seen (OfKind stop-kind) (held table state numbers atoms) i ⌝ }
+    requires { ⌜ CanRunBeside all-seen (OfKind stop-kind) (besides table state numbers atoms) i ⌝ }
     ensures { λ r.
-        ⌜ HasRun all-seen (OfKind stop-kind) (held (table .entry) (state .entry) (numbers .entry) (atoms .entry)) i
-        (held (table .exit) (state .exit) (numbers .exit) (atoms .exit)) r ⌝ }
-    ensures { λ r. ⌜ Named (now (state .entry)) (now (state .exit)) (now (atoms .entry)) (now (atoms .exit)) ⌝ }
+        ⌜ HasRunBeside all-seen (OfKind stop-kind) (besides (table .entry) (state .entry) (numbers .entry) (atoms .entry)) i
+        (besides (table .exit) (state .exit) (numbers .exit) (atoms .exit)) r ⌝ }
+    ensures { λ r. ⌜ Same (now (state .entry)) (now (state .exit)) × Same (now (atoms .entry)) (now (atoms .exit)) ⌝ }
 {
     if state[4 * i] == GONE {
         state[4 * i] = 0;
@@ -83,11 +83,11 @@ pub fn run_atom(
     numbers: &mut [u64; NUMBERS],
     atoms: &mut &mut [u16],
 ) -> u8
-    requires { ⌜ CanRun all-seen (OfKind atom-kind) (held table state numbers atoms) i ⌝ }
+    requires { ⌜ CanRunBeside all-seen (OfKind atom-kind) (besides table state numbers atoms) i ⌝ }
     ensures { λ r.
-        ⌜ HasRun all-seen (OfKind atom-kind) (held (table .entry) (state .entry) (numbers .entry) (atoms .entry)) i
-        (held (table .exit) (state .exit) (numbers .exit) (atoms .exit)) r ⌝ }
-    ensures { λ r. ⌜ Named (now (state .entry)) (now (state .exit)) (now (atoms .entry)) (now (atoms .exit)) ⌝ }
+        ⌜ HasRunBeside all-seen (OfKind atom-kind) (besides (table .entry) (state .entry) (numbers .entry) (atoms .entry)) i
+        (besides (table .exit) (state .exit) (numbers .exit) (atoms .exit)) r ⌝ }
+    ensures { λ r. ⌜ Same (now (state .entry)) (now (state .exit)) × Same (now (atoms .entry)) (now (atoms .exit)) ⌝ }
 {
     if state[4 * i] == GONE {
         state[4 * i] = 0;
@@ -115,11 +115,11 @@ pub fn run_generate(
     numbers: &mut [u64; NUMBERS],
     atoms: &mut &mut [u16],
 ) -> u8
-    requires { ⌜ CanRun all-seen (OfKind generate-kind) (held table state numbers atoms) i ⌝ }
+    requires { ⌜ CanRunBeside all-seen (OfKind generate-kind) (besides table state numbers atoms) i ⌝ }
     ensures { λ r.
-        ⌜ HasRun all-seen (OfKind generate-kind) (held (table .entry) (state .entry) (numbers .entry) (atoms .entry)) i
-        (held (table .exit) (state .exit) (numbers .exit) (atoms .exit)) r ⌝ }
-    ensures { λ r. ⌜ Named (now (state .entry)) (now (state .exit)) (now (atoms .entry)) (now (atoms .exit)) ⌝ }
+        ⌜ HasRunBeside all-seen (OfKind generate-kind) (besides (table .entry) (state .entry) (numbers .entry) (atoms .entry)) i
+        (besides (table .exit) (state .exit) (numbers .exit) (atoms .exit)) r ⌝ }
+    ensures { λ r. ⌜ Same (now (state .entry)) (now (state .exit)) × Same (now (atoms .entry)) (now (atoms .exit)) ⌝ }
 {
     if state[4 * i] == GONE {
         state[4 * i] = 0;
@@ -138,11 +138,11 @@ pub fn run_await(
     numbers: &mut [u64; NUMBERS],
     atoms: &mut &mut [u16],
 ) -> u8
-    requires { ⌜ CanRun all-seen (OfKind await-kind) (held table state numbers atoms) i ⌝ }
+    requires { ⌜ CanRunBeside all-seen (OfKind await-kind) (besides table state numbers atoms) i ⌝ }
     ensures { λ r.
-        ⌜ HasRun all-seen (OfKind await-kind) (held (table .entry) (state .entry) (numbers .entry) (atoms .entry)) i
-        (held (table .exit) (state .exit) (numbers .exit) (atoms .exit)) r ⌝ }
-    ensures { λ r. ⌜ Named (now (state .entry)) (now (state .exit)) (now (atoms .entry)) (now (atoms .exit)) ⌝ }
+        ⌜ HasRunBeside all-seen (OfKind await-kind) (besides (table .entry) (state .entry) (numbers .entry) (atoms .entry)) i
+        (besides (table .exit) (state .exit) (numbers .exit) (atoms .exit)) r ⌝ }
+    ensures { λ r. ⌜ Same (now (state .entry)) (now (state .exit)) × Same (now (atoms .entry)) (now (atoms .exit)) ⌝ }
 {
     let phase = state[4 * i];
     if phase == GONE {
@@ -185,12 +185,12 @@ pub fn run_lone(
     numbers: &mut [u64; NUMBERS],
     atoms: &mut &mut [u16],
 ) -> u8
-    requires { ⌜ CanRun all-seen (OfKind await-kind) (held table state numbers atoms) i ⌝ }
+    requires { ⌜ CanRunBeside all-seen (OfKind await-kind) (besides table state numbers atoms) i ⌝ }
     requires { ⌜ loneEvent (now (now table)) i (getD (now (now state)) (4 * i) 0) ≡ true ⌝ }
     ensures { λ r.
-        ⌜ HasRun all-seen (OfKind await-kind) (held (table .entry) (state .entry) (numbers .entry) (atoms .entry)) i
-        (held (table .exit) (state .exit) (numbers .exit) (atoms .exit)) r ⌝ }
-    ensures { λ r. ⌜ Named (now (state .entry)) (now (state .exit)) (now (atoms .entry)) (now (atoms .exit)) ⌝ }
+        ⌜ HasRunBeside all-seen (OfKind await-kind) (besides (table .entry) (state .entry) (numbers .entry) (atoms .entry)) i
+        (besides (table .exit) (state .exit) (numbers .exit) (atoms .exit)) r ⌝ }
+    ensures { λ r. ⌜ Same (now (state .entry)) (now (state .exit)) × Same (now (atoms .entry)) (now (atoms .exit)) ⌝ }
 {
     let c = numbers[BASE] as usize + 4 * argument_at(*table, i);
     if marked(numbers, part_event(*table, c)) {

@@ -4,4 +4,5 @@ pub mod flags;
 pub mod kinds;
 pub mod leaves;
 pub mod numbers;
+pub mod parking;
 pub mod phases;

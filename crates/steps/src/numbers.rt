@@ -27,6 +27,9 @@ pub const BASE: usize = WORDS + 3;
 // The box's values, eight to a number, the first lowest.
 pub const VALUES: usize = WORDS + 4;
 
+// How many bytes are parked.
+pub const PARKED: usize = WORDS + 6;
+
 // How many numbers the row has.
 pub const NUMBERS: usize = ROW;
 

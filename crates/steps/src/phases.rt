@@ -1,12 +1,13 @@
 // A node's own four bytes in the whole state, node i's from byte 4i on: the phase, a Par's flags, a Repeat's count (16, big-endian).
 ghost use mathlib.Core.Path.{_≡_};
-ghost use mathlib.Core.Bool.{_&&_, not, cond};
+ghost use mathlib.Core.Bool.{_&&_, _||_, not, cond};
 ghost use Prim.Native.Nat.{_+_, _-_, _*_, _<_, _≤_, _/_, _%_};
 ghost use lib.Dec.{eqb};
 ghost use lib.ListN.{length, set, replicate};
 ghost use borrow.Rule.Slice.PartMut.{putMid};
-ghost use Rattle.state.specs.Kinds.{par-kind};
+ghost use Rattle.state.specs.Kinds.{par-kind, seq-kind};
 use crate::kinds::PAR;
+use crate::kinds::SEQ;
 use state::clear;
 use table::records::wide;
 
@@ -36,6 +37,16 @@ pub fn both_suspended(phase: u8, flags: u8) -> bool
         return flags == 0;
     }
     false
+}
+
+// Whether a node is a Par or a Seq, by its kind.
+pub fn par_or_seq(kind: usize) -> bool
+    ensures { λ r. ⌜ r ≡ (eqb kind par-kind || eqb kind seq-kind) ⌝ }
+{
+    if kind == PAR {
+        return true;
+    }
+    kind == SEQ
 }
 
 // Whether a node is such a Par.

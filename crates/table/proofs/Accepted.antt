@@ -91,4 +91,4 @@ not-accepted (BadNode i) o e = omega arith
 not-accepted (TooDeep i) o e = omega arith
 not-accepted (EndlessLoop i) o e = omega arith
 not-accepted TooHeavy o e = omega arith
-not-accepted (variants.Accepted g a w) o e = miss (0 ∷ 1 ∷ 2 ∷ 3 ∷ 4 ∷ 5 ∷ 6 ∷ 7 ∷ []) 8 tt o
+not-accepted (variants.Accepted g a w f) o e = miss (0 ∷ 1 ∷ 2 ∷ 3 ∷ 4 ∷ 5 ∷ 6 ∷ 7 ∷ []) 8 tt o

@@ -57,12 +57,14 @@ same-side x f m l e =
 within-limit : (x f m : ℕ) → m < 65536 → min x 65536 ≡ min f 65536 → leb f m ≡ true → x ≡ f
 within-limit x f m l e h = let k = leb-true f m h in omega arith
 
-accepted : {x y z x′ y′ z′ : ℕ} (a b c : Bool) → (a ≡ true → x ≡ x′) → (b ≡ true → y ≡ y′) → (c ≡ true → z ≡ z′)
-    → cond (a && (b && c)) (Accepted x y z) TooHeavy ≡ cond (a && (b && c)) (Accepted x′ y′ z′) TooHeavy
-accepted true true true e f g = rw (e refl, f refl, g refl)
-accepted true true false e f g = refl
-accepted true false c e f g = refl
-accepted false b c e f g = refl
+accepted : {w x y z w′ x′ y′ z′ : ℕ} (a b c d : Bool) → (a ≡ true → w ≡ w′) → (b ≡ true → x ≡ x′) → (c ≡ true → y ≡ y′)
+    → (d ≡ true → z ≡ z′)
+    → cond (a && (b && (c && d))) (Accepted w x y z) TooHeavy ≡ cond (a && (b && (c && d))) (Accepted w′ x′ y′ z′) TooHeavy
+accepted true true true true e f g h = rw (e refl, f refl, g refl, h refl)
+accepted true true true false e f g h = refl
+accepted true true false d e f g h = refl
+accepted true false c d e f g h = refl
+accepted false b c d e f g h = refl
 
 module _ {t : List ℕ} {n m v : ℕ} (P : SizedWhole t n m v) (g : AllGood t) where
   l : 0 < nodes t
@@ -130,8 +132,8 @@ module _ {t : List ℕ} {n m v : ℕ} (P : SizedWhole t n m v) (g : AllGood t) w
 
     pub weight-answer : nodes t ≤ r → (x : Weight) → Weighs x (treeAt t 0)
         → cond
-        (leb (x .generations) 4094 && (leb (x .atoms) 4096 && leb (x .nodes) 65535))
-        (Accepted (x .generations) (x .atoms) (x .nodes))
+        (leb (x .generations) 4094 && (leb (x .atoms) 4096 && (leb (x .nodes) 65535 && leb (x .parked) 16384)))
+        (Accepted (x .generations) (x .atoms) (x .nodes) (x .parked))
         TooHeavy
         ≡ nodesVerdict t
     unfolding programVerdict light
@@ -139,6 +141,7 @@ module _ {t : List ℕ} {n m v : ℕ} (P : SizedWhole t n m v) (g : AllGood t) w
         let g′ = w .generations-are .exact in
         let a′ = w .atoms-are .exact in
         let n′ = w .nodes-are .exact in
+        let p′ = w .parked-are .exact in
         rw (
           good-answer,
           none-deep,
@@ -148,11 +151,14 @@ module _ {t : List ℕ} {n m v : ℕ} (P : SizedWhole t n m v) (g : AllGood t) w
           same-side _ _ 4094 (omega arith) g′,
           same-side _ _ 4096 (omega arith) a′,
           same-side _ _ 65535 (omega arith) n′,
+          same-side _ _ 16384 (omega arith) p′,
         )
         (accepted
         _
         _
         _
+        _
         (within-limit _ _ 4094 (omega arith) g′)
         (within-limit _ _ 4096 (omega arith) a′)
-        (within-limit _ _ 65535 (omega arith) n′))
+        (within-limit _ _ 65535 (omega arith) n′)
+        (within-limit _ _ 16384 (omega arith) p′))

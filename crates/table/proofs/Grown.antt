@@ -1,14 +1,13 @@
 -- Good records spell a tree: `spells-tree`.
 use Prim.Native.Nat.{ℕ, zero, suc, _+_, _≤_, _<_}
-use mathlib.Core.Bool.{true, not, _||_, false≢true}
-use lib.Dec.{eqb, leb, ltb}
+use mathlib.Core.Bool.{true, _||_}
+use lib.Dec.{eqb, ltb}
 use mathlib.Core.Path.{_≡_, refl, sym, _∙_}
-use mathlib.Core.Logic.{_≢_}
 use mathlib.Core.List.{List}
 use native.Mathlib.Omega.{arith}
-use borrow.Author.Tests.{leb-true, ltb-true, eq-eqb}
+use borrow.Author.Tests.{leb-true, ltb-true}
 use Rattle.junior.specs.Program.{Program, kind, argument, Leaf, nothing, stop, atom, generate, await, One, loop, repeat}
-use Rattle.junior.specs.Program.{control, local, Two, seq, par, when, until, if, size}
+use Rattle.junior.specs.Program.{control, local, freezable, Two, seq, par, when, until, if, size}
 use Rattle.junior.proofs.Parts.{parts-none, parts-one, parts-two}
 use Rattle.table.specs.Records.{nodes, configurations, kindAt, zeroAt, argumentAt, sizeAt, secondAt}
 use Rattle.table.specs.Records.{configurationAt}
@@ -19,12 +18,6 @@ use Rattle.table.specs.Inside.Weighing.{treeAt}
 use Rattle.table.proofs.Spelled.{configured}
 use Rattle.table.proofs.Laid.{both, Laid, none, one, two, laid}
 use Rattle.table.proofs.Parts.{of-none, of-one, of-two}
-
--- the kinds that there are
-known-low : (k : ℕ) → known k ≡ true → (k ≤ 15) × (k ≢ 13)
-known-low k h =
-    let (below, other) = both {a = leb k 15} {b = not (eqb k 13)} h in
-    (leb-true k 15 below, λ e. false≢true (rw (eq-eqb k 13 e) at other))
 
 -- what a good record says
 pub record Fine (t : List ℕ) (i k : ℕ) : Type 0 where
@@ -70,39 +63,38 @@ module _ (t : List ℕ)
     (spelled : (j : ℕ) → j < configurations t
     → Configured t (configurationAt t j) (configurationOf t 16 (configurationAt t j)))
   where
-    formed : (i : ℕ) (p q : Program) (k : ℕ) → k ≤ 15 → k ≢ 13
+    formed : (i : ℕ) (p q : Program) (k : ℕ) → k ≤ 15
         → Formed t i p q k (form k (argumentAt t i) (configurationOf t 16 (tested t i)) p q)
     unfolding form kind children argumentLimit
-    formed i p q zero h n = record { of-kind = refl; shape = leaf-form nothing; argued = λ h. tt }
-    formed i p q (suc zero) h n = record { of-kind = refl; shape = leaf-form stop; argued = λ h. tt }
-    formed i p q (suc (suc zero)) h n = record { of-kind = refl; shape = leaf-form (atom _); argued = λ h. refl }
-    formed i p q (suc (suc (suc zero))) h n = record { of-kind = refl; shape = two-form (seq p q); argued = λ h. tt }
-    formed i p q (suc (suc (suc (suc zero)))) h n = record { of-kind = refl; shape = two-form (par p q); argued = λ h. tt }
-    formed i p q (suc (suc (suc (suc (suc zero))))) h n = record { of-kind = refl; shape = one-form (loop p); argued = λ h. tt }
-    formed i p q (suc (suc (suc (suc (suc (suc zero)))))) h n = record { of-kind = refl; shape = one-form (repeat _ p); argued = λ h. refl }
-    formed i p q (suc (suc (suc (suc (suc (suc (suc zero))))))) h n = record { of-kind = refl; shape = leaf-form (generate _); argued = λ h. refl }
-    formed i p q (suc (suc (suc (suc (suc (suc (suc (suc zero)))))))) h n = record { of-kind = refl; shape = leaf-form (await _); argued = spelled _ }
-    formed i p q (suc (suc (suc (suc (suc (suc (suc (suc (suc zero))))))))) h n = record { of-kind = refl; shape = two-form (when _ p q); argued = spelled _ }
-    formed i p q (suc (suc (suc (suc (suc (suc (suc (suc (suc (suc zero)))))))))) h n =
+    formed i p q zero h = record { of-kind = refl; shape = leaf-form nothing; argued = λ h. tt }
+    formed i p q (suc zero) h = record { of-kind = refl; shape = leaf-form stop; argued = λ h. tt }
+    formed i p q (suc (suc zero)) h = record { of-kind = refl; shape = leaf-form (atom _); argued = λ h. refl }
+    formed i p q (suc (suc (suc zero))) h = record { of-kind = refl; shape = two-form (seq p q); argued = λ h. tt }
+    formed i p q (suc (suc (suc (suc zero)))) h = record { of-kind = refl; shape = two-form (par p q); argued = λ h. tt }
+    formed i p q (suc (suc (suc (suc (suc zero))))) h = record { of-kind = refl; shape = one-form (loop p); argued = λ h. tt }
+    formed i p q (suc (suc (suc (suc (suc (suc zero)))))) h = record { of-kind = refl; shape = one-form (repeat _ p); argued = λ h. refl }
+    formed i p q (suc (suc (suc (suc (suc (suc (suc zero))))))) h = record { of-kind = refl; shape = leaf-form (generate _); argued = λ h. refl }
+    formed i p q (suc (suc (suc (suc (suc (suc (suc (suc zero)))))))) h = record { of-kind = refl; shape = leaf-form (await _); argued = spelled _ }
+    formed i p q (suc (suc (suc (suc (suc (suc (suc (suc (suc zero))))))))) h = record { of-kind = refl; shape = two-form (when _ p q); argued = spelled _ }
+    formed i p q (suc (suc (suc (suc (suc (suc (suc (suc (suc (suc zero)))))))))) h =
         record { of-kind = refl; shape = two-form (until _ p q); argued = spelled _ }
-    formed i p q (suc (suc (suc (suc (suc (suc (suc (suc (suc (suc (suc zero))))))))))) h n =
+    formed i p q (suc (suc (suc (suc (suc (suc (suc (suc (suc (suc (suc zero))))))))))) h =
         record { of-kind = refl; shape = one-form (control _ p); argued = λ h. refl }
-    formed i p q (suc (suc (suc (suc (suc (suc (suc (suc (suc (suc (suc (suc zero)))))))))))) h n =
+    formed i p q (suc (suc (suc (suc (suc (suc (suc (suc (suc (suc (suc (suc zero)))))))))))) h =
         record { of-kind = refl; shape = one-form (local _ p); argued = λ h. refl }
-    formed i p q (suc (suc (suc (suc (suc (suc (suc (suc (suc (suc (suc (suc (suc zero))))))))))))) h n = absurd (n refl)
-    formed i p q (suc (suc (suc (suc (suc (suc (suc (suc (suc (suc (suc (suc (suc (suc zero)))))))))))))) h n =
+    formed i p q (suc (suc (suc (suc (suc (suc (suc (suc (suc (suc (suc (suc (suc zero))))))))))))) h =
+        record { of-kind = refl; shape = one-form (freezable _ p); argued = λ h. refl }
+    formed i p q (suc (suc (suc (suc (suc (suc (suc (suc (suc (suc (suc (suc (suc (suc zero)))))))))))))) h =
         record { of-kind = refl; shape = two-form (if _ p q); argued = λ h. refl }
-    formed i p q (suc (suc (suc (suc (suc (suc (suc (suc (suc (suc (suc (suc (suc (suc (suc zero))))))))))))))) h n =
+    formed i p q (suc (suc (suc (suc (suc (suc (suc (suc (suc (suc (suc (suc (suc (suc (suc zero))))))))))))))) h =
         record { of-kind = refl; shape = one-form (repeat _ p); argued = λ h. (refl, refl) }
-    formed i p q (suc (suc (suc (suc (suc (suc (suc (suc (suc (suc (suc (suc (suc (suc (suc (suc k)))))))))))))))) h n =
-        absurd (omega arith)
+    formed i p q (suc (suc (suc (suc (suc (suc (suc (suc (suc (suc (suc (suc (suc (suc (suc (suc k)))))))))))))))) h = absurd (omega arith)
 
     grown-at : (f i : ℕ) → ((j : ℕ) → i < j → j < nodes t → Grown t j (programOf t f j)) → i < nodes t → (k : ℕ)
         → kindAt t i ≡ k → Fine t i k → Grown t i (programOf t (suc f) i)
     unfolding programOf Spells
     grown-at f i below l k e g =
-        let n = known-low k (g .known-kind) in
-        let o = formed i (programOf t f (i + 1)) (programOf t f (secondAt t i)) k (n .0) (n .1) in
+        let o = formed i (programOf t f (i + 1)) (programOf t f (secondAt t i)) k (leb-true k 15 (g .known-kind)) in
         rw e (go (e ∙ sym (o .of-kind)) (o .argued (g .argument-below)) (o .shape) (g .laid-out))
       where
         go : {c : ℕ} {F : Program} → kindAt t i ≡ kind F → Argues t i (argument F)

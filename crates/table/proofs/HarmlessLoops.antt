@@ -16,7 +16,7 @@ use Rattle.junior.specs.Term.{when0}
 use Rattle.junior.specs.Trace.{Place}
 use Rattle.junior.specs.Values.{Values}
 use Rattle.junior.specs.Rules.{left-first, Result, Rewrites, r17, r18, r19, r20, r21}
-use Rattle.junior.specs.Figures.{only-if, stops, figure, G, A, W, per, every}
+use Rattle.junior.specs.Figures.{only-if, stops, figure, G, A, W, F, per, every, parking}
 use Rattle.junior.specs.StoppedBefore.{stopped-before, figure-before, G-before, A-before, W-before}
 use Rattle.junior.proofs.Held.{stops-right}
 use Rattle.junior.proofs.StoppedBefore.{still-stops, no-larger}
@@ -28,7 +28,7 @@ use Rattle.table.specs.Spells.{configurationOf, form, programOf, treeOf}
 use Rattle.table.specs.Verdict.{numberOf, Node, preorder, firstSuch, deep, endless, endlessParts, light, programVerdict, nodesVerdict}
 use Rattle.table.specs.Verdict.{recordsVerdict, verdictOf, lengthGood, countsGood, distancesGood}
 use Rattle.table.specs.HarmlessLoops.{endlessPartsBefore, endlessBefore, lightBefore, programBefore, verdictBefore}
-use Rattle.table.specs.HarmlessLoops.{StillAccepted, HarmlessLoops}
+use Rattle.table.specs.HarmlessLoops.{F-before, StillAccepted, HarmlessLoops}
 use Rattle.table.proofs.Accepted.{chosen, passed, Past5, past-5}
 use Rattle.table.proofs.Grown.{spells-tree}
 use Rattle.table.proofs.Laid.{both}
@@ -77,35 +77,41 @@ first-earlier f g h (x ∷ l) = go (f x) (g x) (h x) (first-earlier f g h l)
     go false false k e = omega arith
 
 -- a refused answer isn't an accepted one
-not-accepted : {g a w : ℕ} (c : Checked) (n : ℕ) → numberOf c ≡ suc n → c ≡ Accepted g a w → ⊥
+not-accepted : {g a w f : ℕ} (c : Checked) (n : ℕ) → numberOf c ≡ suc n → c ≡ Accepted g a w f → ⊥
 unfolding numberOf
 not-accepted c n h e = let z = ap numberOf e in omega arith
 
 -- what the program of a table accepted before had
-record AllowedBefore (p : Program) (g a w : ℕ) : Type 0 where
+record AllowedBefore (p : Program) (g a w f : ℕ) : Type 0 where
   shallow : ltb (firstSuch deep (preorder 1 p)) (size p) ≡ false
   loops : size p ≤ firstSuch endlessBefore (preorder 1 p)
-  figures-are : (g ≡ G-before p) × (a ≡ A-before p) × (w ≡ W-before p)
-  few : (G-before p ≤ 4094) × (A-before p ≤ 4096) × (W-before p ≤ 65535)
+  figures-are : (g ≡ G-before p) × (a ≡ A-before p) × (w ≡ W-before p) × (f ≡ F-before p)
+  few : (G-before p ≤ 4094) × (A-before p ≤ 4096) × (W-before p ≤ 65535) × (F-before p ≤ 16384)
 
-allowed-before : (p : Program) {g a w : ℕ} → programBefore p ≡ Accepted g a w → AllowedBefore p g a w
+allowed-before : (p : Program) {g a w f : ℕ} → programBefore p ≡ Accepted g a w f → AllowedBefore p g a w f
 unfolding programBefore lightBefore numberOf
-allowed-before p {g} {a} {w} h =
-    let Is : Checked → Type 0 = λ c. c ≡ Accepted g a w in
+allowed-before p {g} {a} {w} {f} h =
+    let Is : Checked → Type 0 = λ c. c ≡ Accepted g a w f in
     let deep-one = passed Is (ltb (firstSuch deep (preorder 1 p)) (size p)) h (not-accepted (TooDeep _) 5 refl) in
     let loop-one = passed Is (ltb (firstSuch endlessBefore (preorder 1 p)) (size p)) (deep-one .1) (not-accepted (EndlessLoop _) 6 refl) in
     let (light-one, same) = chosen Is (lightBefore p) (loop-one .1) (not-accepted TooHeavy 7 refl) in
     let few-G = both {a = leb (G-before p) 4094} light-one in
     let few-A = both {a = leb (A-before p) 4096} (few-G .1) in
+    let few-W = both {a = leb (W-before p) 65535} (few-A .1) in
     record {
       shallow = deep-one .0;
       loops = ltb-false (firstSuch endlessBefore (preorder 1 p)) (size p) (loop-one .0);
-      figures-are = (cc, cc, cc);
-      few = (leb-true (G-before p) 4094 (few-G .0), leb-true (A-before p) 4096 (few-A .0), leb-true (W-before p) 65535 (few-A .1));
+      figures-are = (cc, cc, cc, cc);
+      few = (
+        leb-true (G-before p) 4094 (few-G .0),
+        leb-true (A-before p) 4096 (few-A .0),
+        leb-true (W-before p) 65535 (few-W .0),
+        leb-true (F-before p) 16384 (few-W .1),
+      );
     }
 
 -- it is allowed now
-still-allowed : (p : Program) {g a w : ℕ} → AllowedBefore p g a w → programVerdict p ≡ Accepted (G p) (A p) (W p)
+still-allowed : (p : Program) {g a w f : ℕ} → AllowedBefore p g a w f → programVerdict p ≡ Accepted (G p) (A p) (W p) (F p)
 unfolding programVerdict light
 still-allowed p b =
     let later = first-earlier endless endlessBefore (λ x. endless-both (parts (x .part))) (preorder 1 p) in
@@ -115,36 +121,43 @@ still-allowed p b =
       le-leb (G p) 4094 (le-trans (no-larger (per 7) p) (b .few .0)),
       le-leb (A p) 4096 (le-trans (no-larger (per 2) p) (b .few .1)),
       le-leb (W p) 65535 (le-trans (no-larger every p) (b .few .2)),
+      le-leb (F p) 16384 (le-trans (no-larger parking p) (b .few .3)),
     )
 
 -- its verdict before was its program's, and none of 1 to 5
-past-before : (t : List ℕ) {g a w : ℕ} → verdictBefore t ≡ Accepted g a w → Past5 (verdictOf t) × (programBefore (treeOf t) ≡ Accepted g a w)
+past-before : (t : List ℕ) {g a w f : ℕ} → verdictBefore t ≡ Accepted g a w f
+    → Past5 (verdictOf t) × (programBefore (treeOf t) ≡ Accepted g a w f)
 unfolding verdictBefore numberOf
-past-before t {g} {a} {w} h = go (leb 1 n) refl (leb n 5) refl h
+past-before t {g} {a} {w} {f} h = go (leb 1 n) refl (leb n 5) refl h
   where
     n : ℕ
     n = numberOf (verdictOf t)
 
-    go : (x : Bool) → leb 1 n ≡ x → (y : Bool) → leb n 5 ≡ y → cond (x && y) (verdictOf t) (programBefore (treeOf t)) ≡ Accepted g a w
-        → Past5 (verdictOf t) × (programBefore (treeOf t) ≡ Accepted g a w)
+    go : (x : Bool) → leb 1 n ≡ x → (y : Bool) → leb n 5 ≡ y → cond (x && y) (verdictOf t) (programBefore (treeOf t)) ≡ Accepted g a w f
+        → Past5 (verdictOf t) × (programBefore (treeOf t) ≡ Accepted g a w f)
     go true e true f h = let z = ap numberOf h in absurd (omega (arith, leb-true 1 n e))
     go true e false f h = (λ l. leb-false n 5 f, h)
     go false e y f h = (λ l. absurd (omega (arith, leb-false 1 n e)), h)
 
-accepts-still : (t : List ℕ) {g a w : ℕ} → verdictBefore t ≡ Accepted g a w → StillAccepted t g a w
-accepts-still t {g} {a} {w} h =
+accepts-still : (t : List ℕ) {g a w f : ℕ} → verdictBefore t ≡ Accepted g a w f → StillAccepted t g a w f
+accepts-still t h =
     let (past, before) = past-before t h in
     let table = past-5 t past in
     let p = treeOf t in
     let b = allowed-before p before in
-    let (g-is, a-is, w-is) = b .figures-are in
+    let (g-is, a-is, w-is, f-is) = b .figures-are in
     record {
       tree = p;
       spelled =
           spells-tree t (table .loaded .configurations-good) (table .loaded .framed .n-least) (table .loaded .nodes-good);
       before = b .figures-are;
       now = table .verdict-is ∙ still-allowed p b;
-      no-larger = (rw g-is (no-larger (per 7) p), rw a-is (no-larger (per 2) p), rw w-is (no-larger every p));
+      no-larger = (
+        rw g-is (no-larger (per 7) p),
+        rw a-is (no-larger (per 2) p),
+        rw w-is (no-larger every p),
+        rw f-is (no-larger parking p),
+      );
     }
 
 pub harmless-loops : HarmlessLoops

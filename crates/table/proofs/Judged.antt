@@ -10,7 +10,6 @@ use borrow.Author.Tests.{lt-ltb, le-ltb, le-leb, lt-leb, eq-eqb, ne-eqb}
 use Rattle.table.specs.Records.{nodes, configurations, events, kindAt, zeroAt, argumentAt, sizeAt}
 use Rattle.table.specs.Good.{known, childCounts, children, argumentLimits, argumentLimit, laidOut, goodNode}
 use Rattle.table.specs.Inside.Weighing.{SizedWhole, Within, OfKind}
-use Rattle.table.proofs.Little.{below-or}
 
 root-fine : (t : List ℕ) (n i : ℕ) → sizeAt t 0 ≡ n → n ≡ nodes t → (ltb 0 i || eqb (sizeAt t i) (nodes t)) ≡ true
 root-fine t n zero e f = rw (eq-eqb _ _ (e ∙ f))
@@ -20,18 +19,12 @@ pub bad-kind : (t : List ℕ) (i : ℕ) → known (kindAt t i) ≡ false → fal
 unfolding goodNode
 bad-kind t i h = rw h
 
--- the kinds that there aren't
+-- the kinds that there aren't, and those that there are
 pub above-all : (k : ℕ) → 15 < k → known k ≡ false
-above-all k h = rw (lt-leb k 15 h)
+above-all k h = lt-leb k 15 h
 
-pub left-out : (k : ℕ) → k ≡ 13 → known k ≡ false
-left-out k e = rw e
-
-pub known-so : (k : ℕ) → k ≤ 15 → (k ≡ 13 → ⊥) → known k ≡ true
-known-so k h f = rw (le-leb k 15 h, ne-eqb k 13 f)
-
-pub none-known : (k : ℕ) → 13 ≤ k → (k ≡ 14 → ⊥) → (k ≡ 15 → ⊥) → known k ≡ false
-none-known k h f g = below-or 15 k (above-all k) (λ l. left-out k (omega arith))
+pub known-so : (k : ℕ) → k ≤ 15 → known k ≡ true
+known-so k h = le-leb k 15 h
 
 -- the layout, by how many children there are and by the tests that pass
 module _ (written : ℕ → ℕ) (n i count : ℕ) where

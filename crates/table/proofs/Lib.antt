@@ -31,4 +31,9 @@ pub mod KnownEarly
 pub mod Loaded
 pub mod Subtrees
 pub mod Accepted
+pub mod PartBytes
+pub mod PartGood
+pub mod PartTree
+pub mod PartAccepted
+pub mod Found
 pub mod HarmlessLoops

@@ -4,10 +4,10 @@ use mathlib.Core.Path.{_≡_, refl, ap, ap₂, sym, _∙_}
 use mathlib.Core.List.{List}
 use native.Mathlib.Omega.{arith}
 use Rattle.junior.specs.Configuration.{Config}
-use Rattle.junior.specs.Program.{Program, Nothing, Atom, Repeat, Generate, Await, When, Until, Control, Local, If}
+use Rattle.junior.specs.Program.{Program, Nothing, Atom, Repeat, Generate, Await, When, Until, Control, Local, Freezable, If}
 use Rattle.junior.specs.Program.{Argument, no-argument, number, event, configuration, value, capped, argument, kind}
 use Rattle.junior.specs.Values.{exactly, asked}
-use Rattle.junior.specs.Program.{Leaf, nothing, stop, atom, generate, await, One, loop, repeat, control, local}
+use Rattle.junior.specs.Program.{Leaf, nothing, stop, atom, generate, await, One, loop, repeat, control, local, freezable}
 use Rattle.junior.specs.Program.{Two, seq, par, when, until, if, Parts, no-part, one-part, two-parts, parts, sizeOf, size}
 use Rattle.table.proofs.ByParts.{written}
 use Rattle.table.proofs.Spelled.{configuration-is}
@@ -64,6 +64,7 @@ module _ (a : ℕ) (c : Config) where
   form-one (repeat (asked v cap) q) r e = ap₂ (λ v cap. Repeat (asked v cap) q) (e .0) (e .1)
   form-one (control s q) r e = ap (λ s. Control s q) e
   form-one (local s q) r e = ap (λ s. Local s q) e
+  form-one (freezable s q) r e = ap (λ s. Freezable s q) e
 
   form-two : {p q r : Program} → Two p q r → Fits a c (argument p) → form (kind p) a c q r ≡ p
   unfolding form kind

@@ -10,9 +10,9 @@ use Rattle.junior.specs.Configuration.{Config, early-true, early-false}
 use Rattle.junior.specs.Program.{Program, Loop}
 use Rattle.junior.specs.Program.{Argument, no-argument, number, event, configuration, value, capped, argument, kind}
 use Rattle.junior.specs.Values.{exactly, asked}
-use Rattle.junior.specs.Program.{Leaf, nothing, stop, atom, generate, await, One, loop, repeat, control, local}
+use Rattle.junior.specs.Program.{Leaf, nothing, stop, atom, generate, await, One, loop, repeat, control, local, freezable}
 use Rattle.junior.specs.Program.{Two, seq, par, when, until, if, Parts, no-part, one-part, two-parts, parts, sizeOf, size}
-use Rattle.junior.specs.Figures.{only-if, stops, LoopsStop, figure, times, per}
+use Rattle.junior.specs.Figures.{only-if, stops, LoopsStop, figure, times, per, parking}
 use Rattle.junior.proofs.Parts.{parts-none, parts-one, parts-two, only-parts}
 use Rattle.table.specs.Records.{configurations, events}
 use Rattle.table.specs.Good.{known, children, argumentLimit}
@@ -48,6 +48,10 @@ node d p = record { depth = d; part = p }
 abbrev pub often : ℕ → ℕ → Bool → ℕ
 often k a part-stops = cond (eqb k 5) 2 (cond (eqb k 6) (times a part-stops) (cond (eqb k 15) (times (capIn a) part-stops) 1))
 
+-- a program of kind k with one part never counts as stopping
+abbrev pub neverStops : ℕ → Bool
+neverStops k = eqb k 13 || eqb k 15
+
 -- a program of kind k runs one of its two parts
 abbrev pub chooses : ℕ → Bool
 chooses k = eqb k 9 || eqb k 14
@@ -56,10 +60,11 @@ chooses k = eqb k 9 || eqb k 14
 pub record FiguresOfNone (e : ℕ) (p : Program) : Type 0 where
   pub figure-is : (k : Program → ℕ) → figure k p ≡ k p
   pub stops-is : Tests e p → stops p ≡ cond (eqb (kind p) 8) (eqb e 0) (eqb (kind p) 1)
+  pub no-parking : parking p ≡ 0
 
 pub record FiguresOfOne (a : ℕ) (p q : Program) : Type 0 where
   pub figure-is : (k : Program → ℕ) → figure k p ≡ k p + often (kind p) a (stops q) * figure k q
-  pub stops-is : stops p ≡ cond (eqb (kind p) 5) true (cond (eqb (kind p) 6) (leb 1 a && stops q) (cond (eqb (kind p) 15) false (stops q)))
+  pub stops-is : stops p ≡ cond (eqb (kind p) 5) true (cond (eqb (kind p) 6) (leb 1 a && stops q) (cond (neverStops (kind p)) false (stops q)))
   pub no-generation : per 7 p ≡ 0
   pub no-atom : per 2 p ≡ 0
 
@@ -74,6 +79,7 @@ pub record FiguresOfTwo (e : ℕ) (p q r : Program) : Type 0 where
       (cond (eqb (kind p) 10) (stops q && (stops r || eqb e 0)) (cond (eqb (kind p) 14) (stops q && stops r) (stops q || stops r)))
   pub no-generation : per 7 p ≡ 0
   pub no-atom : per 2 p ≡ 0
+  pub no-parking : parking p ≡ 0
 
 -- never true early, never false early: then that branch needn't stop
 never-true : (e : ℕ) → not (leb 1 e) ≡ eqb e 0
@@ -122,32 +128,35 @@ unfolding figure stops kind children argumentLimit LoopsStop
 none-form nothing =
     record {
       its-kind = record { known-kind = refl; count-is = refl; limit-is = λ t. refl };
-      figures = λ e. record { figure-is = λ k. refl; stops-is = λ h. refl };
+      figures = λ e. record { figure-is = λ k. refl; stops-is = λ h. refl; no-parking = refl };
       loops = tt;
     }
 none-form stop =
     record {
       its-kind = record { known-kind = refl; count-is = refl; limit-is = λ t. refl };
-      figures = λ e. record { figure-is = λ k. refl; stops-is = λ h. refl };
+      figures = λ e. record { figure-is = λ k. refl; stops-is = λ h. refl; no-parking = refl };
       loops = tt;
     }
 none-form (atom a) =
     record {
       its-kind = record { known-kind = refl; count-is = refl; limit-is = λ t. refl };
-      figures = λ e. record { figure-is = λ k. refl; stops-is = λ h. refl };
+      figures = λ e. record { figure-is = λ k. refl; stops-is = λ h. refl; no-parking = refl };
       loops = tt;
     }
 none-form (generate s) =
     record {
       its-kind = record { known-kind = refl; count-is = refl; limit-is = λ t. refl };
-      figures = λ e. record { figure-is = λ k. refl; stops-is = λ h. refl };
+      figures = λ e. record { figure-is = λ k. refl; stops-is = λ h. refl; no-parking = refl };
       loops = tt;
     }
 none-form (await c) =
     record {
       its-kind = record { known-kind = refl; count-is = refl; limit-is = λ t. refl };
-      figures =
-          λ e. record { figure-is = λ k. refl; stops-is = λ h. rw (h .early (omega arith) (omega arith) c refl .true-is) (never-true e) };
+      figures = λ e. record {
+        figure-is = λ k. refl;
+        stops-is = λ h. rw (h .early (omega arith) (omega arith) c refl .true-is) (never-true e);
+        no-parking = refl;
+      };
       loops = tt;
     }
 
@@ -193,27 +202,35 @@ one-form (local s p) =
       loops = λ s l. l;
       weightless = λ k o z. rw (o, z) (omega arith);
     }
+one-form (freezable s p) =
+    record {
+      its-kind = record { known-kind = refl; count-is = refl; limit-is = λ t. refl };
+      figures = λ a e. record { figure-is = λ k. omega arith; stops-is = refl; no-generation = refl; no-atom = refl };
+      loop-is = λ e. absurd (omega arith);
+      loops = λ s l. l;
+      weightless = λ k o z. rw (o, z) (omega arith);
+    }
 
 two-form : {p q r : Program} → Two p q r → TwoForm p q r
 unfolding figure stops kind children argumentLimit LoopsStop
 two-form (seq p q) =
     record {
       its-kind = record { known-kind = refl; count-is = refl; limit-is = λ t. refl };
-      figures = λ e. record { figure-is = λ k. refl; stops-is = λ h. refl; no-generation = refl; no-atom = refl };
+      figures = λ e. record { figure-is = λ k. refl; stops-is = λ h. refl; no-generation = refl; no-atom = refl; no-parking = refl };
       loops = λ l m. (l, m);
       weightless = λ k o y z. rw (o, y, z) (omega arith);
     }
 two-form (par p q) =
     record {
       its-kind = record { known-kind = refl; count-is = refl; limit-is = λ t. refl };
-      figures = λ e. record { figure-is = λ k. refl; stops-is = λ h. refl; no-generation = refl; no-atom = refl };
+      figures = λ e. record { figure-is = λ k. refl; stops-is = λ h. refl; no-generation = refl; no-atom = refl; no-parking = refl };
       loops = λ l m. (l, m);
       weightless = λ k o y z. rw (o, y, z) (omega arith);
     }
 two-form (if v p q) =
     record {
       its-kind = record { known-kind = refl; count-is = refl; limit-is = λ t. refl };
-      figures = λ e. record { figure-is = λ k. refl; stops-is = λ h. refl; no-generation = refl; no-atom = refl };
+      figures = λ e. record { figure-is = λ k. refl; stops-is = λ h. refl; no-generation = refl; no-atom = refl; no-parking = refl };
       loops = λ l m. (l, m);
       weightless = λ k o y z. rw (o, y, z) (omega arith);
     }
@@ -225,6 +242,7 @@ two-form (when c p q) =
         stops-is = λ h. let w = h .early (omega arith) (omega arith) c refl in rw (then-spared (stops p) w, else-spared (stops q) w);
         no-generation = refl;
         no-atom = refl;
+        no-parking = refl;
       };
       loops = λ l m. (l, m);
       weightless = λ k o y z. rw (o, y, z) (omega arith);
@@ -237,6 +255,7 @@ two-form (until c p q) =
         stops-is = λ h. let w = h .early (omega arith) (omega arith) c refl in rw (then-spared (stops q) w);
         no-generation = refl;
         no-atom = refl;
+        no-parking = refl;
       };
       loops = λ l m. (l, m);
       weightless = λ k o y z. rw (o, y, z) (omega arith);

@@ -6,7 +6,7 @@ use mathlib.Core.List.{List}
 use native.Mathlib.Omega.{arith}
 use lib.Dec.{eqb}
 use lib.ListN.{length, getD, set, length-set}
-use Rattle.junior.specs.Program.{Program, kind, Leaf, One, Two}
+use Rattle.junior.specs.Program.{Program, kind, Leaf, One, Two, size}
 use Rattle.junior.specs.Figures.{stops}
 use Rattle.table.specs.Records.{nodes, configurations, kindAt, argumentAt, sizeAt, secondAt}
 use Rattle.table.specs.Good.{children, argumentLimit, goodNode}
@@ -24,13 +24,13 @@ use Rattle.table.proofs.Waits.{last-apart, last-here}
 
 -- the row with the lowest endless Loop kept in it, if b
 record Kept (w w′ : List ℕ) (b : Bool) (i : ℕ) : Type 0 where
-  long : length w′ ≡ 321
+  long : length w′ ≡ 385
   below : (j : ℕ) → j < 64 → weightAt w′ j ≡ weightAt w j
-  last : getD w′ 320 0 ≡ cond b i (getD w 320 0)
+  last : getD w′ 384 0 ≡ cond b i (getD w 384 0)
 
-kept : (w w′ : List ℕ) (b : Bool) (i : ℕ) → length w ≡ 321 → w′ ≡ cond b (set w 320 i) w → Kept w w′ b i
+kept : (w w′ : List ℕ) (b : Bool) (i : ℕ) → length w ≡ 385 → w′ ≡ cond b (set w 384 i) w → Kept w w′ b i
 kept w w′ true i l e =
-    rw e (record { long = length-set w 320 i ∙ l; below = last-apart w i; last = last-here w i l })
+    rw e (record { long = length-set w 384 i ∙ l; below = last-apart w i; last = last-here w i l })
 kept w w′ false i l e = rw e (record { long = l; below = λ j h. refl; last = refl })
 
 bit-none : (b : Bool) → eqb (bit b) 0 ≡ not b
@@ -62,6 +62,13 @@ module _ {t w : List ℕ} {n i k limit count top : ℕ} (R : ToPlace t w n i top
       let there = argued-here t (R .configurations-good) i good-from i (omega arith) here-below in
       record { same = λ n e. rw e at there; cap-is = λ v cap e. (rw e at there) .1 }
 
+  size-is : sizeAt t i ≡ size (treeAt t i)
+  size-is = spells-from t (R .configurations-good) i good-from i (omega arith) here-below .sized
+
+  pub few-nodes : sizeAt t i ≤ 4096
+  few-nodes =
+      omega (arith, size-is, spells-from t (R .configurations-good) i good-from i (omega arith) here-below .ends, R .within .n-most)
+
   -- when its test, if it has one, can be decided early
   early-here : (e : ℕ) → TestsAt t i k e → Tests e (treeAt t i)
   early-here e d =
@@ -82,6 +89,7 @@ module _ {t w : List ℕ} {n i k limit count top : ℕ} (R : ToPlace t w n i top
         generations-small = omega (arith, y .generations-are .small);
         atoms-small = omega (arith, y .atoms-are .small);
         nodes-small = omega (arith, y .nodes-are .small);
+        parked-small = omega (arith, y .parked-are .small);
         height-small =
             omega (arith, y .height-is, height-most (treeAt t j), G .sized);
       }
@@ -168,8 +176,9 @@ module _ {t w : List ℕ} {n i k limit count top : ℕ} (R : ToPlace t w n i top
           }
 
   pub body-placed : count ≡ 1 → (w′ : List ℕ)
-      → w′ ≡ cond (eqb k 5 && eqb (weightAt w (top - 1) .stops) 0) (set w 320 i) w → (z : Weight)
-      → ((p q : Program) → One p q → Counts (argumentAt t i) p → k ≡ kind p → Weighs (weightAt w (top - 1)) q → Weighs z p)
+      → w′ ≡ cond (eqb k 5 && eqb (weightAt w (top - 1) .stops) 0) (set w 384 i) w → (z : Weight)
+      → ((p q : Program) → One p q → Counts (argumentAt t i) p → k ≡ kind p → sizeAt t i ≡ size p → Weighs (weightAt w (top - 1)) q
+      → Weighs z p)
       → NowPlaced t w (put w′ (top - 1) z) i top
   body-placed c w′ d z f = go (rw c at at-node)
     where
@@ -185,7 +194,7 @@ module _ {t w : List ℕ} {n i k limit count top : ℕ} (R : ToPlace t w n i top
             long-row = length-put w′ (top - 1) z ∙ y .long;
             waits =
                 rw e at (waits-more t w′ (top - 1) i z (y .long) (omega arith) here-below
-                (f _ _ v count-is kind-is (a .weighs))
+                (f _ _ v count-is kind-is size-is (a .weighs))
                 (waiting-kept t w w′ (top - 1) (i + sizeAt t i) (λ j h. y .below j (omega arith)) (rw g at (a .rest))));
             room = o;
             endless =

@@ -39,12 +39,12 @@ least-more {i = i} s h false e =
 pub record Swept (t w : List ℕ) (n i top : ℕ) : Type 0 where
   pub within : i ≤ n
   pub good : (j : ℕ) → i ≤ j → j < n → goodNode t j ≡ true
-  pub long-row : length w ≡ 321
+  pub long-row : length w ≡ 385
   pub waits : Waiting t w top i
   pub room : top ≤ 64
-  pub endless : Least t n i (getD w 320 0)
+  pub endless : Least t n i (getD w 384 0)
 
-pub swept-none : (t w : List ℕ) (n : ℕ) → n ≡ nodes t → length w ≡ 321 → getD w 320 0 ≡ n → Swept t w n n 0
+pub swept-none : (t w : List ℕ) (n : ℕ) → n ≡ nodes t → length w ≡ 385 → getD w 384 0 ≡ n → Swept t w n n 0
 unfolding Waiting
 swept-none t w n e l k =
     record {
@@ -112,7 +112,7 @@ module _ {t w : List ℕ} {n m v i top : ℕ} (P : SizedWhole t n m v) (s : Swep
       let k-is = none-behind t w (top - 1) (0 + sizeAt t 0) (omega arith) (a .rest) in
       rw k-is at (a .weighs)
 
-  pub lowest-endless : Lowest (λ k. endlessLoop (treeAt t k)) (nodes t) (getD w 320 0)
+  pub lowest-endless : Lowest (λ k. endlessLoop (treeAt t k)) (nodes t) (getD w 384 0)
   lowest-endless =
       record {
         within = omega arith;

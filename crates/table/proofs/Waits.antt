@@ -19,12 +19,12 @@ at : (w : List ℕ) (i v : ℕ) → i < length w → getD (set w i v) i 0 ≡ v
 at w i v h = getD-set-same w i v 0 h
 
 same-weight : (x y : Weight) → x .generations ≡ y .generations → x .atoms ≡ y .atoms → x .nodes ≡ y .nodes
-    → x .height ≡ y .height → x .stops ≡ y .stops → x ≡ y
-same-weight x y g a n h s = λ i. record { generations = g i; atoms = a i; nodes = n i; height = h i; stops = s i }
+    → x .parked ≡ y .parked → x .height ≡ y .height → x .stops ≡ y .stops → x ≡ y
+same-weight x y g a n p h s = λ i. record { generations = g i; atoms = a i; nodes = n i; parked = p i; height = h i; stops = s i }
 
 -- place j is none of those that belong to weight k
 abbrev Elsewhere : ℕ → ℕ → Type 0
-Elsewhere j k = (j ≢ k) × (j ≢ 64 + k) × (j ≢ 128 + k) × (j ≢ 192 + k) × (j ≢ 256 + k)
+Elsewhere j k = (j ≢ k) × (j ≢ 64 + k) × (j ≢ 128 + k) × (j ≢ 192 + k) × (j ≢ 256 + k) × (j ≢ 320 + k)
 
 module _ (w : List ℕ) (k : ℕ) (x : Weight) where
   -- `put` store by store
@@ -38,7 +38,10 @@ module _ (w : List ℕ) (k : ℕ) (x : Weight) where
   w₃ = set w₂ (128 + k) (x .nodes)
 
   abbrev w₄ : List ℕ
-  w₄ = set w₃ (192 + k) (x .height)
+  w₄ = set w₃ (192 + k) (x .parked)
+
+  abbrev w₅ : List ℕ
+  w₅ = set w₄ (256 + k) (x .height)
 
   pub length-put : length (put w k x) ≡ length w
   unfolding put
@@ -46,25 +49,30 @@ module _ (w : List ℕ) (k : ℕ) (x : Weight) where
 
   pub put-other : (j : ℕ) → Elsewhere j k → getD (put w k x) j 0 ≡ getD w j 0
   unfolding put
-  put-other j (a, b, c, d, e) =
-      past w₄ _ _ j _ e (past w₃ _ _ j _ d (past w₂ _ _ j _ c (past w₁ _ _ j _ b (past w _ _ j _ a refl))))
+  put-other j (a, b, c, d, e, f) =
+      past w₅ _ _ j _ f (past w₄ _ _ j _ e (past w₃ _ _ j _ d (past w₂ _ _ j _ c (past w₁ _ _ j _ b (past w _ _ j _ a refl)))))
 
-  pub put-here : length w ≡ 321 → k < 64 → weightAt (put w k x) k ≡ x
+  pub put-here : length w ≡ 385 → k < 64 → weightAt (put w k x) k ≡ x
   unfolding put
   put-here l h =
       let l₁ = length-set w k (x .generations) in
       let l₂ = length-set w₁ (64 + k) (x .atoms) in
       let l₃ = length-set w₂ (128 + k) (x .nodes) in
-      let l₄ = length-set w₃ (192 + k) (x .height) in
+      let l₄ = length-set w₃ (192 + k) (x .parked) in
+      let l₅ = length-set w₄ (256 + k) (x .height) in
       same-weight _ x
+      (past w₅ _ _ _ _ (λ e. omega arith)
       (past w₄ _ _ _ _ (λ e. omega arith)
       (past w₃ _ _ _ _ (λ e. omega arith)
-      (past w₂ _ _ _ _ (λ e. omega arith) (past w₁ _ _ _ _ (λ e. omega arith) (at w _ _ (omega arith))))))
+      (past w₂ _ _ _ _ (λ e. omega arith) (past w₁ _ _ _ _ (λ e. omega arith) (at w _ _ (omega arith)))))))
+      (past w₅ _ _ _ _ (λ e. omega arith)
       (past w₄ _ _ _ _ (λ e. omega arith)
-      (past w₃ _ _ _ _ (λ e. omega arith) (past w₂ _ _ _ _ (λ e. omega arith) (at w₁ _ _ (omega arith)))))
-      (past w₄ _ _ _ _ (λ e. omega arith) (past w₃ _ _ _ _ (λ e. omega arith) (at w₂ _ _ (omega arith))))
-      (past w₄ _ _ _ _ (λ e. omega arith) (at w₃ _ _ (omega arith)))
-      (at w₄ _ _ (omega arith))
+      (past w₃ _ _ _ _ (λ e. omega arith) (past w₂ _ _ _ _ (λ e. omega arith) (at w₁ _ _ (omega arith))))))
+      (past w₅ _ _ _ _ (λ e. omega arith)
+      (past w₄ _ _ _ _ (λ e. omega arith) (past w₃ _ _ _ _ (λ e. omega arith) (at w₂ _ _ (omega arith)))))
+      (past w₅ _ _ _ _ (λ e. omega arith) (past w₄ _ _ _ _ (λ e. omega arith) (at w₃ _ _ (omega arith))))
+      (past w₅ _ _ _ _ (λ e. omega arith) (at w₄ _ _ (omega arith)))
+      (at w₅ _ _ (omega arith))
 
   pub put-below : k < 64 → (j : ℕ) → j < k → weightAt (put w k x) j ≡ weightAt w j
   put-below h j l =
@@ -74,12 +82,13 @@ module _ (w : List ℕ) (k : ℕ) (x : Weight) where
       (put-other (128 + j) (omega arith))
       (put-other (192 + j) (omega arith))
       (put-other (256 + j) (omega arith))
+      (put-other (320 + j) (omega arith))
 
-  pub put-last : k < 64 → getD (put w k x) 320 0 ≡ getD w 320 0
-  put-last h = put-other 320 (omega arith)
+  pub put-last : k < 64 → getD (put w k x) 384 0 ≡ getD w 384 0
+  put-last h = put-other 384 (omega arith)
 
 -- the last place is no weight's
-pub last-apart : (w : List ℕ) (v j : ℕ) → j < 64 → weightAt (set w 320 v) j ≡ weightAt w j
+pub last-apart : (w : List ℕ) (v j : ℕ) → j < 64 → weightAt (set w 384 v) j ≡ weightAt w j
 last-apart w v j h =
     same-weight _ _
     (past w _ _ _ _ (λ e. omega arith) refl)
@@ -87,9 +96,10 @@ last-apart w v j h =
     (past w _ _ _ _ (λ e. omega arith) refl)
     (past w _ _ _ _ (λ e. omega arith) refl)
     (past w _ _ _ _ (λ e. omega arith) refl)
+    (past w _ _ _ _ (λ e. omega arith) refl)
 
-pub last-here : (w : List ℕ) (v : ℕ) → length w ≡ 321 → getD (set w 320 v) 320 0 ≡ v
-last-here w v l = at w 320 v (omega arith)
+pub last-here : (w : List ℕ) (v : ℕ) → length w ≡ 385 → getD (set w 384 v) 384 0 ≡ v
+last-here w v l = at w 384 v (omega arith)
 
 -- programs wait as long as their places are left alone
 pub waiting-kept : (t w w′ : List ℕ) (k i : ℕ) → ((j : ℕ) → j < k → weightAt w′ j ≡ weightAt w j) → Waiting t w k i
@@ -105,7 +115,7 @@ waiting-row t w zero i x = x
 waiting-row t w (suc k) i (l, x, r) = (l, waiting-row t w k (i + sizeAt t i) r)
 
 -- one more on top
-pub waits-more : (t w : List ℕ) (k i : ℕ) (x : Weight) → length w ≡ 321 → k < 64 → i < nodes t → Weighs x (treeAt t i)
+pub waits-more : (t w : List ℕ) (k i : ℕ) (x : Weight) → length w ≡ 385 → k < 64 → i < nodes t → Weighs x (treeAt t i)
     → Waiting t w k (i + sizeAt t i) → Waiting t (put w k x) (k + 1) i
 unfolding Waiting
 waits-more t w k i x l h m y r =

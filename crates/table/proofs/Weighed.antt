@@ -7,11 +7,11 @@ use native.Mathlib.Omega.{arith}
 use lib.Bits.{bitAnd, bitOr}
 use lib.Dec.{eqb}
 use borrow.Author.Tests.{ne-eqb, le-leb}
-use Rattle.junior.specs.Program.{Program, kind, Leaf, One, Two}
-use Rattle.junior.specs.Figures.{stops, figure, times}
+use Rattle.junior.specs.Program.{Program, kind, Leaf, One, Two, size}
+use Rattle.junior.specs.Figures.{stops, figure, times, parking}
 use Rattle.table.specs.declared.weights.Weight.{Weight}
 use Rattle.table.specs.Inside.Early.{Tests}
-use Rattle.table.specs.Inside.Weighing.{Counts, Figure, Weighs, height, bit, counted, repeatedly}
+use Rattle.table.specs.Inside.Weighing.{Counts, Figure, Weighs, height, bit, counted, onceMore, repeatedly}
 use Rattle.table.specs.Inside.Weighing.{either, together}
 use Rattle.table.specs.Spells.{capIn}
 use Rattle.table.proofs.Little.{below-or}
@@ -42,7 +42,7 @@ module _ {k : Program → ℕ} where
       record { exact = rw (figures-of-none {e = 0} v .figure-is k, e); small = omega arith }
 
   pub under : {a : ℕ} {p q : Program} → One p q → FiguresOfOne a p q → often (kind p) a (stops q) ≡ 1 → (x z : ℕ)
-      → k p ≤ 1 → z ≡ x + k p → Figure k q x → Figure k p z
+      → k p ≤ 65537 → z ≡ x + k p → Figure k q x → Figure k p z
   under u v o x z l e f =
       let s = of-one u .size-is in
       record { exact = rw (v .figure-is k, o) (omega arith); small = omega arith }
@@ -80,7 +80,7 @@ pub single-stops : (k e : ℕ) {p : Program} → Leaf p → k ≡ kind p → Tes
 single-stops k e v same h = rw (same, figures-of-none v .stops-is h)
 
 pub single-weighs : (k s : ℕ) {p : Program} → Leaf p → k ≡ kind p → s ≡ bit (stops p)
-    → Weighs (record { generations = bit (eqb k 7); atoms = bit (eqb k 2); nodes = 1; height = 1; stops = s }) p
+    → Weighs (record { generations = bit (eqb k 7); atoms = bit (eqb k 2); nodes = 1; parked = 0; height = 1; stops = s }) p
 single-weighs k s {p} v e h =
     rw
     e
@@ -88,6 +88,7 @@ single-weighs k s {p} v e h =
       generations-are = alone v _ refl (bit-small (eqb (kind p) 7));
       atoms-are = alone v _ refl (bit-small (eqb (kind p) 2));
       nodes-are = alone v _ refl (omega arith);
+      parked-are = alone v _ (sym (figures-of-none {e = 0} v .no-parking)) (omega arith);
       height-is = sym (of-none v .height-is);
       stops-is = h;
     })
@@ -117,24 +118,25 @@ bits-or false true = refl
 bits-or false false = refl
 
 module _ {x : Weight} {a : ℕ} {p q : Program} (v : One p q) (n : Counts a p) where
-  repeats : (c s : ℕ) → often (kind p) a (stops q) ≡ c → s ≡ bit (stops p) → Weighs x q
+  repeats : (c s : ℕ) → often (kind p) a (stops q) ≡ c → parking p ≡ 0 → s ≡ bit (stops p) → Weighs x q
       → Weighs (repeatedly c x s) p
-  repeats c s m e w =
+  repeats c s m none e w =
       let o = figures-of-one v n in
       let h = of-one v .height-is in
       record {
         generations-are = over v o c m (x .generations) _ (omega arith) (omega arith) (w .generations-are);
         atoms-are = over v o c m (x .atoms) _ (omega arith) (omega arith) (w .atoms-are);
         nodes-are = over v o c m (x .nodes) _ (omega arith) refl (w .nodes-are);
+        parked-are = over v o c m (x .parked) _ (omega arith) (omega arith) (w .parked-are);
         height-is = omega arith;
         stops-is = e;
       }
 
   pub loop-weighs : kind p ≡ 5 → Weighs x q → Weighs (repeatedly 2 x 1) p
-  loop-weighs e w = repeats 2 1 (rw e) (rw (figures-of-one v n .stops-is, e)) w
+  loop-weighs e w = repeats 2 1 (rw e) (rw e) (rw (figures-of-one v n .stops-is, e)) w
 
   pub never-weighs : kind p ≡ 6 → a ≡ 0 → Weighs x q → Weighs (repeatedly 0 x 0) p
-  never-weighs e z w = repeats 0 0 (rw (e, z) (no-times (stops q))) (rw (figures-of-one v n .stops-is, e, z)) w
+  never-weighs e z w = repeats 0 0 (rw (e, z) (no-times (stops q))) (rw e) (rw (figures-of-one v n .stops-is, e, z)) w
 
   pub repeat-weighs : kind p ≡ 6 → (a ≡ 0 → ⊥) → (c : ℕ) → c ≡ times a (eqb (x .stops) 1) → Weighs x q
       → Weighs (repeatedly c x (x .stops)) p
@@ -143,6 +145,7 @@ module _ {x : Weight} {a : ℕ} {p q : Program} (v : One p q) (n : Counts a p) w
       c
       (x .stops)
       (rw e (sym (m ∙ ap (times a) (ap (λ n. eqb n 1) (w .stops-is) ∙ bit-back (stops q)))))
+      (rw e)
       (rw (figures-of-one v n .stops-is, e, le-leb 1 a (omega arith)) (w .stops-is))
       w
 
@@ -152,30 +155,43 @@ module _ {x : Weight} {a : ℕ} {p q : Program} (v : One p q) (n : Counts a p) w
       c
       0
       (rw e (sym (m ∙ ap (times (capIn a)) (ap (λ n. eqb n 1) (w .stops-is) ∙ bit-back (stops q)))))
+      (rw e)
       (rw (figures-of-one v n .stops-is, e))
       w
 
-  pub under-weighs : (kind p ≡ 5 → ⊥) → (kind p ≡ 6 → ⊥) → (kind p ≡ 15 → ⊥) → Weighs x q
-      → Weighs
-      (record {
-        generations = x .generations;
-        atoms = x .atoms;
-        nodes = x .nodes + 1;
-        height = x .height + 1;
-        stops = x .stops;
-      })
-      p
-  under-weighs e f g w =
+  once : (own s : ℕ) → often (kind p) a (stops q) ≡ 1 → own ≡ parking p → own ≤ 16384 → s ≡ bit (stops p) → Weighs x q
+      → Weighs (onceMore x own s) p
+  once own s m parks few e w =
       let o = figures-of-one v n in
-      let m : often (kind p) a (stops q) ≡ 1 = rw (ne-eqb (kind p) 5 e, ne-eqb (kind p) 6 f, ne-eqb (kind p) 15 g) in
       let h = of-one v .height-is in
       record {
         generations-are = under v o m (x .generations) _ (omega arith) (omega arith) (w .generations-are);
         atoms-are = under v o m (x .atoms) _ (omega arith) (omega arith) (w .atoms-are);
         nodes-are = under v o m (x .nodes) _ (omega arith) refl (w .nodes-are);
+        parked-are = under v o m (x .parked) _ (omega arith) (omega arith) (w .parked-are);
         height-is = omega arith;
-        stops-is = rw (o .stops-is, ne-eqb (kind p) 5 e, ne-eqb (kind p) 6 f, ne-eqb (kind p) 15 g) (w .stops-is);
+        stops-is = e;
       }
+
+  -- "a Freezable weighs 4 plus 4 for each node of its body"
+  pub freezable-weighs : kind p ≡ 13 → (own : ℕ) → own ≡ 4 * size p → own ≤ 16384 → Weighs x q → Weighs (onceMore x own 0) p
+  freezable-weighs e own is few w = once own 0 (rw e) (rw e is) few (rw (figures-of-one v n .stops-is, e)) w
+
+  pub under-weighs : (kind p ≡ 5 → ⊥) → (kind p ≡ 6 → ⊥) → (kind p ≡ 15 → ⊥) → (kind p ≡ 13 → ⊥) → Weighs x q
+      → Weighs (onceMore x 0 (x .stops)) p
+  under-weighs e f g h w =
+      let five = ne-eqb (kind p) 5 e in
+      let six = ne-eqb (kind p) 6 f in
+      let fifteen = ne-eqb (kind p) 15 g in
+      let thirteen = ne-eqb (kind p) 13 h in
+      once
+      0
+      (x .stops)
+      (rw (five, six, fifteen))
+      (rw thirteen)
+      (omega arith)
+      (rw (figures-of-one v n .stops-is, five, six, fifteen, thirteen) (w .stops-is))
+      w
 
 -- the stops of When and Until from those of their parts, and from when their test can be decided early
 when-stops : (a b c d : Bool) → bitAnd (bitOr (bit a) (bit b)) (bitOr (bit c) (bit d)) ≡ bit ((a || b) && (c || d))
@@ -197,6 +213,7 @@ module _ {x y : Weight} {p q r : Program} where
             (w .generations-are) (u .generations-are);
         atoms-are = larger v n (x .atoms) (y .atoms) _ (omega arith) (omega arith) (w .atoms-are) (u .atoms-are);
         nodes-are = larger v n (x .nodes) (y .nodes) _ (omega arith) refl (w .nodes-are) (u .nodes-are);
+        parked-are = larger v n (x .parked) (y .parked) _ (omega arith) (omega arith) (w .parked-are) (u .parked-are);
         height-is = omega arith;
         stops-is = t;
       }
@@ -229,6 +246,7 @@ module _ {x y : Weight} {p q r : Program} where
             (w .generations-are) (u .generations-are);
         atoms-are = added v n (x .atoms) (y .atoms) _ (omega arith) (omega arith) (w .atoms-are) (u .atoms-are);
         nodes-are = added v n (x .nodes) (y .nodes) _ (omega arith) refl (w .nodes-are) (u .nodes-are);
+        parked-are = added v n (x .parked) (y .parked) _ (omega arith) (omega arith) (w .parked-are) (u .parked-are);
         height-is = omega arith;
         stops-is = t;
       }

@@ -1,6 +1,6 @@
 -- Good records (01, "The table"): a record is judged by its own bytes and by its children's indexes and written sizes.
 use Prim.Native.Nat.{ℕ, zero, suc, _+_}
-use mathlib.Core.Bool.{Bool, true, false, cond, not, _&&_, _||_}
+use mathlib.Core.Bool.{Bool, true, false, cond, _&&_, _||_}
 use mathlib.Core.List.{List, [], _∷_}
 use lib.Dec.{eqb, leb, ltb}
 use lib.ListN.{getD}
@@ -15,22 +15,22 @@ laidOut written n i (suc (suc more)) =
     let second = i + 1 + written (i + 1) in
     ltb (i + 1) n && (ltb second n && eqb (written i) (1 + written (i + 1) + written second))
 
--- the kinds that there are: to 12 (01), and L14's "kinds 14 and 15"
+-- the kinds that there are: to 12 (01), L8's "kind 13", and L14's "kinds 14 and 15"
 abbrev pub known : ℕ → Bool
-known k = leb k 15 && not (eqb k 13)
+known k = leb k 15
 
--- how many children each kind has, in the order of the kinds: Seq, Par, When, Until, If two; Loop, Repeat, Control, Local, RepeatExt one
+-- how many children each kind has, in the order of the kinds: Seq, Par, When, Until, If two; Loop, Repeat, Control, Local, Freezable, RepeatExt one
 abbrev pub childCounts : List ℕ
-childCounts = 0 ∷ 0 ∷ 0 ∷ 2 ∷ 2 ∷ 1 ∷ 1 ∷ 0 ∷ 0 ∷ 2 ∷ 2 ∷ 1 ∷ 1 ∷ 0 ∷ 2 ∷ 1 ∷ []
+childCounts = 0 ∷ 0 ∷ 0 ∷ 2 ∷ 2 ∷ 1 ∷ 1 ∷ 0 ∷ 0 ∷ 2 ∷ 2 ∷ 1 ∷ 1 ∷ 1 ∷ 2 ∷ 1 ∷ []
 
 unfoldable pub children : ℕ → ℕ
 children k = getD childCounts k 0
 
--- what each kind's argument is below, in the order of the kinds: an Atom's any number, a Repeat's its count; Generate, Control, Local an
--- event of v; Await, When, Until a configuration of m; an If's one of sixteen values; a RepeatExt's "a cap times 16 plus a number, cap at most
--- 255"; otherwise 0
+-- what each kind's argument is below, in the order of the kinds: an Atom's any number, a Repeat's its count; Generate, Control, Local,
+-- Freezable an event of v; Await, When, Until a configuration of m; an If's one of sixteen values; a RepeatExt's "a cap times 16 plus a number, cap
+-- at most 255"; otherwise 0
 abbrev pub argumentLimits : ℕ → ℕ → List ℕ
-argumentLimits v m = 1 ∷ 1 ∷ 65536 ∷ 1 ∷ 1 ∷ 1 ∷ 65536 ∷ v ∷ m ∷ m ∷ m ∷ v ∷ v ∷ 0 ∷ 16 ∷ 4096 ∷ []
+argumentLimits v m = 1 ∷ 1 ∷ 65536 ∷ 1 ∷ 1 ∷ 1 ∷ 65536 ∷ v ∷ m ∷ m ∷ m ∷ v ∷ v ∷ v ∷ 16 ∷ 4096 ∷ []
 
 unfoldable pub argumentLimit : List ℕ → ℕ → ℕ
 argumentLimit t k = getD (argumentLimits (events t) (configurations t)) k 0

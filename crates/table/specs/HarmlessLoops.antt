@@ -14,15 +14,18 @@ use Rattle.junior.specs.Trace.{Place}
 use Rattle.junior.specs.Rules.{left-first, Result, Rewrites}
 use Rattle.junior.specs.Instant.{Instant}
 use Rattle.junior.specs.Values.{Values, exactly}
-use Rattle.junior.specs.Figures.{stops, figure, G, A, W}
-use Rattle.junior.specs.StoppedBefore.{stopped-before, G-before, A-before, W-before}
+use Rattle.junior.specs.Figures.{stops, figure, parking, G, A, W, F}
+use Rattle.junior.specs.StoppedBefore.{stopped-before, figure-before, G-before, A-before, W-before}
 use Rattle.table.specs.declared.Checked.{Checked}
 use Rattle.table.specs.declared.Checked.the-variants.{TooDeep, EndlessLoop, TooHeavy, Accepted}
 use Rattle.table.specs.Bytes.{node, configuration, trailer}
 use Rattle.table.specs.Spells.{Spells, treeOf}
 use Rattle.table.specs.Verdict.{numberOf, Node, preorder, firstSuch, deep, endlessLoop, verdictOf}
 
--- Refusals 6 to 8 as they were before: a Loop whose body didn't stop, and the figures, by 01's rule.
+-- Refusals 6 to 8 as they were before: a Loop whose body didn't stop, and the figures, by 01's rule; L8's figure by that rule too.
+abbrev pub F-before : Program → ℕ
+F-before p = figure-before parking p
+
 abbrev pub endlessPartsBefore : {p : Program} → Parts p → Bool
 endlessPartsBefore (no-part f) = false
 endlessPartsBefore {p} (one-part {q = q} f v) = eqb (kind p) 5 && not (stopped-before q)
@@ -32,7 +35,7 @@ abbrev pub endlessBefore : Node → Bool
 endlessBefore x = endlessPartsBefore (parts (x .part))
 
 unfoldable pub lightBefore : Program → Bool
-lightBefore p = leb (G-before p) 4094 && (leb (A-before p) 4096 && leb (W-before p) 65535)
+lightBefore p = leb (G-before p) 4094 && (leb (A-before p) 4096 && (leb (W-before p) 65535 && leb (F-before p) 16384))
 
 unfoldable pub programBefore : Program → Checked
 programBefore p =
@@ -41,7 +44,10 @@ programBefore p =
     cond
     (ltb tooDeep (size p))
     (TooDeep tooDeep)
-    (cond (ltb never (size p)) (EndlessLoop never) (cond (lightBefore p) (Accepted (G-before p) (A-before p) (W-before p)) TooHeavy))
+    (cond
+    (ltb never (size p))
+    (EndlessLoop never)
+    (cond (lightBefore p) (Accepted (G-before p) (A-before p) (W-before p) (F-before p)) TooHeavy))
 
 -- what checking a table answered before: refusals 1 to 5 ask nothing of what stops, and are what they were
 unfoldable pub verdictBefore : List ℕ → Checked
@@ -58,13 +64,13 @@ bouquet = node 5 0 4 ++ (node 9 0 3 ++ (node 1 0 1 ++ (node 0 0 1 ++ (configurat
 abbrev pub Unending : Program → Type 0
 Unending p = (value : Values) (X : Events) (n : ℕ) (r : Result) → Instant (left-first value) (fresh p) (handed-in X) n r → r .flag ≢ TERM
 
--- t, accepted before with the figures g, a and w, is accepted now: the same tree, and no figure has grown
-pub record StillAccepted (t : List ℕ) (g a w : ℕ) : Type 0 where
+-- t, accepted before with the figures g, a, w and f, is accepted now: the same tree, and no figure has grown
+pub record StillAccepted (t : List ℕ) (g a w f : ℕ) : Type 0 where
   pub tree : Program
   pub spelled : Spells t 0 tree
-  pub before : (g ≡ G-before tree) × (a ≡ A-before tree) × (w ≡ W-before tree)
-  pub now : verdictOf t ≡ Accepted (G tree) (A tree) (W tree)
-  pub no-larger : (G tree ≤ g) × (A tree ≤ a) × (W tree ≤ w)
+  pub before : (g ≡ G-before tree) × (a ≡ A-before tree) × (w ≡ W-before tree) × (f ≡ F-before tree)
+  pub now : verdictOf t ≡ Accepted (G tree) (A tree) (W tree) (F tree)
+  pub no-larger : (G tree ≤ g) × (A tree ≤ a) × (W tree ≤ w) × (F tree ≤ f)
 
 pub record HarmlessLoops : Type 0 where
   -- "The bouquet team writes Loop(When(0, Stop, Nothing)) and gets 7,"
@@ -77,7 +83,7 @@ pub record HarmlessLoops : Type 0 where
       → E .now s ≡ false
       → E .eoi ≡ true
       → r .flag ≡ STOP
-  pub accepted-now : verdictOf bouquet ≡ Accepted 0 0 5
+  pub accepted-now : verdictOf bouquet ≡ Accepted 0 0 5 0
   -- "Document 01's stopping rule is mistaken.": a program is none that stops by it, and yet can't end in its instant
   pub mistaken : (p : Program) × (stopped-before p ≡ false) × Unending p
   -- "Say whether a configuration can be true early or false early:"
@@ -118,4 +124,4 @@ pub record HarmlessLoops : Type 0 where
   pub figures : (k : Program → ℕ) (n : ℕ) (p : Program)
       → figure k (Repeat (exactly n) p) ≡ k (Repeat (exactly n) p) + cond (stops p) (min n 2) n * figure k p
   -- "every table accepted before is still accepted."
-  pub still-accepted : (t : List ℕ) {g a w : ℕ} → verdictBefore t ≡ Accepted g a w → StillAccepted t g a w
+  pub still-accepted : (t : List ℕ) {g a w f : ℕ} → verdictBefore t ≡ Accepted g a w f → StillAccepted t g a w f

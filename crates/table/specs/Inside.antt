@@ -1,13 +1,13 @@
 -- What a table has once some refusals are past. No contract of a customer's call cites this file or those below it.
 use Prim.Native.Nat.{ℕ, _+_, _*_, _≤_, _<_}
-use mathlib.Core.Bool.{true}
+use mathlib.Core.Bool.{true, _&&_}
 use mathlib.Core.Path.{_≡_}
 use mathlib.Core.List.{List}
 use lib.ListN.{length}
 use Rattle.events.specs.Members.{places}
 use Rattle.junior.specs.Program.{Program, size}
-use Rattle.table.specs.Records.{nodes, configurations, events, configurationAt}
-use Rattle.table.specs.Good.{goodConfiguration, goodNode}
+use Rattle.table.specs.Records.{nodes, configurations, events, kindAt, sizeAt, configurationAt}
+use Rattle.table.specs.Good.{laidOut, known, children, goodConfiguration, goodNode}
 use Rattle.table.specs.Spells.{Spells}
 pub mod Early
 pub mod Framing
@@ -41,6 +41,12 @@ pub record Loaded (t : List ℕ) : Type 0 where
   pub framed : Framed t (nodes t) (configurations t) (events t)
   pub configurations-good : ConfigurationsGood t
   pub nodes-good : NodesGood t
+
+-- the first n records are a subtree of known kinds, each laid out inside it
+pub record Rooted (t : List ℕ) (n : ℕ) : Type 0 where
+  pub long : 6 * n ≤ length t
+  pub whole : sizeAt t 0 ≡ n
+  pub fits : (i : ℕ) → i < n → (known (kindAt t i) && laidOut (sizeAt t) n i (children (kindAt t i))) ≡ true
 
 -- p stands at node i of such a table
 pub record Placed (t : List ℕ) (i : ℕ) (p : Program) : Type 0 where

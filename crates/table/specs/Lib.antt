@@ -6,4 +6,5 @@ pub mod Reading
 pub mod Verdict
 pub mod Inside
 pub mod Bytes
+pub mod Part
 pub mod HarmlessLoops

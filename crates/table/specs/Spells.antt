@@ -10,7 +10,7 @@ use Rattle.table.specs.Records.{partKind}
 use Rattle.table.specs.Records.{partEvent, partSize, firstPart, secondPart}
 use Rattle.junior.specs.Configuration.{Config, Event, Not, And, Or}
 use Rattle.junior.specs.Program.{Program, Nothing, Stop, Atom, Seq, Par, Loop, Repeat, Generate, Await, When, Until}
-use Rattle.junior.specs.Program.{Control, Local, If, Argument, no-argument, number, event, configuration, value, capped, argument, kind}
+use Rattle.junior.specs.Program.{Control, Local, Freezable, If, Argument, no-argument, number, event, configuration, value, capped, argument, kind}
 use Rattle.junior.specs.Values.{exactly, asked}
 use Rattle.junior.specs.Program.{Parts, no-part, one-part, two-parts, parts, size}
 
@@ -82,7 +82,7 @@ configurationOf t (suc levels) c =
     (Event (partEvent t c))
     (cond (eqb (partKind t c) 1) (Not d) (cond (eqb (partKind t c) 2) (And d e) (Or d e)))
 
--- the forms in the order of their kinds, with the argument a or c and the parts p and q; none has kind 13
+-- the forms in the order of their kinds, with the argument a or c and the parts p and q
 abbrev pub forms : ℕ → Config → Program → Program → List Program
 forms a c p q =
     Nothing
@@ -98,7 +98,7 @@ forms a c p q =
     ∷ Until c p q
     ∷ Control a p
     ∷ Local a p
-    ∷ Nothing
+    ∷ Freezable a p
     ∷ If a p q
     ∷ Repeat (asked (valueIn a) (capIn a)) p
     ∷ []

@@ -7,7 +7,7 @@ use lib.Dec.{eqb, leb, ltb}
 use Rattle.events.specs.Events.{lowest}
 use Rattle.events.specs.Members.{places}
 use Rattle.junior.specs.Program.{Program, kind, Parts, no-part, one-part, two-parts, parts, size}
-use Rattle.junior.specs.Figures.{stops, G, A, W}
+use Rattle.junior.specs.Figures.{stops, G, A, W, F}
 use Rattle.table.specs.declared.Checked.{Checked}
 use Rattle.table.specs.declared.Checked.the-variants.{BadLength, BadCounts, BadDistances, BadConfiguration}
 use Rattle.table.specs.declared.Checked.the-variants.{BadNode, TooDeep, EndlessLoop, TooHeavy, Accepted}
@@ -25,7 +25,7 @@ numberOf (BadNode i) = 5
 numberOf (TooDeep i) = 6
 numberOf (EndlessLoop i) = 7
 numberOf TooHeavy = 8
-numberOf (Accepted g a w) = 0
+numberOf (Accepted g a w f) = 0
 
 unfoldable pub indexOf : Checked → ℕ
 indexOf BadLength = 0
@@ -36,16 +36,17 @@ indexOf (BadNode i) = i
 indexOf (TooDeep i) = i
 indexOf (EndlessLoop i) = i
 indexOf TooHeavy = 0
-indexOf (Accepted g a w) = 0
+indexOf (Accepted g a w f) = 0
 
--- G, A and W; 0 where the table is refused
+-- G, A, W and F; 0 where the table is refused
 pub record Figures : Type 0 where
   pub generations : ℕ
   pub atoms : ℕ
   pub nodes : ℕ
+  pub parked : ℕ
 
 abbrev pub no-figures : Figures
-no-figures = record { generations = 0; atoms = 0; nodes = 0 }
+no-figures = record { generations = 0; atoms = 0; nodes = 0; parked = 0 }
 
 unfoldable pub figuresOf : Checked → Figures
 figuresOf BadLength = no-figures
@@ -56,7 +57,7 @@ figuresOf (BadNode i) = no-figures
 figuresOf (TooDeep i) = no-figures
 figuresOf (EndlessLoop i) = no-figures
 figuresOf TooHeavy = no-figures
-figuresOf (Accepted g a w) = record { generations = g; atoms = a; nodes = w }
+figuresOf (Accepted g a w f) = record { generations = g; atoms = a; nodes = w; parked = f }
 
 -- 1: the length
 unfoldable pub lengthGood : List ℕ → Bool
@@ -113,9 +114,9 @@ endlessLoop p = endlessParts (parts p)
 abbrev pub endless : Node → Bool
 endless x = endlessLoop (x .part)
 
--- 8: G, A and W within their limits
+-- 8: G, A and W within their limits; "8 also for F above 16,384" (L8)
 unfoldable pub light : Program → Bool
-light p = leb (G p) 4094 && (leb (A p) 4096 && leb (W p) 65535)
+light p = leb (G p) 4094 && (leb (A p) 4096 && (leb (W p) 65535 && leb (F p) 16384))
 
 -- refusals 6 to 8, of the program that good records spell
 unfoldable pub programVerdict : Program → Checked
@@ -125,7 +126,7 @@ programVerdict p =
     cond
     (ltb tooDeep (size p))
     (TooDeep tooDeep)
-    (cond (ltb never (size p)) (EndlessLoop never) (cond (light p) (Accepted (G p) (A p) (W p)) TooHeavy))
+    (cond (ltb never (size p)) (EndlessLoop never) (cond (light p) (Accepted (G p) (A p) (W p) (F p)) TooHeavy))
 
 -- refusals 5 to 8: all configurations are good
 unfoldable pub nodesVerdict : List ℕ → Checked

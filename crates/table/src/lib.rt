@@ -27,6 +27,7 @@ pub enum Checked {
         generations: usize,
         atoms: usize,
         nodes: usize,
+        parked: usize,
     },
 }
 

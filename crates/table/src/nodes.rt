@@ -61,8 +61,8 @@ fn check_tests_known(table: &[u8], n: usize, m: usize, v: usize, early: &[u8]) -
     requires { ⌜ KnownFrom (now table) (now early) 0 ⌝ }
     ensures { λ r. ⌜ r ≡ nodesVerdict (now (table .entry)) ⌝ }
 {
-    let mut waiting = [0u32; 321];
-    waiting[320] = n as u32;
+    let mut waiting = [0u32; 385];
+    waiting[384] = n as u32;
     let mut i = n;
     let mut top = 0;
     while i > 0 {
@@ -76,7 +76,7 @@ fn check_tests_known(table: &[u8], n: usize, m: usize, v: usize, early: &[u8]) -
     if x.height > 64 {
         return refused(table, n, m, v);
     }
-    let endless = waiting[320] as usize;
+    let endless = waiting[384] as usize;
     if endless < n {
         return Checked::EndlessLoop(endless);
     }
@@ -85,8 +85,8 @@ fn check_tests_known(table: &[u8], n: usize, m: usize, v: usize, early: &[u8]) -
 
 // Refusal 8, or none.
 fn weighed(x: Weight) -> Checked
-    ensures { λ r. ⌜ r ≡ cond (leb (x .generations) 4094 && (leb (x .atoms) 4096 && leb (x .nodes) 65535))
-        (Checked.Accepted (x .generations) (x .atoms) (x .nodes)) Checked.TooHeavy ⌝ }
+    ensures { λ r. ⌜ r ≡ cond (leb (x .generations) 4094 && (leb (x .atoms) 4096 && (leb (x .nodes) 65535 && leb (x .parked) 16384)))
+        (Checked.Accepted (x .generations) (x .atoms) (x .nodes) (x .parked)) Checked.TooHeavy ⌝ }
 {
     if x.generations > 4094 {
         return Checked::TooHeavy;
@@ -97,10 +97,14 @@ fn weighed(x: Weight) -> Checked
     if x.nodes > 65535 {
         return Checked::TooHeavy;
     }
+    if x.parked > 16384 {
+        return Checked::TooHeavy;
+    }
     Checked::Accepted {
         generations: x.generations as usize,
         atoms: x.atoms as usize,
         nodes: x.nodes as usize,
+        parked: x.parked as usize,
     }
 }
 
@@ -112,7 +116,7 @@ fn place(
     v: usize,
     i: usize,
     early: &[u8],
-    waiting: &mut [u32; 321],
+    waiting: &mut [u32; 385],
     top: usize,
 ) -> usize
     requires { ⌜ Framed (now table) n m v ⌝ }
@@ -135,6 +139,7 @@ fn place(
         10 => pair(table, n, i, 10, m, early_of(table, i, early), waiting, top),
         11 => body(table, n, i, 11, v, waiting, top),
         12 => body(table, n, i, 12, v, waiting, top),
+        13 => body(table, n, i, 13, v, waiting, top),
         14 => pair(table, n, i, 14, 16, 0, waiting, top),
         15 => body(table, n, i, 15, 4096, waiting, top),
         _ => 0,
@@ -149,7 +154,7 @@ fn leaf(
     k: usize,
     limit: usize,
     e: usize,
-    waiting: &mut [u32; 321],
+    waiting: &mut [u32; 385],
     top: usize,
 ) -> usize
     requires { ⌜ ToPlace (now table) (now waiting) n i top ⌝ }
@@ -174,7 +179,7 @@ fn body(
     i: usize,
     k: usize,
     limit: usize,
-    waiting: &mut [u32; 321],
+    waiting: &mut [u32; 385],
     top: usize,
 ) -> usize
     requires { ⌜ ToPlace (now table) (now waiting) n i top ⌝ }
@@ -185,7 +190,11 @@ fn body(
         let at = top - 1;
         let x = weight_at(waiting, at);
         keep_endless(waiting, i, k, x.stops);
-        put_weight(waiting, at, wrapped(k, argument_at(table, i), x));
+        put_weight(
+            waiting,
+            at,
+            wrapped(k, argument_at(table, i), size_at(table, i), x),
+        );
         return top;
     }
     0
@@ -199,7 +208,7 @@ fn pair(
     k: usize,
     limit: usize,
     e: usize,
-    waiting: &mut [u32; 321],
+    waiting: &mut [u32; 385],
     top: usize,
 ) -> usize
     requires { ⌜ ToPlace (now table) (now waiting) n i top ⌝ }
@@ -218,14 +227,14 @@ fn pair(
 }
 
 // Keeps the lowest Loop whose body doesn't stop: node i, of kind k, if it is one.
-fn keep_endless(waiting: &mut [u32; 321], i: usize, k: usize, stops: u32)
+fn keep_endless(waiting: &mut [u32; 385], i: usize, k: usize, stops: u32)
     requires { ⌜ i < 4096 ⌝ }
     ensures { λ r. ⌜ now (waiting .exit) ≡
-        cond (eqb k 5 && eqb stops 0) (set (now (waiting .entry)) 320 i) (now (waiting .entry)) ⌝ }
+        cond (eqb k 5 && eqb stops 0) (set (now (waiting .entry)) 384 i) (now (waiting .entry)) ⌝ }
 {
     if k == 5 {
         if stops == 0 {
-            waiting[320] = i as u32;
+            waiting[384] = i as u32;
         }
     }
 }
@@ -303,9 +312,6 @@ fn good_node(table: &[u8], n: usize, m: usize, v: usize, i: usize) -> bool
     if k > 15 {
         return false;
     }
-    if k == 13 {
-        return false;
-    }
     good_as(table, n, i, limit_of(k, m, v), children_of(k))
 }
 
@@ -313,7 +319,7 @@ fn good_node(table: &[u8], n: usize, m: usize, v: usize, i: usize) -> bool
 fn limit_of(k: usize, m: usize, v: usize) -> usize
     ensures { λ r. ⌜ ((t : List ℕ) → m ≡ configurations t → v ≡ events t → argumentLimit t k ≡ r) ⌝ }
 {
-    let limits = [1, 1, 65536, 1, 1, 1, 65536, v, m, m, m, v, v, 0, 16, 4096];
+    let limits = [1, 1, 65536, 1, 1, 1, 65536, v, m, m, m, v, v, v, 16, 4096];
     if k < 16 {
         return limits[k];
     }
@@ -344,7 +350,7 @@ fn first_deep(table: &[u8], i: usize, d: usize) -> usize
     first_deep(table, second, d + 1)
 }
 
-const CHILDREN: [usize; 16] = [0, 0, 0, 2, 2, 1, 1, 0, 0, 2, 2, 1, 1, 0, 2, 1];
+const CHILDREN: [usize; 16] = [0, 0, 0, 2, 2, 1, 1, 0, 0, 2, 2, 1, 1, 1, 2, 1];
 
 // How many children kind k has.
 pub fn children_of(k: usize) -> usize

@@ -50,6 +50,7 @@ pub fn refusal_of_table(verdict: Checked) -> Refusal
             generations: _,
             atoms: _,
             nodes: _,
+            parked: _,
         } => Refusal {
             number: 0,
             index: 0,

@@ -17,7 +17,7 @@ use events::marked;
 use junior::Verdict;
 
 // How long the row of numbers is that a pass carries: the event words first, then what else it needs.
-pub const ROW: usize = WORDS + 6;
+pub const ROW: usize = WORDS + 7;
 
 // What the configuration at byte c is read as, the events being those of the row's first words. Before the end is declared a lone event costs
 // no call.

@@ -3,16 +3,18 @@ ghost use mathlib.Core.Path.{_≡_};
 ghost use mathlib.Core.Bool.{cond};
 ghost use Prim.Native.Nat.{_≤_, _<_, min, max};
 ghost use lib.Dec.{eqb};
-ghost use Rattle.junior.specs.Program.{Program, kind, Leaf, One, Two};
+ghost use Rattle.junior.specs.Program.{Program, kind, Leaf, One, Two, size};
 ghost use Rattle.junior.specs.Figures.{stops, times};
 ghost use Rattle.table.specs.Inside.Early.{Tests};
-ghost use Rattle.table.specs.Inside.Weighing.{bit, Counts, Weighs, Small, counted, repeatedly, either, together, weightAt, put};
+ghost use Rattle.table.specs.Inside.Weighing.{bit, Counts, Weighs, Small, counted, onceMore, repeatedly, either, together};
+ghost use Rattle.table.specs.Inside.Weighing.{weightAt, put};
 
 // What a program weighs: its figures, exact below 65,536; its height; and 1 if it stops.
 pub struct Weight {
     pub generations: u32,
     pub atoms: u32,
     pub nodes: u32,
+    pub parked: u32,
     pub height: u32,
     pub stops: u32,
 }
@@ -62,6 +64,7 @@ pub fn single(k: usize, e: usize) -> Weight
         generations: one_if(k, 7),
         atoms: one_if(k, 2),
         nodes: 1,
+        parked: 0,
         height: 1,
         stops: stops_alone(k, e),
     }
@@ -96,15 +99,31 @@ fn repeated(c: u32, x: Weight, stops: u32) -> Weight
         generations: count_times(c, x.generations),
         atoms: count_times(c, x.atoms),
         nodes: count_times(c, x.nodes) + 1,
+        parked: count_times(c, x.parked),
         height: x.height + 1,
         stops,
     }
 }
 
-// What a program of kind k weighs whose part weighs x.
-pub fn wrapped(k: usize, count: usize, x: Weight) -> Weight
-    requires { ⌜ (count < 65536) × Small x ⌝ }
-    ensures { λ r. ⌜ ((p q : Program) → One p q → Counts count p → k ≡ kind p → Weighs x q → Weighs r p) ⌝ }
+// One node more, which parks `own` bytes itself.
+fn once(x: Weight, own: u32, stops: u32) -> Weight
+    requires { ⌜ (own ≤ 16384) × Small x ⌝ }
+    ensures { λ r. ⌜ r ≡ onceMore x own stops ⌝ }
+{
+    Weight {
+        generations: x.generations,
+        atoms: x.atoms,
+        nodes: x.nodes + 1,
+        parked: x.parked + own,
+        height: x.height + 1,
+        stops,
+    }
+}
+
+// What a program of kind k and n nodes weighs whose part weighs x. A Freezable parks 4 bytes for each of its nodes (L8).
+pub fn wrapped(k: usize, count: usize, n: usize, x: Weight) -> Weight
+    requires { ⌜ (count < 65536) × (n ≤ 4096) × Small x ⌝ }
+    ensures { λ r. ⌜ ((p q : Program) → One p q → Counts count p → k ≡ kind p → n ≡ size p → Weighs x q → Weighs r p) ⌝ }
 {
     if k == 5 {
         return repeated(2, x, 1);
@@ -118,13 +137,10 @@ pub fn wrapped(k: usize, count: usize, x: Weight) -> Weight
     if k == 15 {
         return repeated(times_of(count / 16, x.stops), x, 0);
     }
-    Weight {
-        generations: x.generations,
-        atoms: x.atoms,
-        nodes: x.nodes + 1,
-        height: x.height + 1,
-        stops: x.stops,
+    if k == 13 {
+        return once(x, 4 * n as u32, 0);
     }
+    once(x, 0, x.stops)
 }
 
 fn sum(x: Weight, y: Weight, stops: u32) -> Weight
@@ -135,6 +151,7 @@ fn sum(x: Weight, y: Weight, stops: u32) -> Weight
         generations: x.generations + y.generations,
         atoms: x.atoms + y.atoms,
         nodes: x.nodes + y.nodes + 1,
+        parked: x.parked + y.parked,
         height: larger(x.height, y.height) + 1,
         stops,
     }
@@ -148,6 +165,7 @@ fn most(x: Weight, y: Weight, stops: u32) -> Weight
         generations: larger(x.generations, y.generations),
         atoms: larger(x.atoms, y.atoms),
         nodes: larger(x.nodes, y.nodes) + 1,
+        parked: larger(x.parked, y.parked),
         height: larger(x.height, y.height) + 1,
         stops,
     }
@@ -170,7 +188,7 @@ pub fn joined(k: usize, e: usize, x: Weight, y: Weight) -> Weight
     sum(x, y, x.stops | y.stops)
 }
 
-pub fn weight_at(waiting: &[u32; 321], at: usize) -> Weight
+pub fn weight_at(waiting: &[u32; 385], at: usize) -> Weight
     requires { ⌜ at < 64 ⌝ }
     ensures { λ r. ⌜ r ≡ weightAt (now (waiting .entry)) at ⌝ }
 {
@@ -178,18 +196,20 @@ pub fn weight_at(waiting: &[u32; 321], at: usize) -> Weight
         generations: waiting[at],
         atoms: waiting[64 + at],
         nodes: waiting[128 + at],
-        height: waiting[192 + at],
-        stops: waiting[256 + at],
+        parked: waiting[192 + at],
+        height: waiting[256 + at],
+        stops: waiting[320 + at],
     }
 }
 
-pub fn put_weight(waiting: &mut [u32; 321], at: usize, x: Weight)
+pub fn put_weight(waiting: &mut [u32; 385], at: usize, x: Weight)
     requires { ⌜ at < 64 ⌝ }
     ensures { λ r. ⌜ now (waiting .exit) ≡ put (now (waiting .entry)) at x ⌝ }
 {
     waiting[at] = x.generations;
     waiting[64 + at] = x.atoms;
     waiting[128 + at] = x.nodes;
-    waiting[192 + at] = x.height;
-    waiting[256 + at] = x.stops;
+    waiting[192 + at] = x.parked;
+    waiting[256 + at] = x.height;
+    waiting[320 + at] = x.stops;
 }

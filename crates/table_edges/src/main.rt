@@ -1,4 +1,4 @@
-// The edges of refusals 1 to 8: each line is a point's name, then number, index, G, A and W of a table that stands on it.
+// The edges of refusals 1 to 8: each line is a point's name, then number, index, G, A, W and F of a table that stands on it.
 use table::Checked;
 
 fn main() {
@@ -14,6 +14,7 @@ fn main() {
     order_of_records();
     endless_loops();
     order_of_frames();
+    parked();
 }
 
 // Record 0 of the configurations is free to have any size that its parts give.
@@ -277,21 +278,21 @@ fn too_heavy() {
 
 // Configurations before nodes, all records before the program.
 fn order_of_records() {
-    // node 0 has no kind 13, but configuration 1 is judged first
+    // node 0 has no kind 16, but configuration 1 is judged first
     show(
         b"A10",
-        b"\x0d\x00\x00\x00\x00\x01\
+        b"\x10\x00\x00\x00\x00\x01\
         \x00\x00\x00\x01\
         \x00\x01\x00\x01\
         \x00\x01\x00\x02\x00\x01\x00\x0e\x00\x08",
     );
-    // Seq(Loop(Nothing), ..): the record of kind 13 comes before the Loop that doesn't stop
+    // Seq(Loop(Nothing), ..): the record of kind 16 comes before the Loop that doesn't stop
     show(
         b"A10",
         b"\x03\x00\x00\x00\x00\x04\
         \x05\x00\x00\x00\x00\x02\
         \x00\x00\x00\x00\x00\x01\
-        \x0d\x00\x00\x00\x00\x01\
+        \x10\x00\x00\x00\x00\x01\
         \x00\x04\x00\x00\x00\x01\x00\x18\x00\x00",
     );
 }
@@ -324,32 +325,77 @@ fn order_of_frames() {
     );
 }
 
+// Freezables: 8 for F, an event that isn't listed, and a Loop's body that doesn't stop.
+fn parked() {
+    // 2,048 times a Freezable of two nodes parks 16,384 bytes
+    show(
+        b"A13",
+        b"\x06\x00\x08\x00\x00\x03\
+        \x0d\x00\x00\x00\x00\x02\
+        \x00\x00\x00\x00\x00\x01\
+        \x00\x03\x00\x00\x00\x01\x00\x12\x00\x00",
+    );
+    // once more is too much
+    show(
+        b"A13",
+        b"\x06\x00\x08\x01\x00\x03\
+        \x0d\x00\x00\x00\x00\x02\
+        \x00\x00\x00\x00\x00\x01\
+        \x00\x03\x00\x00\x00\x01\x00\x12\x00\x00",
+    );
+    // a Freezable in a Freezable: 12 bytes and 8
+    show(
+        b"A13",
+        b"\x0d\x00\x00\x00\x00\x03\
+        \x0d\x00\x00\x00\x00\x02\
+        \x01\x00\x00\x00\x00\x01\
+        \x00\x03\x00\x00\x00\x01\x00\x12\x00\x00",
+    );
+    // event 1 of one
+    show(
+        b"A13",
+        b"\x0d\x00\x00\x01\x00\x02\
+        \x01\x00\x00\x00\x00\x01\
+        \x00\x02\x00\x00\x00\x01\x00\x0c\x00\x00",
+    );
+    // a Freezable over a Stop doesn't count as stopping
+    show(
+        b"A13",
+        b"\x05\x00\x00\x00\x00\x03\
+        \x0d\x00\x00\x00\x00\x02\
+        \x01\x00\x00\x00\x00\x01\
+        \x00\x03\x00\x00\x00\x01\x00\x12\x00\x00",
+    );
+}
+
 fn show(point: &[u8], bytes: &[u8]) {
     io::write_all(1, point);
     let checked = table::check(bytes);
     match checked {
-        Checked::BadLength => fields(1, 0, 0, 0, 0),
-        Checked::BadCounts => fields(2, 0, 0, 0, 0),
-        Checked::BadDistances => fields(3, 0, 0, 0, 0),
-        Checked::BadConfiguration(index) => fields(4, index, 0, 0, 0),
-        Checked::BadNode(index) => fields(5, index, 0, 0, 0),
-        Checked::TooDeep(index) => fields(6, index, 0, 0, 0),
-        Checked::EndlessLoop(index) => fields(7, index, 0, 0, 0),
-        Checked::TooHeavy => fields(8, 0, 0, 0, 0),
+        Checked::BadLength => fields(1, 0, 0, 0, 0, 0),
+        Checked::BadCounts => fields(2, 0, 0, 0, 0, 0),
+        Checked::BadDistances => fields(3, 0, 0, 0, 0, 0),
+        Checked::BadConfiguration(index) => fields(4, index, 0, 0, 0, 0),
+        Checked::BadNode(index) => fields(5, index, 0, 0, 0, 0),
+        Checked::TooDeep(index) => fields(6, index, 0, 0, 0, 0),
+        Checked::EndlessLoop(index) => fields(7, index, 0, 0, 0, 0),
+        Checked::TooHeavy => fields(8, 0, 0, 0, 0, 0),
         Checked::Accepted {
             generations,
             atoms,
             nodes,
-        } => fields(0, 0, generations, atoms, nodes),
+            parked,
+        } => fields(0, 0, generations, atoms, nodes, parked),
     }
 }
 
-fn fields(number: usize, index: usize, g: usize, a: usize, w: usize) {
+fn fields(number: usize, index: usize, g: usize, a: usize, w: usize, f: usize) {
     field(number);
     field(index);
     field(g);
     field(a);
     field(w);
+    field(f);
     io::write_all(1, b"\n");
 }
 

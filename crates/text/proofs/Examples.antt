@@ -11,7 +11,7 @@ use Rattle.junior.specs.Figures.{stops, figure}
 use Rattle.letters.specs.Decimal.{decimal}
 use Rattle.letters.specs.Text.{bytes}
 use Rattle.junior.specs.Configuration.{Event, Not, And, early-true, early-false}
-use Rattle.junior.specs.Program.{Program, Nothing, Stop, Atom, Seq, Par, Loop, Repeat, Generate, Await, When, Local, If, size}
+use Rattle.junior.specs.Program.{Program, Nothing, Stop, Atom, Seq, Par, Loop, Repeat, Generate, Await, When, Local, Freezable, If, size}
 use Rattle.junior.specs.Program.{kind}
 use Rattle.junior.specs.Values.{asked}
 use Rattle.table.specs.declared.Checked.{Checked}
@@ -31,7 +31,7 @@ use Rattle.form.specs.InForm.{InForm}
 use Rattle.form.specs.Made.{namedIn, named, tests, nodesFrom, testRecords, testsOf, trailer, tableOf, needed}
 use Rattle.letters.specs.Text.{beginning}
 use Rattle.text.specs.Answers.{Reads, Prints, Fits}
-use Rattle.text.specs.Examples.{All, none, more, blank, controls, shared, await-1023, asked-15, if-3, examples-list}
+use Rattle.text.specs.Examples.{All, none, more, blank, controls, shared, await-1023, freezable-1, asked-15, if-3, examples-list}
 use Rattle.form.specs.Inside.Machine.{Next, dead, on, run, reach}
 use Rattle.form.specs.Inside.ReadTo.{start}
 use Rattle.form.proofs.Spelled.{says-spell}
@@ -136,6 +136,9 @@ examples =
     (more (reads (says-spell (Await (Event 1023)) (omega arith)) (blank 20) (omega arith, omega arith) refl)
     (more (prints await-1023 (blank 14) refl (omega arith))
     (more (fails-here _ [] refl)
+    (more (reads (says-spell (Freezable 1 Stop) (omega arith, tt)) (blank 22) (omega arith, omega arith) refl)
+    (more (prints freezable-1 (blank 26) refl (omega arith))
+    (more (fails-here _ [] refl)
     (more (fails-here _ [] refl)
     (more (reads (says-spell (Repeat (asked 15 255) Stop) ((omega arith, omega arith), tt)) (blank 22) (omega arith, omega arith) refl)
     (more (prints asked-15 (blank 32) refl (omega arith))
@@ -144,4 +147,4 @@ examples =
     (more (reads says-p (blank 60) (omega arith, omega arith) refl)
     (more (no-paper shared (blank 31) refl (omega arith))
     (more (not-printed [] (blank 1) BadLength refl (λ e. omega arith))
-    none))))))))))))))))))))))))))))
+    none)))))))))))))))))))))))))))))))

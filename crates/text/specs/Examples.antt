@@ -54,6 +54,10 @@ asked-15 = node 15 4095 2 ++ (node 1 0 1 ++ trailer 2 0 1 12 0)
 abbrev pub if-3 : List ℕ
 if-3 = node 14 3 3 ++ (node 2 1 1 ++ (node 2 2 1 ++ trailer 3 0 1 18 0))
 
+-- Freezable of event 1 and Stop
+abbrev pub freezable-1 : List ℕ
+freezable-1 = node 13 1 2 ++ (node 1 0 1 ++ trailer 2 0 2 12 0)
+
 abbrev pub examples-list : List Example
 examples-list =
     -- F1: the offset is the length of the longest beginning that some text of the form has
@@ -93,6 +97,10 @@ examples-list =
     -- L10: an event from 256 on, read and printed
     ∷ good (bytes "Jr.Await(1023)") await-1023 20
     ∷ printing await-1023 (blank 14) (bytes "Jr.Await(1023)") (told.Printed 14)
+    -- L8: the event first, then the body
+    ∷ failing (bytes "Jr.Freezable(Jr.Stop())") 13
+    ∷ good (bytes "Jr.Freezable(1, Jr.Stop())") freezable-1 22
+    ∷ printing freezable-1 (blank 26) (bytes "Jr.Freezable(1, Jr.Stop())") (told.Printed 26)
     -- L14: the value's number first, then the cap
     ∷ failing (bytes "Jr.If(16, Jr.Stop(), Jr.Stop())") 7
     ∷ failing (bytes "Jr.RepeatExt(1, 256, Jr.Stop())") 18

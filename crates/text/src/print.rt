@@ -17,6 +17,7 @@ pub fn print(table: &[u8], text: &mut [u8]) -> TextPrinted
             generations: _,
             atoms: _,
             nodes: _,
+            parked: _,
         } => print_accepted(table, text),
         _ => TextPrinted::Refused(verdict),
     }

@@ -96,6 +96,7 @@ fn read_through(
             generations: _,
             atoms: _,
             nodes: _,
+            parked: _,
         } => TextRead::Read(copy(made, table)),
         _ => TextRead::Refused(verdict),
     }

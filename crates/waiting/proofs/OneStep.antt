@@ -2,26 +2,26 @@
 use Prim.Native.Nat.{ℕ, suc, _+_, _-_, _*_, _%_, _≤_, _<_}
 use mathlib.Core.Bool.{Bool, true, false, cond}
 use mathlib.Core.Path.{_≡_, refl, ap, sym, subst, _∙_}
-use mathlib.Core.Logic.{_≢_}
 use mathlib.Core.List.{List, _++_}
 use mathlib.Core.Option.{Option, none, some}
 use native.Mathlib.Omega.{arith}
 use lib.Dec.{eqb}
 use lib.ListN.{length, getD, length-replicate}
-use borrow.Author.Tests.{lt-ltb, eq-eqb, ne-eqb}
+use borrow.Author.Tests.{lt-ltb, eqb-true}
 use Rattle.events.specs.Events.{Events}
 use Rattle.events.specs.Members.{places}
 use Rattle.junior.specs.declared.Flag.{Flag}
 use Rattle.junior.specs.declared.Flag.the-variants.{SUSP, STOP, TERM}
-use Rattle.junior.specs.Configuration.{Config}
+use Rattle.junior.specs.Configuration.{Config, Event}
 use Rattle.junior.specs.Program.{Program, One, Two, size, kind, argument, configuration}
 use Rattle.junior.specs.Program as Program
 use Rattle.junior.specs.Term.{Term, done, nothing, stop, atom, generate, await, seq0, seq2, par, loop0, loop1}
-use Rattle.junior.specs.Term.{repeat0, repeat1, when0, when1, when2, until0, until*, until2, control, local, if0, if1, if2, prog}
+use Rattle.junior.specs.Term.{repeat0, repeat1, when0, when1, when2, until0, until*, until2, control, local, freezable0, freezable*, if0, if1, if2}
+use Rattle.junior.specs.Term.{prog}
 use Rattle.junior.specs.Values.{exactly, asked}
 use Rattle.junior.specs.Waited.{lacks, Wait, waits-for}
 use Rattle.junior.proofs.WayDown.{waiting-in}
-use Rattle.table.specs.Records.{nodes, configurations, kindAt, argumentAt, secondAt}
+use Rattle.table.specs.Records.{byte, nodes, configurations, events, kindAt, argumentAt, secondAt}
 use Rattle.table.specs.Spells.{Configured, tested}
 use Rattle.table.specs.Good.{argumentLimit}
 use Rattle.table.specs.Inside.{Placed}
@@ -29,12 +29,14 @@ use Rattle.table.specs.Reading.{ConfigurationAt}
 use Rattle.table.proofs.Parts.{limitOf, by-kind}
 use Rattle.table.proofs.Spelled.{configuration-there}
 use Rattle.table.proofs.Tree.{argued}
+use Rattle.table.proofs.Laid.{both}
 use Rattle.table.proofs.Loaded.{fine-at, own-node}
 use Rattle.state.specs.StateBytes.{code, head, zeros, below, stateBytes}
+use Rattle.state.proofs.Little.{either-true}
 use Rattle.state.proofs.Parts.{len-bytes}
 use Rattle.steps.proofs.LoadedNode.{local-placed}
 use Rattle.waiting.specs.Lacking.{Tells}
-use Rattle.waiting.specs.Down.{StandsAt, Leads, isTest, own-wait, nextNode, insideEvents, nextOf, insideOf}
+use Rattle.waiting.specs.Down.{StandsAt, Leads, isTest, waitsItself, own-wait, nextNode, insideEvents, nextOf, insideOf}
 use Rattle.waiting.proofs.Standing.{phase-is, flags-are, kind-is, only-child, first-child, second-child, second-index}
 use Rattle.waiting.proofs.Standing.{one-standing}
 
@@ -53,11 +55,11 @@ tells-none (some e) r h l = absurd (omega arith)
 pub tells-not : {o : Option ℕ} → o ≡ none → Tells o places
 tells-not e = rw e
 
--- what x waits for by itself, by whether it is a test and whether it is a Control
+-- what x waits for by itself, by whether it is a test and whether it waits for its own event
 pub data OwnView (t : List ℕ) (i : ℕ) : Bool → Bool → Term → Type 0 where
   tests : {x : Term} {b : Bool} (c : Config) → argumentAt t i < configurations t → Configured t (tested t i) c
       → ((X : Events) → own-wait x X ≡ lacks c X) → OwnView t i true b x
-  controls : {x : Term} → ((X : Events) → own-wait x X ≡ cond (X (argumentAt t i)) none (some (argumentAt t i))) → OwnView t i false true x
+  itself : {x : Term} → ((X : Events) → own-wait x X ≡ cond (X (argumentAt t i)) none (some (argumentAt t i))) → OwnView t i false true x
   neither : {x : Term} → ((X : Events) → own-wait x X ≡ none) → OwnView t i false false x
 
 test-below : {t : List ℕ} {i : ℕ} {p : Program} → Placed t i p → (c : Config) → argument p ≡ configuration c → argumentAt t i < configurations t
@@ -65,8 +67,8 @@ test-below {t} {p = p} h c e = let limit = by-kind p .limit-is t ∙ ap (limitOf
 
 module _ {t s : List ℕ} {i : ℕ} where
   own-view-of : (x : Term) → StandsAt t s i x → (X : Events) {w : Wait} → waiting-in i x X ≡ some w
-      → OwnView t i (isTest (kind (prog x)) (head x .phase)) (eqb (kind (prog x)) 11) x
-  unfolding kind prog own-wait waiting-in
+      → OwnView t i (isTest (kind (prog x)) (head x .phase)) (waitsItself (kind (prog x)) (head x .phase)) x
+  unfolding kind prog own-wait waiting-in lacks
   own-view-of (done p) h X e = nothing-there e
   own-view-of nothing h X e = nothing-there e
   own-view-of stop h X e = nothing-there e
@@ -87,64 +89,73 @@ module _ {t s : List ℕ} {i : ℕ} where
   own-view-of (until0 c u q) h X e = neither (λ Y. refl)
   own-view-of (until* c u q) h X e = tests c (test-below (h .placed) c refl) (argued t i _ (h .placed .spelled)) (λ Y. refl)
   own-view-of (until2 c p u) h X e = neither (λ Y. refl)
-  own-view-of (control s u) h X e = let a = argued t i _ (h .placed .spelled) in controls {x = control s u} (λ Y. rw a)
+  own-view-of (control s u) h X e = let a = argued t i _ (h .placed .spelled) in itself {x = control s u} (λ Y. rw a)
   own-view-of (local true s u) h X e = neither (λ Y. refl)
   own-view-of (local false s u) h X e = neither (λ Y. refl)
+  own-view-of (freezable0 s u) h X e = neither (λ Y. refl)
+  own-view-of (freezable* s u) h X e = let a = argued t i _ (h .placed .spelled) in itself {x = freezable* s u} (λ Y. rw a)
   own-view-of (if0 v p q) h X e = nothing-there e
   own-view-of (if1 v u q) h X e = neither (λ Y. refl)
   own-view-of (if2 v p u) h X e = neither (λ Y. refl)
 
   module _ {x : Term} (h : StandsAt t s i x) (X : Events) {w : Wait} (e : waiting-in i x X ≡ some w) {k ph : ℕ}
       (kind-read : k ≡ kindAt t i) (phase-read : ph ≡ getD s (4 * i) 0) where
-    view : OwnView t i (isTest k ph) (eqb k 11) x
+    view : OwnView t i (isTest k ph) (waitsItself k ph) x
     view = rw (kind-read ∙ kind-is h, phase-read ∙ phase-is h) (own-view-of x h X e)
 
     -- by the code's tests
     pub test-waits : isTest k ph ≡ true → (r : ℕ) → ((c : Config) → Configured t (tested t i) c → Tells (lacks c X) r) → Tells (own-wait x X) r
-    test-waits y r l = go (subst (λ b. OwnView t i b (eqb k 11) x) y view)
+    test-waits y r l = go (subst (λ b. OwnView t i b (waitsItself k ph) x) y view)
       where
         go : {b : Bool} → OwnView t i true b x → Tells (own-wait x X) r
         go (tests c among there own) = rw (own X) (l c there)
 
     pub test-there : isTest k ph ≡ true → ConfigurationAt t (tested t i)
-    test-there y = go (subst (λ b. OwnView t i b (eqb k 11) x) y view)
+    test-there y = go (subst (λ b. OwnView t i b (waitsItself k ph) x) y view)
       where
         go : {b : Bool} → OwnView t i true b x → ConfigurationAt t (tested t i)
         go (tests c among there own) =
             configuration-there t (h .placed .loaded .configurations-good) (h .placed .loaded .framed) (argumentAt t i) among
 
-    both-read : {a b : Bool} → isTest k ph ≡ a → eqb k 11 ≡ b → OwnView t i a b x
-    both-read {a} {b} y z = subst (λ q. OwnView t i a q x) z (subst (λ q. OwnView t i q (eqb k 11) x) y view)
+    both-read : {a b : Bool} → isTest k ph ≡ a → waitsItself k ph ≡ b → OwnView t i a b x
+    both-read {a} {b} y z = subst (λ q. OwnView t i a q x) z (subst (λ q. OwnView t i q (waitsItself k ph) x) y view)
 
-    pub control-waits : isTest k ph ≡ false → k ≡ 11 → own-wait x X ≡ cond (X (argumentAt t i)) none (some (argumentAt t i))
-    control-waits y z = go (both-read y (eq-eqb k 11 z))
+    pub itself-waits : isTest k ph ≡ false → waitsItself k ph ≡ true → own-wait x X ≡ cond (X (argumentAt t i)) none (some (argumentAt t i))
+    itself-waits y z = go (both-read y z)
       where
         go : OwnView t i false true x → own-wait x X ≡ cond (X (argumentAt t i)) none (some (argumentAt t i))
-        go (controls own) = own X
+        go (itself own) = own X
 
-    pub no-own : isTest k ph ≡ false → k ≢ 11 → own-wait x X ≡ none
-    no-own y z = go (both-read y (ne-eqb k 11 z))
+    pub no-own : isTest k ph ≡ false → waitsItself k ph ≡ false → own-wait x X ≡ none
+    no-own y z = go (both-read y z)
       where
         go : OwnView t i false false x → own-wait x X ≡ none
         go (neither own) = own X
 
-event-below : {t s : List ℕ} {i : ℕ} {x : Term} → StandsAt t s i x → kind (prog x) ≡ 11 → argumentAt t i < places
+-- such a node names an event
+names-event : (t : List ℕ) (k ph : ℕ) → waitsItself k ph ≡ true → argumentLimit t k ≡ events t
 unfolding argumentLimit
-event-below {t} {i = i} h e =
-    let limit : argumentAt t i < argumentLimit t 11 = rw e at (fine-at (h .placed) .argument-below) in
-    omega (arith, h .placed .loaded .framed .v-most)
+names-event t k ph z =
+    either-true _ _ z (λ e. rw (eqb-true k 11 e)) (λ e. rw (eqb-true k 13 (both {a = eqb k 13} e .0)))
 
--- a Control whose event is present, or isn't
-pub control-holds : (X : Events) {s : ℕ} {o : Option ℕ} → o ≡ cond (X s) none (some s) → X s ≡ true → Tells o places
-control-holds X e y = rw (e, y)
+event-below : {t s : List ℕ} {i k : ℕ} {x : Term} → StandsAt t s i x → k ≡ kindAt t i → waitsItself k (byte s (4 * i)) ≡ true
+    → argumentAt t i < places
+event-below {t} {s} {i} {k} h e z =
+    let limit = names-event t k (byte s (4 * i)) z in
+    let below = fine-at (h .placed) .argument-below in
+    omega (arith, h .placed .loaded .framed .v-most, ap (argumentLimit t) (e ∙ kind-is h))
 
-pub control-tells : {t s : List ℕ} {i k r : ℕ} {x : Term} → StandsAt t s i x → k ≡ kindAt t i → k ≡ 11 → r ≡ argumentAt t i
+-- a node that waits for its own event, which is present, or isn't
+pub event-holds : (X : Events) {s : ℕ} {o : Option ℕ} → o ≡ cond (X s) none (some s) → X s ≡ true → Tells o places
+event-holds X e y = rw (e, y)
+
+pub event-tells : {t s : List ℕ} {i k r : ℕ} {x : Term} → StandsAt t s i x → k ≡ kindAt t i → waitsItself k (byte s (4 * i)) ≡ true
+    → r ≡ argumentAt t i
     → (X : Events) {o : Option ℕ}
     → o ≡ cond (X (argumentAt t i)) none (some (argumentAt t i))
     → X (argumentAt t i) ≡ false
     → Tells o r
-control-tells h kind-read is-control r-is X e y =
-    rw (e, y) (r-is, omega (arith, event-below h (sym (kind-is h) ∙ (sym kind-read ∙ is-control))))
+event-tells h kind-read so r-is X e y = rw (e, y) (r-is, omega (arith, event-below h kind-read so))
 
 -- a node that waits by itself is the one
 own-named : {i a : ℕ} {w : Wait} → some (record { node = i; event = a }) ≡ some w → (i ≡ w .node) × (a ≡ w .event)
@@ -183,6 +194,8 @@ here (until* c t q) X n e = by-test (lacks c X) n e
 here (until2 c p t) X n e = nothing-there n
 here (control s t) {i = i} X n e = by-control s (waiting-in (suc i) t X) (X s) n e
 here (local b s t) X n e = nothing-there n
+here (freezable0 s t) X n e = nothing-there n
+here (freezable* s t) X n e = by-test (lacks (Event s) X) n e
 here (if0 v p q) X n e = nothing-there n
 here (if1 v t q) X n e = nothing-there n
 here (if2 v p t) X n e = nothing-there n
@@ -259,6 +272,8 @@ module _ {t s : List ℕ} {i : ℕ} {w : Wait} (X : Events) where
   goes (local false s u) h n e =
       let a = argued t i _ (h .placed .spelled) in
       rw a (to-only h _ u (Program.local s (prog u)) refl e)
+  goes (freezable0 s u) h n e = to-only h _ u (Program.freezable s (prog u)) refl e
+  goes (freezable* s u) h n e = waits-not i (lacks (Event s) X) n e
   goes (if0 v p q) h n e = nothing-there e
   goes (if1 v u q) h n e = to-first h _ u (Program.if v (prog u) q) (zeros q) refl e
   goes (if2 v p u) h n e = to-second h _ u (Program.if v p (prog u)) (zeros p) (zeros-long p) refl e

@@ -8,8 +8,10 @@ use lib.Dec.{eqb, ltb}
 use lib.ListN.{drop}
 use Rattle.events.specs.Events.{Events, put}
 use Rattle.events.specs.Members.{places}
+use Rattle.junior.specs.Configuration.{Event}
 use Rattle.junior.specs.Term.{Term, done, nothing, stop, atom, generate, await, seq0, seq2, par, loop0, loop1}
-use Rattle.junior.specs.Term.{repeat0, repeat1, when0, when1, when2, until0, until*, until2, control, local, if0, if1, if2, prog}
+use Rattle.junior.specs.Term.{repeat0, repeat1, when0, when1, when2, until0, until*, until2, control, local, freezable0, freezable*, if0, if1, if2}
+use Rattle.junior.specs.Term.{prog}
 use Rattle.junior.specs.Waited.{lacks, Wait}
 use Rattle.junior.proofs.WayDown.{waiting-in}
 use Rattle.table.specs.Records.{byte, kindAt, argumentAt, secondAt}
@@ -44,6 +46,10 @@ LeadsTo table state X r = (w : Wait) → Leads table state 0 X w → (r .node �
 abbrev pub isTest : ℕ → ℕ → Bool
 isTest kind phase = cond (eqb phase 0) (eqb kind 8 || eqb kind 9) (cond (eqb phase 1) (eqb kind 10) false)
 
+-- a Control waits for its own event, and so does a pending Freezable (L8: "L1's tests and demand 3's include the pending form")
+abbrev pub waitsItself : ℕ → ℕ → Bool
+waitsItself kind phase = eqb kind 11 || (eqb kind 13 && eqb phase 1)
+
 -- the event that a node itself waits for, if it does
 unfoldable pub own-wait : Term → Events → Option ℕ
 own-wait (done p) X = none
@@ -67,6 +73,8 @@ own-wait (until* c t q) X = lacks c X
 own-wait (until2 c p t) X = none
 own-wait (control s t) X = cond (X s) none (some s)
 own-wait (local b s t) X = none
+own-wait (freezable0 s t) X = none
+own-wait (freezable* s t) X = lacks (Event s) X
 own-wait (if0 v p q) X = none
 own-wait (if1 v t q) X = none
 own-wait (if2 v p t) X = none

@@ -4,7 +4,7 @@ ghost use mathlib.Core.Path.{_≡_};
 ghost use Prim.Native.Nat.{_*_};
 ghost use lib.ListN.{length};
 ghost use Rattle.events.specs.Members.{places, marks, members};
-ghost use Rattle.waiting.specs.Down.{SomeStands, SomeLeads, LeadsTo, isTest, OwnWait, goesSecond, nextOf, insideOf};
+ghost use Rattle.waiting.specs.Down.{SomeStands, SomeLeads, LeadsTo, isTest, waitsItself, OwnWait, goesSecond, nextOf, insideOf};
 use events::EventSet;
 use events::WORDS;
 use events::mark;
@@ -64,11 +64,12 @@ fn own_wait(table: &[u8], state: &[u8], i: usize, words: &[u64; WORDS]) -> usize
     ensures { λ r. ⌜ OwnWait (now (table .entry)) (now (state .entry)) i (marks (now (words .entry))) r ⌝ }
 {
     let kind = kind_at(table, i);
-    if is_test(kind, state[4 * i]) {
+    let phase = state[4 * i];
+    if is_test(kind, phase) {
         let nodes = word_at(table, table.len() - 10);
         return lacking_event(table, 6 * nodes + 4 * argument_at(table, i), words);
     }
-    if kind == kinds::CONTROL {
+    if waits_itself(kind, phase) {
         let event = argument_at(table, i);
         if marked(words, event) {
             return EventSet::PLACES;
@@ -89,6 +90,18 @@ fn is_test(kind: usize, phase: u8) -> bool
     }
     if phase == STARRED {
         return kind == kinds::UNTIL;
+    }
+    false
+}
+
+fn waits_itself(kind: usize, phase: u8) -> bool
+    ensures { λ r. ⌜ r ≡ waitsItself kind phase ⌝ }
+{
+    if kind == kinds::CONTROL {
+        return true;
+    }
+    if kind == kinds::FREEZABLE {
+        return phase == STARRED;
     }
     false
 }

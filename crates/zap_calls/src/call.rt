@@ -1,7 +1,7 @@
 // The call that a line makes, and its answer line. Each function puts an answer line at the start of the output and answers its length.
 ghost use Prim.Native.Nat.{_≤_};
 ghost use lib.ListN.{length};
-ghost use Rattle.zap_calls.specs.Rooms.{LongRoom, StateRoom, RowRoom, Rooms, AnswerRoom};
+ghost use Rattle.zap_calls.specs.Rooms.{LongRoom, StateRoom, RowRoom, StoreRoom, Rooms, AnswerRoom};
 use bytes::scan::find;
 use calls::put_bytes;
 use calls::put_numbers;
@@ -12,9 +12,11 @@ use calls::read_pair;
 use calls::read_row;
 use events::EventSet;
 use kernel::numbers::refusal_of;
+use listing::read_events;
 use table::Checked;
 use table::numbers::Refusal;
 use table::numbers::refusal_of_table;
+use taking::numbers::refusal_of_taking;
 use text::TextPrinted;
 use text::TextRead;
 use text::numbers::refusal_of_print;
@@ -32,9 +34,10 @@ pub fn answer_call(
     state: &mut [u8],
     row: &mut [u16],
     text: &mut [u8],
+    store: &mut [u8],
     output: &mut [u8],
 ) -> usize
-    requires { ⌜ Rooms (now table) (now state) (now row) (now text) ⌝ }
+    requires { ⌜ Rooms (now table) (now state) (now row) (now text) (now store) ⌝ }
     requires { ⌜ AnswerRoom (now output) ⌝ }
     ensures { λ r. ⌜ r ≤ length (now (output .entry)) ⌝ }
 {
@@ -53,13 +56,16 @@ pub fn answer_call(
         return answer_start(words, table, state, output);
     }
     if is_name(&line[..name], b"instant") {
-        return answer_instant(words, table, state, row, output);
+        return answer_instant(words, table, state, row, store, output);
     }
     if is_name(&line[..name], b"read") {
         return answer_read(words, text, table, output);
     }
     if is_name(&line[..name], b"print") {
         return answer_print(words, table, text, output);
+    }
+    if is_name(&line[..name], b"take") {
+        return answer_take(words, table, store, text, state, output);
     }
     bad_line(output)
 }
@@ -87,12 +93,13 @@ fn call_check(table: &[u8], output: &mut [u8]) -> usize
             generations,
             atoms,
             nodes,
-        } => put_check(output, refusal, generations, atoms, nodes),
-        _ => put_check(output, refusal, 0, 0, 0),
+            parked,
+        } => put_check(output, refusal, generations, atoms, nodes, parked),
+        _ => put_check(output, refusal, 0, 0, 0, 0),
     }
 }
 
-fn put_check(output: &mut [u8], refusal: Refusal, g: usize, a: usize, w: usize) -> usize
+fn put_check(output: &mut [u8], refusal: Refusal, g: usize, a: usize, w: usize, f: usize) -> usize
     requires { ⌜ AnswerRoom (now output) ⌝ }
     ensures { λ r. ⌜ r ≤ length (now (output .entry)) ⌝ }
 {
@@ -104,9 +111,10 @@ fn put_check(output: &mut [u8], refusal: Refusal, g: usize, a: usize, w: usize) 
             refusal.index as u64,
             g as u64,
             a as u64,
+            w as u64,
         ],
     );
-    letters::put_number(output, to, w as u64, 10)
+    letters::put_number(output, to, f as u64, 10)
 }
 
 fn answer_start(words: &[u8], table: &mut [u8], state: &mut [u8], output: &mut [u8]) -> usize
@@ -137,9 +145,10 @@ fn answer_instant(
     table: &mut [u8],
     state: &mut [u8],
     row: &mut [u16],
+    store: &mut [u8],
     output: &mut [u8],
 ) -> usize
-    requires { ⌜ StateRoom (now state) × RowRoom (now row) × AnswerRoom (now output) ⌝ }
+    requires { ⌜ StateRoom (now state) × RowRoom (now row) × StoreRoom (now store) × AnswerRoom (now output) ⌝ }
     ensures { λ r. ⌜ r ≤ length (now (output .entry)) ⌝ }
 {
     let table_end = find(words, 0, words.len(), 32);
@@ -161,6 +170,7 @@ fn answer_instant(
         &table[..n],
         &mut state[..m],
         row,
+        store,
         output,
     )
 }
@@ -171,9 +181,10 @@ fn with_state(
     table: &[u8],
     state: &mut [u8],
     row: &mut [u16],
+    store: &mut [u8],
     output: &mut [u8],
 ) -> usize
-    requires { ⌜ StateRoom (now state) × RowRoom (now row) × AnswerRoom (now output) ⌝ }
+    requires { ⌜ StateRoom (now state) × RowRoom (now row) × StoreRoom (now store) × AnswerRoom (now output) ⌝ }
     ensures { λ r. ⌜ r ≤ length (now (output .entry)) ⌝ }
 {
     let b = find(words, 0, words.len(), 32);
@@ -184,7 +195,7 @@ fn with_state(
     if !e.good {
         return bad_line(output);
     }
-    with_events(&words[b + 1..], table, state, e.events, row, output)
+    with_events(&words[b + 1..], table, state, e.events, row, store, output)
 }
 
 // An instant whose table, state and events have been read. Its values are sixteen bytes exactly: what isn't a word that the room takes counts 0.
@@ -194,9 +205,10 @@ fn with_events(
     state: &mut [u8],
     handed_in: EventSet,
     row: &mut [u16],
+    store: &mut [u8],
     output: &mut [u8],
 ) -> usize
-    requires { ⌜ StateRoom (now state) × RowRoom (now row) × AnswerRoom (now output) ⌝ }
+    requires { ⌜ StateRoom (now state) × RowRoom (now row) × StoreRoom (now store) × AnswerRoom (now output) ⌝ }
     ensures { λ r. ⌜ r ≤ length (now (output .entry)) ⌝ }
 {
     let b = find(words, 0, words.len(), 32);
@@ -208,12 +220,55 @@ fn with_events(
     if v.count != VALUES {
         return bad_line(output);
     }
-    let r = read_row(&words[b + 1..], row);
+    with_values(
+        &words[b + 1..],
+        table,
+        state,
+        handed_in,
+        &values,
+        row,
+        store,
+        output,
+    )
+}
+
+// An instant of which all but the row and the store has been read.
+fn with_values(
+    words: &[u8],
+    table: &[u8],
+    state: &mut [u8],
+    handed_in: EventSet,
+    values: &[u8; VALUES],
+    row: &mut [u16],
+    store: &mut [u8],
+    output: &mut [u8],
+) -> usize
+    requires { ⌜ StateRoom (now state) × RowRoom (now row) × StoreRoom (now store) × AnswerRoom (now output) ⌝ }
+    ensures { λ r. ⌜ r ≤ length (now (output .entry)) ⌝ }
+{
+    let b = find(words, 0, words.len(), 32);
+    if words.len() <= b {
+        return bad_line(output);
+    }
+    let r = read_row(&words[..b], row);
     if !r.good {
         return bad_line(output);
     }
+    let s = read_bytes(&words[b + 1..], store);
+    if !s.good {
+        return bad_line(output);
+    }
     let k = r.count;
-    call_instant(table, state, handed_in, &values, &mut row[..k], output)
+    let m = s.count;
+    call_instant(
+        table,
+        state,
+        handed_in,
+        values,
+        &mut row[..k],
+        &mut store[..m],
+        output,
+    )
 }
 
 fn call_instant(
@@ -222,12 +277,13 @@ fn call_instant(
     handed_in: EventSet,
     values: &[u8; VALUES],
     row: &mut [u16],
+    store: &mut [u8],
     output: &mut [u8],
 ) -> usize
-    requires { ⌜ StateRoom (now state) × RowRoom (now row) × AnswerRoom (now output) ⌝ }
+    requires { ⌜ StateRoom (now state) × RowRoom (now row) × StoreRoom (now store) × AnswerRoom (now output) ⌝ }
     ensures { λ r. ⌜ r ≤ length (now (output .entry)) ⌝ }
 {
-    let answer = kernel::instant(table, state, handed_in, values, row);
+    let answer = kernel::instant(table, state, handed_in, values, row, store);
     let outcome = answer.outcome;
     let refusal = refusal_of(outcome);
     let refused = put_numbers(output, 0, &[refusal.number as u64, refusal.index as u64]);
@@ -246,7 +302,8 @@ fn call_instant(
         ],
     );
     let bytes = put_bytes(output, figures, state, 32);
-    put_row(output, bytes, row, 10)
+    let numbers = put_row(output, bytes, row, 32);
+    put_bytes(output, numbers, store, 10)
 }
 
 fn answer_read(words: &[u8], text: &mut [u8], table: &mut [u8], output: &mut [u8]) -> usize
@@ -310,6 +367,106 @@ fn put_room(output: &mut [u8], refusal: Refusal, long: usize, room: &[u8]) -> us
         &[refusal.number as u64, refusal.index as u64, long as u64],
     );
     put_bytes(output, to, room, 10)
+}
+
+fn answer_take(
+    words: &[u8],
+    table: &mut [u8],
+    store: &mut [u8],
+    table_room: &mut [u8],
+    state_room: &mut [u8],
+    output: &mut [u8],
+) -> usize
+    requires { ⌜ StoreRoom (now store) × LongRoom (now «table_room») × StateRoom (now «state_room») × AnswerRoom (now output) ⌝ }
+    ensures { λ r. ⌜ r ≤ length (now (output .entry)) ⌝ }
+{
+    let table_end = find(words, 0, words.len(), 32);
+    if words.len() <= table_end {
+        return bad_line(output);
+    }
+    let store_end = find(words, table_end + 1, words.len(), 32);
+    if words.len() <= store_end {
+        return bad_line(output);
+    }
+    let p = read_pair(&words[..store_end], table, store);
+    if !p.good {
+        return bad_line(output);
+    }
+    let n = p.first;
+    let m = p.second;
+    with_store(
+        &words[store_end + 1..],
+        &table[..n],
+        &mut store[..m],
+        table_room,
+        state_room,
+        output,
+    )
+}
+
+// A taking whose table and store have been read. Its event is one number: there is no space in a word, which would stand between two.
+fn with_store(
+    words: &[u8],
+    table: &[u8],
+    store: &mut [u8],
+    table_room: &mut [u8],
+    state_room: &mut [u8],
+    output: &mut [u8],
+) -> usize
+    requires { ⌜ StoreRoom (now store) × LongRoom (now «table_room») × StateRoom (now «state_room») × AnswerRoom (now output) ⌝ }
+    ensures { λ r. ⌜ r ≤ length (now (output .entry)) ⌝ }
+{
+    let b = find(words, 0, words.len(), 32);
+    if words.len() <= b {
+        return bad_line(output);
+    }
+    let e = read_events(&words[..b], 32);
+    if !e.good {
+        return bad_line(output);
+    }
+    let p = read_pair(&words[b + 1..], table_room, state_room);
+    if !p.good {
+        return bad_line(output);
+    }
+    let n = p.first;
+    let m = p.second;
+    call_take(
+        table,
+        store,
+        e.events.lowest(),
+        &mut table_room[..n],
+        &mut state_room[..m],
+        output,
+    )
+}
+
+fn call_take(
+    table: &[u8],
+    store: &mut [u8],
+    event: usize,
+    table_room: &mut [u8],
+    state_room: &mut [u8],
+    output: &mut [u8],
+) -> usize
+    requires { ⌜ StoreRoom (now store) × LongRoom (now «table_room») × StateRoom (now «state_room») × AnswerRoom (now output) ⌝ }
+    ensures { λ r. ⌜ r ≤ length (now (output .entry)) ⌝ }
+{
+    let taken = taking::take(table, store, event, table_room, state_room);
+    let outcome = taken.outcome;
+    let refusal = refusal_of_taking(outcome);
+    let numbers = put_numbers(
+        output,
+        0,
+        &[
+            refusal.number as u64,
+            refusal.index as u64,
+            taken.table as u64,
+            taken.state as u64,
+        ],
+    );
+    let pieces = put_bytes(output, numbers, store, 32);
+    let tables = put_bytes(output, pieces, table_room, 32);
+    put_bytes(output, tables, state_room, 10)
 }
 
 fn bad_line(output: &mut [u8]) -> usize

@@ -13,7 +13,7 @@ use console::write_out;
 
 mod call;
 
-// The rooms' limits in a line: bytes of a table, bytes of a state, numbers of a row, bytes of a text.
+// The rooms' limits in a line: bytes of a table, bytes of a state, numbers of a row, bytes of a text, bytes of a store.
 const TABLE: usize = 33000;
 
 const STATE: usize = 17000;
@@ -22,18 +22,21 @@ const ROW: usize = 4200;
 
 const TEXT: usize = 33000;
 
+const STORE: usize = 66000;
+
 const INPUT: usize = 401408;
 
-const OUTPUT: usize = 131072;
+const OUTPUT: usize = 262144;
 
 // The room that an answer line can take at most.
-const ANSWER: usize = 67000;
+const ANSWER: usize = 233000;
 
 fn main() {
     let mut table = [0u8; TABLE];
     let mut state = [0u8; STATE];
     let mut row = [0u16; ROW];
     let mut text = [0u8; TEXT];
+    let mut store = [0u8; STORE];
     let mut input = [0u8; INPUT];
     let mut output = [0u8; OUTPUT];
     answer_lines(
@@ -41,6 +44,7 @@ fn main() {
         &mut state,
         &mut row,
         &mut text,
+        &mut store,
         &mut input,
         &mut output,
     );
@@ -52,20 +56,31 @@ fn answer_lines(
     state: &mut [u8],
     row: &mut [u16],
     text: &mut [u8],
+    store: &mut [u8],
     input: &mut [u8],
     output: &mut [u8],
 )
-    requires { ⌜ Rooms (now table) (now state) (now row) (now text) ⌝ }
-    requires { ⌜ (length (now input) ≡ 401408) × (length (now output) ≡ 131072) ⌝ }
+    requires { ⌜ Rooms (now table) (now state) (now row) (now text) (now store) ⌝ }
+    requires { ⌜ (length (now input) ≡ 401408) × (length (now output) ≡ 262144) ⌝ }
 {
     let mut held = 0;
     for _ in 0..TURNS {
         let got = read_some(0, &mut input[held..]).count;
         if got == 0 {
-            answer_last(table, state, row, text, &input[..held], output);
+            answer_last(table, state, row, text, store, &input[..held], output);
             return;
         }
-        held = answer_block(table, state, row, text, input, held, held + got, output);
+        held = answer_block(
+            table,
+            state,
+            row,
+            text,
+            store,
+            input,
+            held,
+            held + got,
+            output,
+        );
     }
 }
 
@@ -75,16 +90,17 @@ fn answer_last(
     state: &mut [u8],
     row: &mut [u16],
     text: &mut [u8],
+    store: &mut [u8],
     line: &[u8],
     output: &mut [u8],
 )
-    requires { ⌜ Rooms (now table) (now state) (now row) (now text) ⌝ }
-    requires { ⌜ length (now output) ≡ 131072 ⌝ }
+    requires { ⌜ Rooms (now table) (now state) (now row) (now text) (now store) ⌝ }
+    requires { ⌜ length (now output) ≡ 262144 ⌝ }
 {
     if line.len() == 0 {
         return;
     }
-    let n = answer_call(line, table, state, row, text, output);
+    let n = answer_call(line, table, state, row, text, store, output);
     write_out(&output[..n]);
 }
 
@@ -94,13 +110,14 @@ fn answer_block(
     state: &mut [u8],
     row: &mut [u16],
     text: &mut [u8],
+    store: &mut [u8],
     input: &mut [u8],
     held: usize,
     to: usize,
     output: &mut [u8],
 ) -> usize
-    requires { ⌜ Rooms (now table) (now state) (now row) (now text) ⌝ }
-    requires { ⌜ (length (now input) ≡ 401408) × (length (now output) ≡ 131072) × (held ≤ to) × (to ≤ length (now input)) ⌝ }
+    requires { ⌜ Rooms (now table) (now state) (now row) (now text) (now store) ⌝ }
+    requires { ⌜ (length (now input) ≡ 401408) × (length (now output) ≡ 262144) × (held ≤ to) × (to ≤ length (now input)) ⌝ }
     ensures { λ r. ⌜ r ≤ 400001 ⌝ }
 {
     let mut from = 0;
@@ -114,6 +131,7 @@ fn answer_block(
             state,
             row,
             text,
+            store,
             &mut output[filled..],
         );
         from = end + 1;
@@ -125,8 +143,8 @@ fn answer_block(
 
 // Where the next answer goes: where the block has no room for it behind the answers there, these are written out.
 fn room_for_answer(output: &[u8], filled: usize) -> usize
-    requires { ⌜ (filled ≤ length (now output)) × (length (now output) ≡ 131072) ⌝ }
-    ensures { λ r. ⌜ r + 67000 ≤ length (now (output .entry)) ⌝ }
+    requires { ⌜ (filled ≤ length (now output)) × (length (now output) ≡ 262144) ⌝ }
+    ensures { λ r. ⌜ r + 233000 ≤ length (now (output .entry)) ⌝ }
 {
     if filled + ANSWER <= output.len() {
         return filled;

@@ -1,5 +1,5 @@
-// zap-check: checks the table of `table.bin` and prints what the check answers: number, index, generations, atoms, weight. A table that
-// can't be read counts as empty.
+// zap-check: checks the table of `table.bin` and prints what the check answers: number, index, generations, atoms, weight, bytes parked. A
+// table that can't be read counts as empty.
 use console::read_table;
 use table::Checked;
 use table::numbers::refusal_of_table;
@@ -19,15 +19,17 @@ fn main() {
             generations,
             atoms,
             nodes,
-        } => put_figures(generations, atoms, nodes),
-        _ => put_figures(0, 0, 0),
+            parked,
+        } => put_figures(generations, atoms, nodes, parked),
+        _ => put_figures(0, 0, 0, 0),
     }
 }
 
-fn put_figures(generations: usize, atoms: usize, weight: usize) {
+fn put_figures(generations: usize, atoms: usize, weight: usize, parked: usize) {
     put(generations, b" ");
     put(atoms, b" ");
-    put(weight, b"\n");
+    put(weight, b" ");
+    put(parked, b"\n");
 }
 
 // Prints a number and what stands behind it.

@@ -29,6 +29,8 @@ pub enum Draft {
     If(u16, Box<Draft>, Box<Draft>),
     /// The number of a value, the cap and the body.
     RepeatExt(u16, u16, Box<Draft>),
+    /// The event that freezes the body.
+    Freezable(u16, Box<Draft>),
 }
 
 /// Short names for drafts, so that programs read like those of the documents.
@@ -91,6 +93,9 @@ pub mod short {
     }
     pub fn repeat_ext(value: u16, cap: u16, t: Draft) -> Draft {
         Draft::RepeatExt(value, cap, Box::new(t))
+    }
+    pub fn freezable(s: u16, t: Draft) -> Draft {
+        Draft::Freezable(s, Box::new(t))
     }
 }
 
@@ -207,6 +212,7 @@ impl Records {
             Draft::Local(s, t) => (12, *s, vec![t]),
             Draft::If(value, t, u) => (14, *value, vec![t, u]),
             Draft::RepeatExt(value, cap, t) => (15, 16 * cap + value, vec![t]),
+            Draft::Freezable(s, t) => (13, *s, vec![t]),
         };
         self.nodes.push(NodeRecord::new(kind, argument, 0));
         for child in below {

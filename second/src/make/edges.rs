@@ -6,6 +6,7 @@ use super::draft::{Cond, Draft, Records};
 use super::event_edges;
 use super::limits::{broad, filled, nots, weighing, wrapped};
 use super::loop_edges;
+use super::park_edges;
 use super::value_edges;
 use super::wait_edges;
 use crate::env::{Events, Values};
@@ -42,13 +43,14 @@ pub fn lines() -> Vec<String> {
     event_edges::add(&mut edges);
     configuration_edges::add(&mut edges);
     value_edges::add(&mut edges);
+    park_edges::add(&mut edges);
     let mut met = HashSet::new();
     edges.0.retain(|line| met.insert(line.clone()));
     edges.0
 }
 
 /// What stands in rooms beyond what a call may write.
-const OTHER: u8 = 0xa5;
+pub const OTHER: u8 = 0xa5;
 
 /// A lone Nothing with these configuration records.
 fn with_configs(events: u16, configs: &[(u8, u8, u16)]) -> Records {
@@ -63,12 +65,20 @@ fn trailer(records: &Records, field: usize, number: u16) -> Vec<u8> {
     bytes
 }
 
+/// A store begun empty, with room for what so many instants can park and a byte more.
+pub fn empty_store(table: &[u8], instants: usize) -> Vec<u8> {
+    let most = instant::check(table).map_or(0, |figures| figures.f as usize);
+    let mut store = vec![OTHER; 2 + instants * most + 1];
+    store[..2].fill(0);
+    store
+}
+
 fn set(events: &[u16]) -> Events {
     events.iter().copied().collect()
 }
 
 /// Lines found so far.
-pub struct Edges(Vec<String>);
+pub struct Edges(pub Vec<String>);
 
 impl Edges {
     fn add(&mut self, call: Call) {
@@ -89,8 +99,20 @@ impl Edges {
 
     /// An instant with values handed in.
     fn valued(&mut self, table: &[u8], state: &[u8], events: &[u16], values: Values, places: usize) {
-        let (table, state) = (table.to_vec(), state.to_vec());
-        self.add(Call::Instant { table, state, events: set(events), values, row: vec![0xa5a5; places] });
+        self.lent(table, state, events, values, places, &empty_store(table, 1));
+    }
+
+    /// An instant with a store of its own (L8).
+    pub fn lent(&mut self, table: &[u8], state: &[u8], events: &[u16], values: Values, places: usize, store: &[u8]) {
+        let (table, state, store) = (table.to_vec(), state.to_vec(), store.to_vec());
+        self.add(Call::Instant { table, state, events: set(events), values, row: vec![0xa5a5; places], store });
+    }
+
+    /// A piece taken into rooms of so many bytes.
+    pub fn take(&mut self, table: &[u8], store: &[u8], event: u16, table_room: usize, state_room: usize) {
+        let (table, store) = (table.to_vec(), store.to_vec());
+        let (table_room, state_room) = (vec![OTHER; table_room], vec![OTHER; state_room]);
+        self.add(Call::Take { table, store, event, table_room, state_room });
     }
 
     /// The same table in all three calls, in rooms that would do for 16 nodes.
@@ -110,11 +132,11 @@ impl Edges {
     pub fn ask(&mut self, records: &Records, state: Vec<u8>, instants: &[(&[u16], Values)]) {
         let table = records.bytes();
         let places = instant::check(&table).map_or(0, |figures| figures.a as usize) + 1;
-        let mut state = state;
+        let (mut state, mut store) = (state, empty_store(&table, instants.len()));
         state.extend([OTHER; 2]);
         for &(events, values) in instants {
-            self.valued(&table, &state, events, values, places);
-            let _ = instant::instant(&table, &mut state, set(events), values, &mut vec![0; places]);
+            self.lent(&table, &state, events, values, places, &store);
+            let _ = instant::instant(&table, &mut state, set(events), values, &mut vec![0; places], &mut store);
         }
     }
 
@@ -504,7 +526,7 @@ impl Edges {
             self.instant(&table, &vec![OTHER; length], &[9], 0);
         }
         let mut reached = vec![0; 28];
-        let _ = instant::instant(&table, &mut reached, Events::none(), Values::default(), &mut [0; 2]);
+        let _ = instant::instant(&table, &mut reached, Events::none(), Values::default(), &mut [0; 2], &mut [0; 2]);
         for places in [0, 1, 2, 3, 5] {
             self.instant(&table, &[0; 28], &[], places);
             self.instant(&table, &reached, &[], places);
@@ -544,6 +566,7 @@ impl Edges {
             until(event(0), child(), child()),
             choose(0, child(), child()),
             repeat_ext(0, 3, child()),
+            freezable(0, child()),
         ] {
             let records = Records::new(1, &program);
             let nodes = records.nodes.len();
@@ -664,7 +687,7 @@ impl Edges {
         }
         // Nodes and configurations both bad; too deep or endless or heavy while a record is bad.
         let mut both = good.clone();
-        both.nodes[1].kind = 13;
+        both.nodes[1].kind = 16;
         both.configs[0].kind = 4;
         self.check(&both.bytes());
         self.check(&trailer(&both, 3, 0));
@@ -711,11 +734,13 @@ impl Edges {
             "instant - - - -",
             "instant - - - - -",
             "instant - - - - - -",
-            "instants - - - - -",
+            "instant - - - - - - -",
+            "instants - - - - - -",
         ] {
             self.0.push(line.to_string());
         }
         let zeros = "00".repeat(16);
+        self.0.push(format!("instant - - - {zeros} - -"));
         self.0.push(format!("instant - - - {zeros} -"));
         self.0.push(format!("instant - - - {zeros}"));
         self.0.push(format!("instant - - - {zeros} - -"));
@@ -734,21 +759,21 @@ impl Edges {
             "0", "00", "01", "0,0", "0,", ",0", "0,,0", "255", "256", "999", "1000", "1023", "1024", "1030", "9999",
             "10000", "0256", "+0", "-0", "--", "0;1", "0, 1", "3,1,2",
         ] {
-            self.0.push(format!("instant {table} 00000000 {events} {zeros} -"));
+            self.0.push(format!("instant {table} 00000000 {events} {zeros} - 0000"));
         }
         for row in ["0", "00", "000", "0000", "00000", "000000", "ABCD", "abcd", "00 00"] {
-            self.0.push(format!("instant {table} 00000000 - {zeros} {row}"));
+            self.0.push(format!("instant {table} 00000000 - {zeros} {row} 0000"));
         }
         for state in ["0", "000000", "00000000", "0000000", "0000000G", "0000000A"] {
-            self.0.push(format!("instant {table} {state} - {zeros} -"));
+            self.0.push(format!("instant {table} {state} - {zeros} - 0000"));
             self.0.push(format!("start {table} {state}"));
         }
         self.0.push(format!("check {}", table.replace("06", "0G")));
         self.0.push(format!("check {}", table.to_uppercase()));
         // Lines of 400,000 and 400,001 bytes: repeated events fill them.
-        let many = ",10".repeat(133_317);
-        self.0.push(format!("instant - - 10{many} {zeros} -"));
-        self.0.push(format!("instant - - 100{many} {zeros} -"));
+        let many = ",10".repeat(133_316);
+        self.0.push(format!("instant - - 100{many} {zeros} - -"));
+        self.0.push(format!("instant - - 1000{many} {zeros} - -"));
     }
 
     // K1 to K12 of 01.

@@ -13,7 +13,7 @@ struct Ground<'a> {
     /// The conditions that tests choose from, so that several tests ask the same.
     conds: Vec<Cond>,
     /// How often each kind of step is taken.
-    steps: [usize; 10],
+    steps: [usize; 11],
 }
 
 /// A random program as records, mostly of an acceptable table.
@@ -30,14 +30,14 @@ pub fn lasting(r: &mut Random) -> Records {
 /// A random program of many branches that share few events, so that the order in which they run tells.
 pub fn woven(r: &mut Random) -> Records {
     let events = r.between(2, 4);
-    let program = weave(r, events, [26, 26, 20, 4, 7, 7, 4, 6, 5, 4]);
+    let program = weave(r, events, [26, 26, 20, 4, 7, 7, 4, 6, 5, 4, 7]);
     Records::sharing(events as u16, &program)
 }
 
 /// A random program of many tests over several events, within scopes and one behind another, so that instants wait.
 pub fn waiting(r: &mut Random) -> Records {
     let events = r.between(2, 6);
-    let program = weave(r, events, [10, 34, 3, 3, 12, 14, 12, 12, 4, 3]);
+    let program = weave(r, events, [10, 34, 3, 3, 12, 14, 12, 12, 4, 3, 8]);
     let mut records = Records::sharing(events as u16, &program);
     if r.chance(15) {
         spread(r, &mut records);
@@ -48,11 +48,22 @@ pub fn waiting(r: &mut Random) -> Records {
 /// A random program in which the values that the box hands in choose and count, beside, behind and within one another (L14).
 pub fn asking(r: &mut Random) -> Records {
     let events = r.between(1, 3);
-    let program = weave(r, events, [12, 12, 14, 10, 4, 5, 3, 3, 30, 30]);
+    let program = weave(r, events, [12, 12, 14, 10, 4, 5, 3, 3, 30, 30, 5]);
     Records::sharing(events as u16, &program)
 }
 
-fn weave(r: &mut Random, events: usize, steps: [usize; 10]) -> Draft {
+/// A random program of which much may be frozen, one Freezable beside, behind and within another (L8).
+pub fn freezing(r: &mut Random) -> Records {
+    let events = r.between(1, 4);
+    let program = weave(r, events, [14, 10, 8, 12, 3, 4, 3, 5, 3, 4, 45]);
+    let mut records = Records::sharing(events as u16, &program);
+    if r.chance(10) {
+        spread(r, &mut records);
+    }
+    records
+}
+
+fn weave(r: &mut Random, events: usize, steps: [usize; 11]) -> Draft {
     let conds = (0..r.between(1, 4)).map(|_| cond(r, events, 3)).collect();
     let branches = r.between(2, 8);
     Ground { r, events, conds, steps }.weave(branches)
@@ -62,7 +73,7 @@ fn weave(r: &mut Random, events: usize, steps: [usize; 10]) -> Draft {
 fn spread(r: &mut Random, records: &mut Records) {
     let step = 2 * r.below(EVENTS / 2) + 1;
     let elsewhere = |event: u16| ((usize::from(event) + 1) * step % EVENTS) as u16;
-    for node in records.nodes.iter_mut().filter(|node| matches!(node.kind, 7 | 11 | 12)) {
+    for node in records.nodes.iter_mut().filter(|node| matches!(node.kind, 7 | 11..=13)) {
         node.argument = elsewhere(node.argument);
     }
     for config in &mut records.configs {
@@ -88,7 +99,7 @@ fn records(r: &mut Random, lasting: bool) -> Records {
         3 => r.between(26, 60),
         _ => r.between(61, 160),
     };
-    let mut ground = Ground { r, events, conds, steps: [1; 10] };
+    let mut ground = Ground { r, events, conds, steps: [1; 11] };
     let program = match ground.r.weigh(&[50, 10, 32, 8]) {
         0 => ground.draft(nodes),
         1 => ground.chain(nodes / 5 + 1),
@@ -184,7 +195,7 @@ impl Ground<'_> {
         }
         let one = nodes - 1;
         let (two, rest) = self.split(one);
-        match self.r.weigh(&[24, 28, 7, 9, 8, 10, 7, 9, 6, 6]) {
+        match self.r.weigh(&[24, 28, 7, 9, 8, 10, 7, 9, 6, 6, 8]) {
             0 => seq(self.draft(two), self.draft(rest)),
             1 => par(self.draft(two), self.draft(rest)),
             // Now and then a body that doesn't stop.
@@ -195,7 +206,8 @@ impl Ground<'_> {
             6 => control(self.event(), self.draft(one)),
             7 => local(self.event(), self.draft(one)),
             8 => choose(self.value(), self.draft(two), self.draft(rest)),
-            _ => repeat_ext(self.value(), self.cap(), self.draft(one)),
+            9 => repeat_ext(self.value(), self.cap(), self.draft(one)),
+            _ => freezable(self.event(), if self.r.chance(50) { self.draft(one) } else { self.stopping(one) }),
         }
     }
 
@@ -264,22 +276,25 @@ impl Ground<'_> {
                 5..=8 => seq(self.atom(), next),
                 _ => seq(self.leaf(), next),
             };
-            let link = match self.r.weigh(&[30, 14, 14, 14, 14, 4, 10]) {
+            let link = match self.r.weigh(&[30, 14, 14, 14, 14, 4, 10, 8]) {
                 0 => seq(wait(wake), next),
                 1 => control(link as u16, seq(next, self.leaf())),
                 2 => when(wake, next, self.leaf()),
                 3 => until(wake, self.stopping(3), next),
                 4 => local(self.event(), par(seq(wait(wake), next), self.leaf())),
                 5 => local(link as u16 + 1, par(seq(wait(wake), seq(next, self.leaf())), wait(event(link as u16 + 1)))),
-                _ => seq(wait(or(wake, self.test())), seq(next, self.stopping(2))),
+                6 => seq(wait(or(wake, self.test())), seq(next, self.stopping(2))),
+                // Pending until it is woken.
+                _ => seq(freezable(link as u16, self.stopping(2)), next),
             };
             whole = if self.r.chance(75) { par(link, whole) } else { par(whole, link) };
-            whole = match self.r.below(24) {
+            whole = match self.r.below(25) {
                 0 => local(self.event(), whole),
                 1 => until(self.test(), whole, self.leaf()),
                 2 => seq(whole, self.leaf()),
                 3 => repeat(2, whole),
                 4 => forever(seq(whole, stop())),
+                5 => freezable(self.event(), whole),
                 _ => whole,
             };
         }
@@ -292,7 +307,7 @@ impl Ground<'_> {
         for _ in 1..branches {
             let other = self.thread();
             whole = if self.r.chance(50) { par(whole, other) } else { par(other, whole) };
-            whole = match self.r.below(34) {
+            whole = match self.r.below(36) {
                 0 => local(self.event(), whole),
                 1 => until(self.test(), whole, self.step()),
                 2 => seq(whole, self.step()),
@@ -304,6 +319,8 @@ impl Ground<'_> {
                 8 => choose(self.value(), whole, self.step()),
                 9 => choose(self.value(), self.step(), whole),
                 10 => repeat_ext(self.value(), self.r.between(1, 3) as u16, whole),
+                11 => freezable(self.event(), whole),
+                12 => freezable(self.event(), seq(whole, stop())),
                 _ => whole,
             };
         }
@@ -326,10 +343,40 @@ impl Ground<'_> {
             6 => control(self.event(), self.leaf()),
             7 => local(self.event(), par(self.leaf(), self.leaf())),
             8 => choose(self.value(), self.leaf(), self.leaf()),
-            _ => {
+            9 => {
                 let body = if self.r.chance(50) { self.leaf() } else { seq(self.leaf(), stop()) };
                 repeat_ext(self.value(), self.cap(), body)
             }
+            _ => self.frozen(),
+        }
+    }
+
+    /// A Freezable over a small body, or within what decides whether and how often it parks.
+    fn frozen(&mut self) -> Draft {
+        let body = match self.r.below(9) {
+            0 => stop(),
+            1 => self.leaf(),
+            2 => wait(self.test()),
+            3 => seq(self.leaf(), seq(stop(), self.leaf())),
+            4 => par(self.leaf(), self.stopping(2)),
+            5 => repeat(self.count(), seq(stop(), self.leaf())),
+            6 => freezable(self.event(), self.stopping(2)),
+            7 => local(self.event(), par(self.leaf(), stop())),
+            _ => forever(seq(freezable(self.event(), self.stopping(1)), stop())),
+        };
+        let frozen = freezable(self.event(), body);
+        match self.r.below(16) {
+            0 => repeat(self.r.below(3) as u16, frozen),
+            1 => repeat_ext(self.value(), self.r.below(3) as u16, frozen),
+            2 => forever(seq(frozen, stop())),
+            3 => forever(seq(stop(), frozen)),
+            4 => local(self.event(), par(frozen, self.leaf())),
+            5 => local(self.event(), frozen),
+            6 => until(self.test(), frozen, self.leaf()),
+            7 => when(self.test(), frozen, self.leaf()),
+            8 => control(self.event(), frozen),
+            9 => choose(self.value(), frozen, self.leaf()),
+            _ => frozen,
         }
     }
 

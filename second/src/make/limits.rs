@@ -63,7 +63,7 @@ pub fn near(r: &mut Random) -> Records {
 fn deep(r: &mut Random) -> Records {
     let mut program = if r.chance(50) { nothing() } else { seq(stop(), nothing()) };
     for _ in 0..r.between(61, 65) {
-        program = match r.below(11) {
+        program = match r.below(12) {
             0 => seq(program, stop()),
             1 => seq(nothing(), program),
             2 => par(program, stop()),
@@ -74,6 +74,7 @@ fn deep(r: &mut Random) -> Records {
             7 => choose(15, program, nothing()),
             8 => choose(0, nothing(), program),
             9 => repeat_ext(3, 255, program),
+            10 => freezable(0, program),
             _ => until(event(1), stop(), program),
         };
     }
@@ -105,10 +106,17 @@ fn tall(r: &mut Random) -> Records {
 
 /// A leaf that weighs in one of the figures, and the figure's limit.
 pub fn heavy_leaf(r: &mut Random) -> (Draft, usize) {
-    match r.below(3) {
+    match r.below(5) {
         0 => (generate(0), 4_094),
         1 => (atom(1), 4_096),
-        _ => (nothing(), 65_535),
+        2 => (nothing(), 65_535),
+        // Pieces of 8, of 12 and of 20 bytes.
+        3 => (freezable(0, stop()), 2_048),
+        _ => {
+            let body = if r.chance(50) { control(0, stop()) } else { par(stop(), seq(atom(1), stop())) };
+            let limit = if matches!(body, Draft::Control(..)) { 1_365 } else { 682 };
+            (freezable(0, body), limit)
+        }
     }
 }
 

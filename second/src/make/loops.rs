@@ -9,7 +9,7 @@ use crate::instant;
 
 /// As many lines as asked for, the same for the same seed.
 pub fn lines(cases: usize, seed: u64) -> impl Iterator<Item = String> {
-    calls::of(Sort { weights: [46, 12, 12, 2, 24, 3, 1], program: border, limit: heavy }, cases, seed)
+    calls::of(Sort { weights: [46, 12, 12, 2, 24, 3, 1, 0], program: border, limit: heavy }, cases, seed)
 }
 
 /// Tables round the border alone, for the laws.
@@ -53,6 +53,8 @@ fn changed(r: &mut Random, mut records: Records) -> Records {
         // Another value's number or cap, which moves no border.
         14 => node.argument = r.below(16) as u16,
         15 => node.argument = r.below(80) as u16,
+        // A Control stops as its body, a Freezable never.
+        11 | 13 => node.kind = 24 - node.kind,
         9 | 10 if r.chance(50) => node.kind = 19 - node.kind,
         8..=10 => node.argument = r.below(m) as u16,
         _ => {}
@@ -120,7 +122,7 @@ impl Ground<'_> {
         let one = nodes - 1;
         let first = self.r.between(1, one.max(2) - 1);
         let second = one.saturating_sub(first).max(1);
-        match self.r.weigh(&[10, 8, 28, 28, 5, 5, 12, 4, 12, 5]) {
+        match self.r.weigh(&[10, 8, 28, 28, 5, 5, 12, 4, 12, 5, 6]) {
             0 => seq(self.body(first), self.body(second)),
             1 => par(self.body(first), self.body(second)),
             2 => when(self.test(), self.body(first), self.body(second)),
@@ -130,6 +132,7 @@ impl Ground<'_> {
             6 => repeat(self.r.below(4) as u16, self.body(one)),
             8 => choose(self.r.below(16) as u16, self.body(first), self.body(second)),
             9 => repeat_ext(self.r.below(16) as u16, self.r.below(5) as u16, self.body(one)),
+            10 => freezable(self.event(), self.body(one)),
             _ => forever(self.body(one)),
         }
     }

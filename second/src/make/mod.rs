@@ -7,15 +7,18 @@ pub mod edges;
 mod event_edges;
 mod grow;
 mod harm;
-mod limits;
+pub mod limits;
 pub mod listings;
 mod loop_edges;
 pub mod loops;
 pub mod orders;
+mod park_edges;
+pub mod parked;
 mod print_edges;
 pub mod random;
 mod rest;
 mod spoil;
+mod stores;
 pub mod text_edges;
 pub mod texts;
 mod value_edges;
@@ -31,6 +34,7 @@ pub fn lines(sort: &str, cases: usize, seed: u64) -> Option<Box<dyn Iterator<Ite
         "calls" => Some(Box::new(calls::lines(cases, seed))),
         "loops" => Some(Box::new(loops::lines(cases, seed))),
         "orders" => Some(Box::new(orders::lines(cases, seed))),
+        "parked" => Some(Box::new(parked::lines(cases, seed))),
         "texts" => Some(Box::new(texts::lines(cases, seed))),
         "values" => Some(Box::new(values::lines(cases, seed))),
         "waits" => Some(Box::new(waits::lines(cases, seed))),

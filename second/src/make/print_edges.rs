@@ -68,6 +68,9 @@ fn forms(edges: &mut Edges) {
         repeat_ext(10, 99, seq(atom(1), stop())),
         repeat_ext(15, 255, seq(stop(), wait(not(event(1))))),
         repeat_ext(9, 100, choose(1, repeat_ext(2, 10, stop()), nothing())),
+        freezable(0, stop()),
+        freezable(1_023, seq(wait(not(event(9))), stop())),
+        freezable(10, freezable(99, local(100, freezable(100, par(stop(), generate(100)))))),
     ] {
         exact(edges, &Records::new(1_024, &program));
     }

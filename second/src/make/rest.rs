@@ -4,12 +4,12 @@ use super::random::Random;
 use crate::state::below;
 use crate::table::{Node, Written};
 
-/// A random state at rest of a tree.
+/// A random state at rest of a tree, or of a part of one.
 pub fn state(r: &mut Random, root: &Node) -> Vec<u8> {
-    let mut room = vec![0; 4 * root.size];
+    let mut room = vec![0; 4 * (root.at + root.size)];
     let gone = r.weigh(&[30, 50, 20]);
     fill(r, root, [3, 10, 25][gone], &mut room);
-    room
+    room.split_off(4 * root.at)
 }
 
 /// Fills the zero bytes of a node and below; `gone` is how many in a hundred read as Nothing.
@@ -21,7 +21,7 @@ fn fill(r: &mut Random, node: &Node, gone: usize, room: &mut [u8]) {
     }
     match &node.written {
         Written::Nothing | Written::Stop | Written::Atom(_) | Written::Generate(_) | Written::Await(_) => {}
-        Written::Control(_, body) | Written::Local(_, body) => fill(r, body, gone, room),
+        Written::Control(_, body) | Written::Local(_, body) | Written::Freezable(_, body) => fill(r, body, gone, room),
         Written::Seq(first, second) => {
             if r.chance(50) {
                 fill(r, first, gone, room);

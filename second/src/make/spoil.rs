@@ -18,7 +18,7 @@ pub fn damaged(r: &mut Random, text: &str) -> Vec<u8> {
 }
 
 /// What stands in a text, and what may be written there by mistake.
-const MISTAKES: [(&str, &[&str]); 23] = [
+const MISTAKES: [(&str, &[&str]); 24] = [
     (", ", &[",", " ,", ",  ", ", , ", ",,", "; ", ",\t", ",\n", " ", ""]),
     ("Jr.", &["jr.", "JR.", "Jr", "Jr .", "", "Jr.Jr."]),
     ("(", &["( ", " (", "((", "", "["]),
@@ -41,6 +41,7 @@ const MISTAKES: [(&str, &[&str]); 23] = [
     ("Control", &["Local", "Repeat", "Contro", "Freezable"]),
     ("If", &["When", "IF", "I", "Iff", "RepeatExt"]),
     ("RepeatExt", &["Repeat", "RepeatEx", "RepeatExts", "Repeatext", "If"]),
+    ("Freezable", &["Freeze", "Freezabl", "Freezables", "freezable", "Control", "Local"]),
     ("Stop()", &["Seq()", "Seq(Jr.Stop())", "Par(Jr.Stop())", "Loop(Jr.Stop(), Jr.Stop())", "Loop()", "Await()"]),
 ];
 

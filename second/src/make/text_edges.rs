@@ -15,6 +15,7 @@ pub fn lines() -> Vec<String> {
     edges.names();
     edges.numbers();
     edges.values_and_caps();
+    edges.frozen();
     edges.blanks();
     edges.brackets_and_parts();
     edges.ends();
@@ -99,6 +100,7 @@ impl Edges {
             "Jr.Until(((not 0) or (1 and 2)), Jr.Stop(), Jr.Atom(5))",
             "Jr.Control(4, Jr.Stop())",
             "Jr.Local(0, Jr.Generate(0))",
+            "Jr.Freezable(4, Jr.Stop())",
         ] {
             self.exact(text);
         }
@@ -135,7 +137,8 @@ impl Edges {
             "Jr.I",
             "Jr.RepeatEx(1, 2, Jr.Stop())",
             "Jr.RepeatExtend(",
-            "Jr.Freezable(1, Jr.Stop())",
+            "Jr.Freezabl(1, Jr.Stop())",
+            "Jr.Freezables(",
             "Jr.Machine(Jr.Stop())",
             "\u{feff}Jr.Stop()",
         ]);
@@ -146,7 +149,7 @@ impl Edges {
 
     // Numbers: events below 1,024, others at most 65,535, no leading zeros (F1), in each place that takes one.
     fn numbers(&mut self) {
-        let events: [fn(&str) -> String; 7] = [
+        let events: [fn(&str) -> String; 8] = [
             |n| format!("Jr.Generate({n})"),
             |n| format!("Jr.Await({n})"),
             |n| format!("Jr.Await((not {n}))"),
@@ -154,6 +157,7 @@ impl Edges {
             |n| format!("Jr.Await(({n} or 0))"),
             |n| format!("Jr.Control({n}, Jr.Stop())"),
             |n| format!("Jr.Local({n}, Jr.Stop())"),
+            |n| format!("Jr.Freezable({n}, Jr.Stop())"),
         ];
         let others: [fn(&str) -> String; 2] = [|n| format!("Jr.Atom({n})"), |n| format!("Jr.Repeat({n}, Jr.Stop())")];
         for place in events {
@@ -248,6 +252,35 @@ impl Edges {
             "Jr.Loop(Jr.RepeatExt(0, 1, Jr.Stop()))",
             "Jr.RepeatExt(0, 255, Jr.RepeatExt(0, 17, Jr.Generate(0)))",
             "Jr.RepeatExt(0, 0, Jr.Repeat(65535, Jr.Repeat(65535, Jr.Stop())))",
+        ] {
+            self.exact(text);
+        }
+    }
+
+    // L8: an event and a body, in this order; V counts the event.
+    fn frozen(&mut self) {
+        self.failing(&[
+            "Jr.Freezable(",
+            "Jr.Freezable()",
+            "Jr.Freezable(1",
+            "Jr.Freezable(1)",
+            "Jr.Freezable(1, ",
+            "Jr.Freezable(1,Jr.Stop())",
+            "Jr.Freezable(1, Jr.Stop()",
+            "Jr.Freezable(1, Jr.Stop(), Jr.Stop())",
+            "Jr.Freezable(1, 2, Jr.Stop())",
+            "Jr.Freezable(Jr.Stop())",
+            "Jr.Freezable(Jr.Stop(), 1)",
+            "Jr.Freezable((not 1), Jr.Stop())",
+            "Jr.Freezable (1, Jr.Stop())",
+        ]);
+        self.in_rooms("Jr.Freezable(1, Jr.Stop())");
+        for text in [
+            "Jr.Freezable(9, Jr.Freezable(8, Jr.Await(3)))",
+            "Jr.Local(2, Jr.Freezable(2, Jr.Seq(Jr.Generate(2), Jr.Await((not 1)), Jr.Stop())))",
+            "Jr.Loop(Jr.Freezable(0, Jr.Stop()))",
+            "Jr.Repeat(2048, Jr.Freezable(0, Jr.Stop()))",
+            "Jr.Repeat(2049, Jr.Freezable(0, Jr.Stop()))",
         ] {
             self.exact(text);
         }

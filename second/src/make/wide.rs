@@ -48,7 +48,7 @@ pub fn bush(records: usize) -> String {
 }
 
 /// Brackets that make a program deeper, and those that make a configuration higher.
-pub const DEEPER: [(&str, &str); 13] = [
+pub const DEEPER: [(&str, &str); 14] = [
     ("Jr.Loop(", ")"),
     ("Jr.RepeatExt(2, 1, ", ")"),
     ("Jr.If(15, Jr.Stop(), ", ")"),
@@ -56,6 +56,7 @@ pub const DEEPER: [(&str, &str); 13] = [
     ("Jr.Repeat(1, ", ")"),
     ("Jr.Control(0, ", ")"),
     ("Jr.Local(1, ", ")"),
+    ("Jr.Freezable(1, ", ")"),
     ("Jr.Seq(", ", Jr.Stop())"),
     ("Jr.Seq(Jr.Stop(), ", ")"),
     ("Jr.Par(", ", Jr.Atom(1))"),

@@ -95,7 +95,7 @@ impl Hand<'_> {
             return self.leaf();
         }
         let half = nodes.div_ceil(2);
-        let (name, parts) = match self.r.weigh(&[25, 25, 6, 8, 9, 9, 9, 9, 8, 8]) {
+        let (name, parts) = match self.r.weigh(&[25, 25, 6, 8, 9, 9, 9, 9, 8, 8, 8]) {
             0 => ("Seq", self.several(nodes)),
             1 => ("Par", self.several(nodes)),
             2 => ("Loop", vec![self.body(nodes - 1)]),
@@ -105,6 +105,7 @@ impl Hand<'_> {
             6 => ("Control", vec![self.event(), self.program(nodes - 1)]),
             8 => ("If", vec![self.value(), self.program(half), self.program(nodes - half)]),
             9 => ("RepeatExt", vec![self.value(), self.cap(), self.program(nodes - 1)]),
+            10 => ("Freezable", vec![self.event(), self.program(nodes - 1)]),
             _ => ("Local", vec![self.event(), self.program(nodes - 1)]),
         };
         form(name, &parts)

@@ -12,7 +12,11 @@ const ZEROS: &str = "00000000000000000000000000000000";
 /// A fresh instant of a lone Await over V events with these handed in answers this line.
 fn await_says(events: u16, cond: Cond, handed: &str, wanted: &str) {
     let table = hex(&Records::new(events, &wait(cond)).bytes());
-    assert_eq!(lines::answer(format!("instant {table} 00000000 {handed} {ZEROS} -").as_bytes()), wanted, "{handed}");
+    assert_eq!(
+        lines::answer(format!("instant {table} 00000000 {handed} {ZEROS} - 0000").as_bytes()),
+        wanted,
+        "{handed}"
+    );
 }
 
 fn tower(times: usize) -> Cond {
@@ -22,8 +26,8 @@ fn tower(times: usize) -> Cond {
 // Examples 1 and 2: height 16, fifteen nots are a not; height 17.
 #[test]
 fn sixteen_levels() {
-    await_says(1, tower(15), "0", "0 0 0 1 0 0 0 1 4096 1024 00000000 -");
-    await_says(1, tower(15), "-", "0 0 - 0 1024 0 0 2 0 0 03000000 -");
+    await_says(1, tower(15), "0", "0 0 0 1 0 0 0 1 4096 1024 00000000 - 0000");
+    await_says(1, tower(15), "-", "0 0 - 0 1024 0 0 2 0 0 03000000 - 0000");
     assert_eq!(check(1, wait(tower(16))), refused(4, 0));
 }
 
@@ -31,20 +35,20 @@ fn sixteen_levels() {
 #[test]
 fn four_events() {
     let cond = || or(and(event(0), event(1)), not(or(event(2), event(3))));
-    await_says(4, cond(), "0,1", "0 0 0,1 2 0 0 1 1 4096 1024 03000000 -");
-    await_says(4, cond(), "2", "0 0 2 1 2 0 0 2 0 0 00000000 -");
-    await_says(4, cond(), "-", "0 0 - 0 1024 0 0 2 0 0 03000000 -");
+    await_says(4, cond(), "0,1", "0 0 0,1 2 0 0 1 1 4096 1024 03000000 - 0000");
+    await_says(4, cond(), "2", "0 0 2 1 2 0 0 2 0 0 00000000 - 0000");
+    await_says(4, cond(), "-", "0 0 - 0 1024 0 0 2 0 0 03000000 - 0000");
 }
 
 // Examples 4 and 5: an event and its absence, an event or its absence.
 #[test]
 fn an_event_and_its_absence() {
     let both = || and(event(0), not(event(0)));
-    await_says(1, both(), "0", "0 0 0 1 0 0 0 1 4096 1024 00000000 -");
-    await_says(1, both(), "-", "0 0 - 0 1024 0 0 2 0 0 00000000 -");
+    await_says(1, both(), "0", "0 0 0 1 0 0 0 1 4096 1024 00000000 - 0000");
+    await_says(1, both(), "-", "0 0 - 0 1024 0 0 2 0 0 00000000 - 0000");
     let either = || or(event(0), not(event(0)));
-    await_says(1, either(), "0", "0 0 0 1 0 0 1 1 4096 1024 03000000 -");
-    await_says(1, either(), "-", "0 0 - 0 1024 0 0 2 0 0 03000000 -");
+    await_says(1, either(), "0", "0 0 0 1 0 0 1 1 4096 1024 03000000 - 0000");
+    await_says(1, either(), "-", "0 0 - 0 1024 0 0 2 0 0 03000000 - 0000");
 }
 
 // Example 6: Seq(Await c0, Await c1) over the records [not, 0]; c1 is the middle of c0.
@@ -52,11 +56,11 @@ fn an_event_and_its_absence() {
 fn the_middle_of_another() {
     let table = "0300000000030800000000010800000100010100000200000001000300020001001a0008";
     for (state, handed, wanted) in [
-        ("000000000000000000000000", "0", "0 0 0 1 0 0 0 1 4096 1024 000000000000000000000000 -"),
-        ("000000000000000000000000", "-", "0 0 - 0 1024 0 0 2 1 0 000000000300000000000000 -"),
-        ("000000000300000000000000", "0", "0 0 0 1 0 0 1 1 4096 1024 030000000000000000000000 -"),
+        ("000000000000000000000000", "0", "0 0 0 1 0 0 0 1 4096 1024 000000000000000000000000 - 0000"),
+        ("000000000000000000000000", "-", "0 0 - 0 1024 0 0 2 1 0 000000000300000000000000 - 0000"),
+        ("000000000300000000000000", "0", "0 0 0 1 0 0 1 1 4096 1024 030000000000000000000000 - 0000"),
     ] {
-        assert_eq!(lines::answer(format!("instant {table} {state} {handed} {ZEROS} -").as_bytes()), wanted);
+        assert_eq!(lines::answer(format!("instant {table} {state} {handed} {ZEROS} - 0000").as_bytes()), wanted);
     }
 }
 

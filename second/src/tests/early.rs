@@ -151,7 +151,7 @@ fn stopped_before(node: &Node) -> bool {
         Written::Control(_, body) | Written::Local(_, body) => stopped_before(body),
         Written::Repeat(count, body) => *count >= 1 && stopped_before(body),
         Written::If(_, first, second) => stopped_before(first) && stopped_before(second),
-        Written::RepeatExt(..) => false,
+        Written::RepeatExt(..) | Written::Freezable(..) => false,
     }
 }
 

@@ -17,9 +17,9 @@ fn says(line: &str, wanted: &str) {
 fn the_last_event() {
     let table = "08000000000130ff0001000100010400000a0004";
     assert_eq!(hex(&Records::new(1_024, &wait(event(1_023))).bytes()), table);
-    says(&format!("check {table}"), "0 0 0 0 1");
-    says(&format!("instant {table} 00000000 - {ZEROS} -"), "0 0 - 0 1024 0 0 2 0 1023 00000000 -");
-    says(&format!("instant {table} 00000000 1023 {ZEROS} -"), "0 0 1023 1 1023 0 1 1 4096 1024 03000000 -");
+    says(&format!("check {table}"), "0 0 0 0 1 0");
+    says(&format!("instant {table} 00000000 - {ZEROS} - 0000"), "0 0 - 0 1024 0 0 2 0 1023 00000000 - 0000");
+    says(&format!("instant {table} 00000000 1023 {ZEROS} - 0000"), "0 0 1023 1 1023 0 1 1 4096 1024 03000000 - 0000");
 }
 
 // Examples 2 to 6: the whole number is below V; only an event's kind byte may be 16, 32 or 48.
@@ -31,23 +31,26 @@ fn kind_bytes() {
         "0800000000011100000200000001000100020258000e0008",
         "08000000000140000001000100010400000a0004",
     ] {
-        says(&format!("check {table}"), "4 0 0 0 0");
+        says(&format!("check {table}"), "4 0 0 0 0 0");
     }
     let table = "08000000000110000001000100010101000a0004";
-    says(&format!("check {table}"), "0 0 0 0 1");
-    says(&format!("instant {table} 00000000 256 {ZEROS} -"), "0 0 256 1 256 0 1 1 4096 1024 03000000 -");
+    says(&format!("check {table}"), "0 0 0 0 1 0");
+    says(&format!("instant {table} 00000000 256 {ZEROS} - 0000"), "0 0 256 1 256 0 1 1 4096 1024 03000000 - 0000");
 }
 
 // Examples 7 to 10: a node's argument, refusals 2, 5 and 11.
 #[test]
 fn other_limits() {
     let table = "070003ff000100010000040000060000";
-    says(&format!("check {table}"), "0 0 1 0 1");
-    says(&format!("instant {table} 00000000 5 {ZEROS} -"), "0 0 5,1023 2 5 0 1 1 4096 1024 03000000 -");
-    says("check 07000100000100010000010000060000", "5 0 0 0 0");
-    says("check 01000000000100010000040100060000", "2 0 0 0 0");
+    says(&format!("check {table}"), "0 0 1 0 1 0");
+    says(&format!("instant {table} 00000000 5 {ZEROS} - 0000"), "0 0 5,1023 2 5 0 1 1 4096 1024 03000000 - 0000");
+    says("check 07000100000100010000010000060000", "5 0 0 0 0 0");
+    says("check 01000000000100010000040100060000", "2 0 0 0 0 0");
     let table = "01000000000100010000012c00060000";
-    says(&format!("instant {table} 00000000 1000,300,299 {ZEROS} -"), "11 300 - 0 1024 0 0 0 4096 1024 00000000 -");
+    says(
+        &format!("instant {table} 00000000 1000,300,299 {ZEROS} - 0000"),
+        "11 300 - 0 1024 0 0 0 4096 1024 00000000 - 0000",
+    );
 }
 
 // Example 11: the digit that makes it 1,024 can't go on.

@@ -2,7 +2,7 @@
 
 use crate::instant;
 use crate::lines;
-use crate::make::{calls, edges, values};
+use crate::make::{calls, edges, parked, values};
 use crate::state;
 use crate::table;
 use crate::term::Flag;
@@ -10,7 +10,8 @@ use crate::words::read_hex;
 
 /// Lines to try, and the words of each line and of its answer.
 fn each_case(mut look: impl FnMut(&[&str], &[&str])) {
-    for line in calls::lines(4_000, 2).chain(values::lines(2_000, 2)).chain(edges::lines()) {
+    let random = calls::lines(4_000, 2).chain(values::lines(2_000, 2)).chain(parked::lines(2_000, 2));
+    for line in random.chain(edges::lines()) {
         let answer = lines::answer(line.as_bytes());
         if answer != "bad-line" {
             look(&line.split(' ').collect::<Vec<_>>(), &answer.split(' ').collect::<Vec<_>>());
@@ -27,11 +28,12 @@ fn bytes(word: &str) -> Vec<u8> {
 fn a_refusal_writes_nothing() {
     each_case(|line, answer| match (line[0], answer[0]) {
         (_, "0") => assert_eq!(answer[1], "0"),
-        ("check", _) => assert_eq!(answer[2..], ["0", "0", "0"]),
+        ("check", _) => assert_eq!(answer[2..], ["0", "0", "0", "0"]),
         ("start", _) => assert_eq!(answer[2], line[2]),
+        ("take", _) => assert_eq!(answer[2..], ["0", "0", line[2], line[4], line[5]]),
         _ => {
             assert_eq!(answer[2..10], ["-", "0", "1024", "0", "0", "0", "4096", "1024"]);
-            assert_eq!(answer[10..], [line[2], line[5]]);
+            assert_eq!(answer[10..], [line[2], line[5], line[6]]);
         }
     });
 }
@@ -40,7 +42,7 @@ fn a_refusal_writes_nothing() {
 #[test]
 fn success_writes_its_part() {
     each_case(|line, answer| {
-        if line[0] == "check" || answer[0] != "0" {
+        if line[0] == "check" || line[0] == "take" || answer[0] != "0" {
             return;
         }
         let n = table::read(&bytes(line[1])).expect("accepted").root.size;
@@ -111,15 +113,16 @@ fn zero_reads_as_fresh() {
 // Every refusal number, success and bad lines are met many times by the random lines alone.
 #[test]
 fn random_lines_meet_every_refusal() {
-    let mut met = [0; 13];
+    let mut met = [0; 26];
     let mut bad = 0;
-    for line in calls::lines(4_000, 3) {
+    for line in calls::lines(4_000, 3).chain(parked::lines(1_000, 3)) {
         match lines::answer(line.as_bytes()).split(' ').next().expect("a word").parse::<usize>() {
             Ok(number) => met[number] += 1,
             Err(_) => bad += 1,
         }
     }
-    assert!(bad > 10 && met.iter().all(|&times| times > 4), "{bad} {met:?}");
+    let known = (0..=15).chain([25]);
+    assert!(bad > 10 && known.map(|number| met[number]).all(|times| times > 4), "{bad} {met:?}");
 }
 
 // The same seed gives the same lines.

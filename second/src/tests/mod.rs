@@ -9,6 +9,7 @@ mod laws;
 mod listings;
 mod loops;
 mod orders;
+mod parked;
 mod readings;
 mod rules;
 mod text_laws;
@@ -22,10 +23,12 @@ use crate::instant::{self, Report, Wait};
 use crate::make::draft::{Draft, Records};
 use crate::table::Refusal;
 
-/// A table under way, with an atom row and a state of its own.
+/// A table under way, with an atom row, a state and a store of its own.
 struct Play {
     table: Vec<u8>,
     state: Vec<u8>,
+    /// Begun empty with 64 bytes of room.
+    store: Vec<u8>,
     atoms: Vec<u16>,
     /// What the last instant waited for.
     waits: Option<Wait>,
@@ -41,7 +44,7 @@ impl Play {
         let table = records.bytes();
         let mut state = vec![0xee; 4 * records.nodes.len()];
         assert_eq!(instant::start(&table, &mut state), Ok(()));
-        Play { table, state, atoms: vec![], waits: None }
+        Play { table, state, store: vec![0; 66], atoms: vec![], waits: None }
     }
 
     /// Goes on from a state in which each of these bytes stands.
@@ -60,7 +63,8 @@ impl Play {
     /// The same, with values handed in.
     fn ask(&mut self, events: &[u16], values: Values) -> Result<Report, Refusal> {
         let mut row = vec![0; 4096];
-        let answer = instant::instant(&self.table, &mut self.state, set(events), values, &mut row);
+        let (state, store) = (&mut self.state, &mut self.store);
+        let answer = instant::instant(&self.table, state, set(events), values, &mut row, store);
         self.atoms = row[..answer.as_ref().map_or(0, |report| report.atoms)].to_vec();
         self.waits = answer.as_ref().map_or(None, |report| report.waits);
         answer
@@ -89,8 +93,9 @@ fn check(events: u16, program: Draft) -> Result<Figures, Refusal> {
     instant::check(&Records::new(events, &program).bytes())
 }
 
+/// The figures of a program that parks nothing.
 fn figures(g: u64, a: u64, w: u64) -> Result<Figures, Refusal> {
-    Ok(Figures { g, a, w })
+    Ok(Figures { g, a, w, f: 0 })
 }
 
 fn refused<T>(number: u8, index: usize) -> Result<T, Refusal> {

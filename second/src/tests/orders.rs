@@ -2,11 +2,21 @@
 
 use super::*;
 use crate::make::draft::short::*;
-use crate::make::{edges, orders, values};
+use crate::make::{edges, orders, parked, values};
+use crate::store;
 use crate::words::{event as number, read_hex};
 
-/// What no order may change: event set, finished answer, end state, the atoms, however ordered, and, more than L6 asks, what is waited for.
-type Outcome = (Vec<u16>, bool, Vec<u8>, Vec<u16>, Option<Wait>);
+/// What no order may change: event set, finished answer, end state, the atoms and the pieces parked (L8), however ordered, and, more than
+/// L6 asks, what is waited for.
+#[derive(Debug, PartialEq)]
+struct Outcome {
+    events: Vec<u16>,
+    finished: bool,
+    state: Vec<u8>,
+    atoms: Vec<u16>,
+    parked: Vec<(u16, usize, Vec<u8>)>,
+    waits: Option<Wait>,
+}
 
 /// The outcome of an instant and its passes, each Par with two suspended branches asking which one runs first.
 fn outcome(
@@ -15,11 +25,18 @@ fn outcome(
     (handed, values): (Events, Values),
     second_first: &mut dyn FnMut() -> bool,
 ) -> (Outcome, usize) {
-    let (mut state, mut row) = (state.to_vec(), vec![0; 4_096]);
-    let report = instant::in_any_order(table, &mut state, handed, values, &mut row, second_first).expect("no refusal");
-    row.truncate(report.atoms);
-    row.sort();
-    ((report.events.rising().collect(), report.finished, state, row, report.waits), report.passes)
+    let (mut state, mut atoms) = (state.to_vec(), vec![0; 4_096]);
+    let (program, figures) = instant::load(table).expect("accepted");
+    let mut store = vec![0; 2 + figures.f as usize];
+    let report = instant::in_any_order(table, &mut state, handed, values, &mut atoms, &mut store, second_first)
+        .expect("no refusal");
+    atoms.truncate(report.atoms);
+    atoms.sort();
+    let pieces = store::read(&program.root, &store).expect("a good store").into_iter();
+    let mut parked: Vec<_> = pieces.map(|piece| (piece.event, piece.body, piece.state)).collect();
+    parked.sort();
+    let events = report.events.rising().collect();
+    (Outcome { events, finished: report.finished, state, atoms, parked, waits: report.waits }, report.passes)
 }
 
 /// The outcome of every order and its passes, or of the first so many: each sequence of choices in its turn.
@@ -52,9 +69,9 @@ fn any_order(events: u16, program: Draft, handed: &[u16], wanted: (&[u16], bool,
     let table = Records::new(events, &program).bytes();
     let (present, finished, state, atoms) = wanted;
     let orders = orders_of(&table, &vec![0; state.len()], (set(handed), Values::default()), 1_000);
-    for (outcome, _) in &orders {
-        assert_eq!(*outcome, (present.to_vec(), finished, state.to_vec(), atoms.to_vec(), None));
-    }
+    let (events, state, atoms) = (present.to_vec(), state.to_vec(), atoms.to_vec());
+    let wanted = Outcome { events, finished, state, atoms, parked: vec![], waits: None };
+    assert!(orders.iter().all(|(outcome, _)| *outcome == wanted), "{orders:?}");
     assert_eq!(orders.iter().map(|(_, passes)| *passes).collect::<Vec<_>>(), passes);
 }
 
@@ -102,10 +119,15 @@ fn atoms_in_both_orders() {
     let table = Records::new(1, &program()).bytes();
     for (second_first, atoms) in [(false, [1, 2]), (true, [2, 1])] {
         let mut row = [0; 2];
-        let answer =
-            instant::in_any_order(&table, &mut [0; 20], Events::none(), Values::default(), &mut row, &mut || {
-                second_first
-            });
+        let answer = instant::in_any_order(
+            &table,
+            &mut [0; 20],
+            set(&[]),
+            Values::default(),
+            &mut row,
+            &mut [0; 2],
+            &mut || second_first,
+        );
         assert!(answer.is_ok());
         assert_eq!(row, atoms);
     }
@@ -117,7 +139,8 @@ fn waits_in_both_orders() {
     let table = Records::new(2, &par(wait(event(1)), wait(event(0)))).bytes();
     let orders = orders_of(&table, &[0; 12], (set(&[]), Values::default()), 1_000);
     assert_eq!(orders.len(), 4);
-    assert!(orders.iter().all(|((.., waits), passes)| *waits == Some(Wait { node: 1, event: 1 }) && *passes == 2));
+    let waits = Some(Wait { node: 1, event: 1 });
+    assert!(orders.iter().all(|(outcome, passes)| outcome.waits == waits && *passes == 2));
 }
 
 // L6.1: the choice is made anew in each pass, also in the one after the end; a Par with one suspended branch makes none.
@@ -147,17 +170,20 @@ fn when_a_choice_is_made() {
 // Every order, or the first 64 of them, of random and edge instants has one outcome for equal values (L14); often not in the same passes.
 #[test]
 fn one_outcome() {
-    let (mut instants, mut many, mut unlike, mut waiting) = (0, 0, 0, 0);
-    for line in orders::lines(3_000, 4).chain(values::lines(2_000, 4)).chain(edges::lines()) {
+    let (mut instants, mut many, mut unlike, mut waiting, mut parking) = (0, 0, 0, 0, 0);
+    let random = orders::lines(3_000, 4).chain(values::lines(2_000, 4)).chain(parked::lines(2_000, 4));
+    for line in random.chain(edges::lines()) {
         let words: Vec<&str> = line.split(' ').collect();
-        let ["instant", table, state, events, values, _] = words[..] else { continue };
+        let ["instant", table, state, events, values, _, _] = words[..] else { continue };
         let [Some(table), Some(state), Some(values)] = [table, state, values].map(|word| read_hex(word.as_bytes()))
         else {
             continue;
         };
         let Ok(values) = Values::try_from(values) else { continue };
         let handed: Events = events.split(',').filter_map(|word| number(word.as_bytes())).collect();
-        if table.len() > 1_000 || instant::instant(&table, &mut state.clone(), handed, values, &mut [0; 4_096]).is_err()
+        let mut store = [0; 2 + 16_384];
+        if table.len() > 1_000
+            || instant::instant(&table, &mut state.clone(), handed, values, &mut [0; 4_096], &mut store).is_err()
         {
             continue;
         }
@@ -166,10 +192,11 @@ fn one_outcome() {
         instants += 1;
         many += usize::from(orders.len() > 1);
         unlike += usize::from(orders.iter().any(|(_, passes)| *passes != orders[0].1));
-        waiting += usize::from(orders[0].0 .4.is_some());
+        waiting += usize::from(orders[0].0.waits.is_some());
+        parking += usize::from(orders.len() > 1 && orders[0].0.parked.len() > 1);
     }
     assert!(
-        instants > 2_500 && many > 1_000 && unlike > 200 && waiting > 1_000,
-        "{instants} {many} {unlike} {waiting}"
+        instants > 2_500 && many > 1_000 && unlike > 200 && waiting > 1_000 && parking > 100,
+        "{instants} {many} {unlike} {waiting} {parking}"
     );
 }

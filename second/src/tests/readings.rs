@@ -226,7 +226,7 @@ fn b7_who_keeps_phase_3() {
 fn b8_longer_rooms() {
     let table = Records::new(1, &stop()).bytes();
     let mut state = [0, 0, 0, 0, 7, 7];
-    assert!(instant::instant(&table, &mut state, Events::none(), Values::default(), &mut []).is_ok());
+    assert!(instant::instant(&table, &mut state, Events::none(), Values::default(), &mut [], &mut [0; 2]).is_ok());
     assert_eq!(state, [3, 0, 0, 0, 7, 7]);
     let mut state = [9, 9, 9, 9, 9];
     assert_eq!(instant::start(&table, &mut state), Ok(()));
@@ -293,12 +293,15 @@ fn c7_c8_report() {
 fn c10_row_for_all_atoms() {
     let table = Records::new(1, &seq(stop(), atom(1))).bytes();
     let mut state = [0; 12];
-    assert_eq!(instant::instant(&table, &mut state, Events::none(), Values::default(), &mut []), refused(12, 0));
+    assert_eq!(
+        instant::instant(&table, &mut state, Events::none(), Values::default(), &mut [], &mut [0; 2]),
+        refused(12, 0)
+    );
     assert_eq!(state, [0; 12]);
     let mut row = [5, 6];
-    assert!(instant::instant(&table, &mut state, Events::none(), Values::default(), &mut row[..1]).is_ok());
+    assert!(instant::instant(&table, &mut state, Events::none(), Values::default(), &mut row[..1], &mut [0; 2]).is_ok());
     assert_eq!(row, [5, 6]);
-    assert!(instant::instant(&table, &mut state, Events::none(), Values::default(), &mut row).is_ok());
+    assert!(instant::instant(&table, &mut state, Events::none(), Values::default(), &mut row, &mut [0; 2]).is_ok());
     assert_eq!(row, [1, 6]);
 }
 
@@ -307,7 +310,7 @@ fn c10_row_for_all_atoms() {
 fn c11_lowest_number() {
     let table = Records::new(2, &seq(atom(1), stop())).bytes();
     let call = |state: &mut [u8], events: &[u16], row: &mut [u16]| {
-        instant::instant(&table, state, set(events), Values::default(), row)
+        instant::instant(&table, state, set(events), Values::default(), row, &mut [0; 2])
     };
     assert_eq!(call(&mut [9; 11], &[7, 2], &mut []), refused(9, 0));
     assert_eq!(call(&mut [9; 12], &[7, 2], &mut []), refused(10, 0));

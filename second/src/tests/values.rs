@@ -91,15 +91,15 @@ fn what_stops() {
     assert_eq!(check(1, forever(choose(0, nothing(), stop()))), refused(7, 0));
 }
 
-// Examples 8 to 10: sixteen values, caps up to 255; kind 13 is none yet.
+// Examples 8 to 10: sixteen values, caps up to 255; kind 16 is none.
 #[test]
 fn arguments() {
     let says = |line: &str, wanted: &str| assert_eq!(lines::answer(line.as_bytes()), wanted, "{line}");
-    says("check 0e000010000301000000000101000000000100030000000100120000", "5 0 0 0 0");
-    says("check 0e00000f000301000000000101000000000100030000000100120000", "0 0 0 0 2");
-    says("check 0f0010000002010000000001000200000001000c0000", "5 0 0 0 0");
-    says("check 0f000fff0002010000000001000200000001000c0000", "0 0 0 0 3");
-    for kind in [13, 16, 17, 255] {
+    says("check 0e000010000301000000000101000000000100030000000100120000", "5 0 0 0 0 0");
+    says("check 0e00000f000301000000000101000000000100030000000100120000", "0 0 0 0 2 0");
+    says("check 0f0010000002010000000001000200000001000c0000", "5 0 0 0 0 0");
+    says("check 0f000fff0002010000000001000200000001000c0000", "0 0 0 0 3 0");
+    for kind in [16, 17, 255] {
         for nodes in [&[(kind, 0, 1)][..], &[(kind, 0, 2), (1, 0, 1)], &[(kind, 0, 3), (1, 0, 1), (1, 0, 1)]] {
             assert_eq!(instant::check(&Records::raw(1, nodes, &[]).bytes()), refused(5, 0));
         }
@@ -205,7 +205,7 @@ fn who_depends_on_the_values() {
     for line in calls::lines(4_000, 7).chain(asking::lines(2_000, 7)) {
         let words: Vec<&str> = line.split(' ').collect();
         let answer = lines::answer(line.as_bytes());
-        if words[0] != "instant" || words.len() != 6 || !answer.starts_with("0 ") {
+        if words[0] != "instant" || words.len() != 7 || !answer.starts_with("0 ") {
             continue;
         }
         let table = read_hex(words[1].as_bytes()).expect("printed hexadecimal");
@@ -226,7 +226,7 @@ fn what_counts_of_a_value() {
     let mut compared = 0;
     for line in asking::lines(2_000, 8) {
         let words: Vec<&str> = line.split(' ').collect();
-        if words[0] != "instant" || words.len() != 6 {
+        if words[0] != "instant" || words.len() != 7 {
             continue;
         }
         let (Some(table), Some(given)) = (read_hex(words[1].as_bytes()), read_hex(words[4].as_bytes())) else {

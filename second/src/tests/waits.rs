@@ -112,16 +112,16 @@ fn refused_calls() {
     assert_eq!(Play::new(1, wait(event(0))).call(&[3, 0]), refused(11, 3));
     let table = "08000000000100000001000100010001000a0004";
     assert_eq!(
-        lines::answer(format!("instant {table} 00000000 0,3 {ZEROS} -").as_bytes()),
-        "11 3 - 0 1024 0 0 0 4096 1024 00000000 -"
+        lines::answer(format!("instant {table} 00000000 0,3 {ZEROS} - 0000").as_bytes()),
+        "11 3 - 0 1024 0 0 0 4096 1024 00000000 - 0000"
     );
     assert_eq!(
-        lines::answer(format!("instant {table} 00000000 - {ZEROS} -").as_bytes()),
-        "0 0 - 0 1024 0 0 2 0 0 00000000 -"
+        lines::answer(format!("instant {table} 00000000 - {ZEROS} - 0000").as_bytes()),
+        "0 0 - 0 1024 0 0 2 0 0 00000000 - 0000"
     );
     assert_eq!(
-        lines::answer(format!("instant {table} 00000000 0 {ZEROS} -").as_bytes()),
-        "0 0 0 1 0 0 1 1 4096 1024 03000000 -"
+        lines::answer(format!("instant {table} 00000000 0 {ZEROS} - 0000").as_bytes()),
+        "0 0 0 1 0 0 1 1 4096 1024 03000000 - 0000"
     );
 }
 
@@ -137,7 +137,7 @@ fn tall_tests() {
     // Example 6: Seq(Await c0, Await c1), c1 the middle of c0.
     let table =
         read_hex(b"0300000000030800000000010800000100010100000200000001000300020001001a0008").expect("hexadecimal");
-    let mut play = Play { state: vec![0; 12], table, atoms: vec![], waits: None };
+    let mut play = Play { state: vec![0; 12], store: vec![0; 2], table, atoms: vec![], waits: None };
     play.instant(&[0], 1, "STOP", &[0], &[]);
     assert_eq!((play.phases(), play.waits), (vec![0, 0, 0], None));
     play.instant(&[], 2, "STOP", &[], &[]);
@@ -188,7 +188,7 @@ fn find(node: &Node, index: usize, mut bound: Vec<u16>) -> Option<(&Node, Vec<u1
 fn named(node: &Node) -> String {
     match &node.written {
         Written::Await(c) | Written::When(c, ..) | Written::Until(c, ..) => c.to_string(),
-        Written::Control(s, _) => s.to_string(),
+        Written::Control(s, _) | Written::Freezable(s, _) => s.to_string(),
         _ => panic!("no test: {node:?}"),
     }
 }
@@ -200,8 +200,8 @@ fn the_fields_fit() {
     for line in waits::lines(4_000, 8).chain(edges::lines()) {
         let answer = lines::answer(line.as_bytes());
         let (asked, told): (Vec<&str>, Vec<&str>) = (line.split(' ').collect(), answer.split(' ').collect());
-        if asked[0] != "instant" || told.len() != 12 || told[8] == "4096" {
-            assert!(told.len() != 12 || told[9] == "1024");
+        if asked[0] != "instant" || told.len() != 13 || told[8] == "4096" {
+            assert!(told.len() != 13 || told[9] == "1024");
             continue;
         }
         let program = table::read(&read_hex(asked[1].as_bytes()).expect("hexadecimal")).expect("accepted");

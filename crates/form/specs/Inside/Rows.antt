@@ -6,7 +6,7 @@ use mathlib.Core.List.{List, [], _∷_, _++_, map}
 use lib.Dec.{eqb}
 use lib.ListN.{getD, drop}
 use Rattle.letters.specs.Text.{bytes}
-use Rattle.form.specs.Names.{Part, number, event, value, cap, test, program, programs, Form, forms, words, kindOfForm, formOfKind}
+use Rattle.form.specs.Names.{Part, number, event, value, cap, test, program, programs, Form, forms, words}
 
 -- A byte below 128 is to be read as it is. 128 is a program; 129 a form's name; 133 stands behind a second or later part; 134 is a
 -- configuration; 136 stands behind its bracket; 137 behind its first part and a space; 138 is an event, 139 a number, 140 the number of a
@@ -68,19 +68,16 @@ codeAt p = getD names p 0
 abbrev pub rowAt : ℕ → ℕ
 rowAt r = 20 * r
 
--- the rows of a configuration of kind k, of form i, and of a form of kind k
+-- the rows of a configuration and of a form of kind k
 abbrev pub wordRow : ℕ → ℕ
 wordRow k = 2 + k
 
 abbrev pub formRow : ℕ → ℕ
-formRow i = 6 + i
-
-abbrev pub rowOf : ℕ → ℕ
-rowOf k = formRow (formOfKind k)
+formRow k = 6 + k
 
 -- how many forms there are, and how many bytes
 abbrev pub formCount : ℕ
-formCount = 15
+formCount = 16
 
 abbrev pub long : ℕ
 long = rowAt (formRow formCount)
@@ -103,7 +100,7 @@ nameEnd r = behindName (rowAt r) (drop (rowAt r) names)
 -- the code at place j of what stands in the brackets of kind k
 unfoldable pub inside : ℕ → ℕ → ℕ
 unfolding codeAt nameEnd
-inside k j = codeAt (nameEnd (rowOf k) + j)
+inside k j = codeAt (nameEnd (formRow k) + j)
 
 -- a text begins with the name of these codes
 unfoldable pub starts : List ℕ → List ℕ → Bool
@@ -117,7 +114,7 @@ unfoldable pub named : ℕ → List ℕ → Bool
 unfolding names starts
 named r w = starts (drop (rowAt r) names) w
 
--- the form, number i or higher, whose name a text begins with, n being left; if none, the number of forms
+-- the kind, i or higher, of the form whose name a text begins with, n being left; if none, the number of forms
 unfoldable pub formFrom : ℕ → ℕ → List ℕ → ℕ
 unfolding named
 formFrom zero i w = i
@@ -126,11 +123,6 @@ formFrom (suc n) i w = cond (named (formRow i) w) i (formFrom n (suc i) w)
 unfoldable pub formIn : List ℕ → ℕ
 unfolding formFrom
 formIn w = formFrom formCount 0 w
-
--- its kind
-unfoldable pub kindOf : List ℕ → ℕ
-unfolding formIn
-kindOf w = kindOfForm (formIn w)
 
 -- 2 if it begins with `and`, 3 if with `or`
 unfoldable pub pairOf : List ℕ → ℕ

@@ -10,9 +10,10 @@ use lib.Seq.{length-take-le}
 use borrow.Rule.Slice.PartMut.{same-len-mid, mid-len}
 
 abbrev Inv-loop : tie.InvT-loop
-Inv-loop table state₀ row₀ input held to number output₀ why next₀ from₀ filled₀ end₀ state row output next from filled end =
+Inv-loop table state₀ row₀ store₀ input held to number output₀ why next₀ from₀ filled₀ end₀ state row store output next from filled end =
     (length state ≡ length state₀)
     × (length row ≡ length row₀)
+    × (length store ≡ length store₀)
     × (length output ≡ length output₀)
     × (from ≤ end)
     × (end ≤ to)
@@ -20,21 +21,23 @@ Inv-loop table state₀ row₀ input held to number output₀ why next₀ from�
     × (next ≤ number + from)
 
 abbrev μ-loop : tie.MeasureT-loop
-μ-loop table state₀ row₀ input held to number output₀ why next₀ from₀ filled₀ end₀ state row output next from filled end =
+μ-loop table state₀ row₀ store₀ input held to number output₀ why next₀ from₀ filled₀ end₀ state row store output next from filled end =
     to - end
 
 -- while end < to {
 loop-holds : tie.Need-loop-holds Inv-loop μ-loop
 loop-holds c =
     let find = c .find in
-    (refl, refl, refl, omega (arith, find .ensures .0), find .ensures .1, omega arith, omega arith)
+    (refl, refl, refl, refl, omega (arith, find .ensures .0), find .ensures .1, omega arith, omega arith)
 
--- filled += answer_line(table, state, row, &input[from..end], next, &mut output[filled..]);
+-- filled += answer_line(
 answer-line-requires : tie.Need-answer-line-requires Inv-loop μ-loop
 answer-line-requires c κs =
-    let start = c .before .before .before .before .before .before .before .before .before .before .before .before .before .before .before .before in
-    let loop = c .before .before .before .before .before .before .before .before .loop in
-    let room-for-line = c .before .before .before .before .before .room-for-line in
+    let c8 = c .before .before .before .before .before .before .before .before in
+    let c16 = c8 .before .before .before .before .before .before .before .before in
+    let start = c16 .before .before in
+    let loop = c8 .before .loop in
+    let room-for-line = c .before .before .before .before .before .before .room-for-line in
     let long = mid-len (room-for-line .result) (length (loop .output)) (loop .output) (omega arith) in
     omega (arith, long, room-for-line .ensures, loop .inv, start .pre)
 
@@ -42,10 +45,11 @@ add-filled : tie.Need-add-filled Inv-loop μ-loop
 add-filled c =
     let c8 = c .before .before .before .before .before .before .before .before in
     let c16 = c8 .before .before .before .before .before .before .before .before in
-    let start = c16 .before .before .before .before .before .before .before in
-    let loop = c8 .before .before .before .before .before .before .before .loop in
-    let room-for-line = c8 .before .before .before .before .room-for-line in
-    let answer-line = c .before .before .before .before .before .before .answer-line in
+    let c24 = c16 .before .before .before .before .before .before .before .before in
+    let start = c24 .before .before .before in
+    let loop = c16 .before .before .loop in
+    let room-for-line = c8 .before .before .before .before .before .before .before .room-for-line in
+    let answer-line = c8 .answer-line in
     let long = mid-len (room-for-line .result) (length (loop .output)) (loop .output) (omega arith) in
     omega (arith, long, answer-line .ensures .within, loop .inv, start .pre)
 
@@ -54,9 +58,10 @@ add-next : tie.Need-add-next Inv-loop μ-loop
 add-next c =
     let c8 = c .before .before .before .before .before .before .before .before in
     let c16 = c8 .before .before .before .before .before .before .before .before in
-    let start = c16 .before .before .before .before .before .before .before in
-    let loop = c8 .before .before .before .before .before .before .before .loop in
-    let loop-test = c8 .before .before .before .before .before .before .loop-test in
+    let c24 = c16 .before .before .before .before .before .before .before .before in
+    let start = c24 .before .before .before in
+    let loop = c16 .before .before .loop in
+    let loop-test = c16 .before .loop-test in
     omega (arith, loop .inv, start .pre, loop-test .taken)
 
 -- from = end + 1;
@@ -64,9 +69,10 @@ add-from : tie.Need-add-from Inv-loop μ-loop
 add-from c =
     let c8 = c .before .before .before .before .before .before .before .before in
     let c16 = c8 .before .before .before .before .before .before .before .before in
-    let start = c16 .before .before .before .before .before .before .before in
-    let loop = c8 .before .before .before .before .before .before .before .loop in
-    let loop-test = c8 .before .before .before .before .before .before .loop-test in
+    let c24 = c16 .before .before .before .before .before .before .before .before in
+    let start = c24 .before .before .before in
+    let loop = c16 .before .before .loop in
+    let loop-test = c16 .before .loop-test in
     omega (arith, loop .inv, start .pre, loop-test .taken)
 
 -- end = bytes::scan::find(input, from, to, 10);
@@ -75,9 +81,9 @@ find-requires-2 c κs =
     let c8 = c .before .before .before .before .before .before .before .before in
     let c16 = c8 .before .before .before .before .before .before .before .before in
     let c24 = c16 .before .before .before .before .before .before .before .before in
-    let start = c24 in
-    let loop = c16 .loop in
-    let loop-test = c8 .before .before .before .before .before .before .before .loop-test in
+    let start = c24 .before .before .before .before in
+    let loop = c16 .before .before .before .loop in
+    let loop-test = c16 .before .before .loop-test in
     omega (arith, loop .inv, start .pre, loop-test .taken)
 
 -- while end < to {
@@ -85,8 +91,8 @@ loop-less : tie.Need-loop-less Inv-loop μ-loop
 loop-less c =
     let c8 = c .before .before .before .before .before .before .before .before in
     let c16 = c8 .before .before .before .before .before .before .before .before in
-    let loop = c16 .before .loop in
-    let loop-test = c16 .loop-test in
+    let loop = c16 .before .before .before .before .loop in
+    let loop-test = c16 .before .before .before .loop-test in
     let find2 = c .find2 in
     omega (arith, find2 .ensures, loop .inv, loop-test .taken)
 
@@ -94,19 +100,20 @@ loop-again : tie.Need-loop-again Inv-loop μ-loop
 loop-again c =
     let c8 = c .before .before .before .before .before .before .before .before in
     let c16 = c8 .before .before .before .before .before .before .before .before in
-    let loop = c16 .before .loop in
-    let room-for-line = c8 .before .before .before .before .before .before .room-for-line in
-    let answer-line = c8 .answer-line in
+    let loop = c16 .before .before .before .before .loop in
+    let room-for-line = c16 .before .room-for-line in
+    let answer-line = c8 .before .before .answer-line in
     let find2 = c .find2 in
     let long = mid-len (room-for-line .result) (length (loop .output)) (loop .output) (omega arith) in
     let kept = same-len-mid (room-for-line .result) (length (loop .output) - room-for-line .result) (loop .output)
-    (answer-line .last .1 .1 .1 .1 .1 .0) (answer-line .kept .1 .1 .1 .1 .1 .0) in (
+    (answer-line .last .1 .1 .1 .1 .1 .1 .0) (answer-line .kept .1 .1 .1 .1 .1 .1 .0) in (
       answer-line .kept .1 .0 ∙ loop .inv .0,
       answer-line .kept .1 .1 .0 ∙ loop .inv .1,
-      kept ∙ loop .inv .2,
+      answer-line .kept .1 .1 .1 .0 ∙ loop .inv .2,
+      kept ∙ loop .inv .3,
       omega (arith, find2 .ensures .0),
       find2 .ensures .1,
-      omega (arith, long, answer-line .ensures .within, room-for-line .ensures, loop .inv .2),
+      omega (arith, long, answer-line .ensures .within, room-for-line .ensures, loop .inv .3),
       omega (arith, loop .inv),
     )
 
@@ -119,14 +126,14 @@ slice-aggregate-write-out c =
 -- held: keep_rest(input, from, to),
 keep-rest-requires : tie.Need-keep-rest-requires Inv-loop μ-loop
 keep-rest-requires c κs =
-    let start = c .before .before .before .before .before .before .before .before .before .before .before .before in
+    let start = c .before .before .before .before .before .before .before .before .before .before .before .before .before in
     let loop = c .before .before .before .before .loop in
     omega (arith, loop .inv, start .pre)
 
 -- fn list_block
 returns : tie.Need-returns Inv-loop μ-loop
 returns c =
-    let start = c .before .before .before .before .before .before .before .before .before .before .before .before .before .before .before in
+    let start = c .before .before .before .before .before .before .before .before .before .before .before .before .before .before .before .before in
     let loop = c .before .before .before .before .before .before .before .loop in
     let keep-rest = c .before .before .keep-rest in
     omega (arith, keep-rest .ensures, loop .inv, start .pre)
@@ -139,11 +146,11 @@ list-block-spec =
     (λ c κs. search needs)  -- find-requires: let mut end = bytes::scan::find(input, held, to, 10);
     loop-holds
     (λ c κs. omega arith)  -- room-for-line-requires: filled = room_for_line(output, filled);
-    (λ c. search needs)  -- sub-answer-line: filled += answer_line(table, state, row, &input[from...
+    (λ c. search needs)  -- sub-answer-line: &input[from..end],
     (λ c. omega arith)  -- part-answer-line-start
     (λ c. omega arith)  -- part-answer-line-end
-    (λ c. omega (arith, c .before .before .before .before .room-for-line .ensures))  -- sub-answer-line-2
-    (λ c. omega (arith, c .before .before .before .before .room-for-line .ensures))  -- part-answer-line-start-2
+    (λ c. omega (arith, c .before .before .before .before .before .room-for-line .ensures))  -- sub-answer-line-2
+    (λ c. omega (arith, c .before .before .before .before .before .room-for-line .ensures))  -- part-answer-line-start-2
     (λ c. search needs)  -- part-answer-line-end-2
     answer-line-requires
     add-filled
@@ -158,6 +165,7 @@ list-block-spec =
     keep-rest-requires
     (λ c. c .before .before .before .before .before .before .before .loop .inv .0)  -- same-length: fn list_b..
     (λ c. c .before .before .before .before .before .before .before .loop .inv .1)  -- same-length-2
-    (λ c. c .before .before .keep-rest .kept .0)  -- same-length-3
-    (λ c. c .before .before .before .before .before .before .before .loop .inv .2)  -- same-length-4
+    (λ c. c .before .before .before .before .before .before .before .loop .inv .2)  -- same-length-3
+    (λ c. c .before .before .keep-rest .kept .0)  -- same-length-4
+    (λ c. c .before .before .before .before .before .before .before .loop .inv .3)  -- same-length-5
     returns)

@@ -49,7 +49,8 @@ play-spec =
     slice-aggregate-list-lines
     (λ c. search needs)  -- slice-aggregate-list-lines-2: &mut state,
     (λ c. search needs)  -- slice-aggregate-list-lines-3: &mut row,
-    (λ c. search needs)  -- slice-aggregate-list-lines-4: &mut input,
-    (λ c. search needs)  -- slice-aggregate-list-lines-5: &mut output,
+    (λ c. search needs)  -- slice-aggregate-list-lines-4: &mut store,
+    (λ c. search needs)  -- slice-aggregate-list-lines-5: &mut input,
+    (λ c. search needs)  -- slice-aggregate-list-lines-6: &mut output,
     (λ c κs. search needs)  -- list-lines-requires: list_lines(
     (λ c. search needs))  -- returns-2: pub fn play

@@ -5,7 +5,7 @@ use mathlib.Core.Path.{_≡_}
 use mathlib.Core.List.{List}
 use lib.ListN.{length, getD, set}
 use Rattle.junior.specs.Program.{Program, number, capped, argument, Parts, no-part, one-part, two-parts, parts, size}
-use Rattle.junior.specs.Figures.{stops, figure, per, every}
+use Rattle.junior.specs.Figures.{stops, figure, per, every, parking}
 use Rattle.table.specs.declared.weights.Weight.{Weight}
 use Rattle.table.specs.Records.{nodes, kindAt, sizeAt}
 use Rattle.table.specs.Good.{known, children, argumentLimit, goodNode}
@@ -43,12 +43,25 @@ pub record Weighs (x : Weight) (p : Program) : Type 0 where
   pub generations-are : Figure (per 7) p (x .generations)
   pub atoms-are : Figure (per 2) p (x .atoms)
   pub nodes-are : Figure every p (x .nodes)
+  pub parked-are : Figure parking p (x .parked)
   pub height-is : x .height ≡ height p
   pub stops-is : x .stops ≡ bit (stops p)
 
 -- x counted c times, no further than 65,536
 abbrev pub counted : ℕ → ℕ → ℕ
 counted c x = min (c * min x 65536) 65536
+
+-- what counts x, and one node more, which parks that many bytes itself
+abbrev pub onceMore : Weight → ℕ → ℕ → Weight
+onceMore x own s =
+    record {
+      generations = x .generations;
+      atoms = x .atoms;
+      nodes = x .nodes + 1;
+      parked = x .parked + own;
+      height = x .height + 1;
+      stops = s;
+    }
 
 -- what counts x c times, or x and y together, and one node more
 abbrev pub repeatedly : ℕ → Weight → ℕ → Weight
@@ -57,6 +70,7 @@ repeatedly c x s =
       generations = counted c (x .generations);
       atoms = counted c (x .atoms);
       nodes = counted c (x .nodes) + 1;
+      parked = counted c (x .parked);
       height = x .height + 1;
       stops = s;
     }
@@ -67,6 +81,7 @@ together x y s =
       generations = x .generations + y .generations;
       atoms = x .atoms + y .atoms;
       nodes = x .nodes + y .nodes + 1;
+      parked = x .parked + y .parked;
       height = max (x .height) (y .height) + 1;
       stops = s;
     }
@@ -78,6 +93,7 @@ either x y s =
       generations = max (x .generations) (y .generations);
       atoms = max (x .atoms) (y .atoms);
       nodes = max (x .nodes) (y .nodes) + 1;
+      parked = max (x .parked) (y .parked);
       height = max (x .height) (y .height) + 1;
       stops = s;
     }
@@ -87,6 +103,7 @@ pub record Small (x : Weight) : Type 0 where
   pub generations-small : x .generations ≤ 268439552
   pub atoms-small : x .atoms ≤ 268439552
   pub nodes-small : x .nodes ≤ 268439552
+  pub parked-small : x .parked ≤ 268439552
   pub height-small : x .height ≤ 4096
 
 -- `waiting`, a row of 64 places for each field of a weight, and behind them the lowest endless Loop so far: what is in place `at`,
@@ -97,18 +114,19 @@ weightAt w at =
       generations = getD w at 0;
       atoms = getD w (64 + at) 0;
       nodes = getD w (128 + at) 0;
-      height = getD w (192 + at) 0;
-      stops = getD w (256 + at) 0;
+      parked = getD w (192 + at) 0;
+      height = getD w (256 + at) 0;
+      stops = getD w (320 + at) 0;
     }
 
 unfoldable pub put : List ℕ → ℕ → Weight → List ℕ
 put w at x =
     set
     (set
-    (set (set (set w at (x .generations)) (64 + at) (x .atoms)) (128 + at) (x .nodes))
-    (192 + at)
-    (x .height))
+    (set (set (set (set w at (x .generations)) (64 + at) (x .atoms)) (128 + at) (x .nodes)) (192 + at) (x .parked))
     (256 + at)
+    (x .height))
+    (320 + at)
     (x .stops)
 
 -- from node i on that many programs stand one behind another, up to the end
@@ -154,17 +172,17 @@ pub record ToPlace (t w : List ℕ) (n i top : ℕ) : Type 0 where
   pub within : Within t n i
   pub configurations-good : ConfigurationsGood t
   pub good-behind : (j : ℕ) → i < j → j < n → goodNode t j ≡ true
-  pub long-row : length w ≡ 321
+  pub long-row : length w ≡ 385
   pub waits : Waiting t w top (i + 1)
   pub room : top ≤ 64
 
 -- node i is placed, and r programs wait
 pub record NowPlaced (t w w′ : List ℕ) (i r : ℕ) : Type 0 where
   pub good : goodNode t i ≡ true
-  pub long-row : length w′ ≡ 321
+  pub long-row : length w′ ≡ 385
   pub waits : Waiting t w′ r i
   pub room : r ≤ 64
-  pub endless : getD w′ 320 0 ≡ cond (endlessLoop (treeAt t i)) i (getD w 320 0)
+  pub endless : getD w′ 384 0 ≡ cond (endlessLoop (treeAt t i)) i (getD w 384 0)
 
 -- r is 0 where node i isn't good, or would be the 65th to wait
 abbrev pub Places : List ℕ → List ℕ → List ℕ → ℕ → ℕ → Type 0

@@ -1,4 +1,4 @@
--- `waiting::own_wait` meets its contract: a test's event, a Control's own, or none.
+-- `waiting::own_wait` meets its contract: a test's event, a Control's or a pending Freezable's own, or none.
 use Rattle.waiting.proofs.own_wait.Statement.{statement}
 use Rattle.waiting.proofs.own_wait.Tie as tie
 use borrow.Author.Needs.{needs}
@@ -6,18 +6,18 @@ use mathlib.Core.Path.{refl, sym, _∙_}
 use native.Mathlib.Omega.{arith}
 use Rattle.events.specs.Members.{marks}
 use Rattle.waiting.proofs.Standing.{own-bytes, own-record, frame-of}
-use Rattle.waiting.proofs.OneStep.{test-waits, test-there, control-waits, no-own, control-tells, control-holds, tells-not}
+use Rattle.waiting.proofs.OneStep.{test-waits, test-there, itself-waits, no-own, event-tells, event-holds, tells-not}
 
 -- let kind = kind_at(table, i);
 kind-at-requires : tie.Need-kind-at-requires
 kind-at-requires c κs = omega (arith, own-record (c .before .before .pre .1 .stands) .0)
 
--- if is_test(kind, state[4 * i]) {
-mul-is-test : tie.Need-mul-is-test
-mul-is-test c = omega (arith, own-record (c .before .before .before .pre .1 .stands) .1)
+-- let phase = state[4 * i];
+mul-phase : tie.Need-mul-phase
+mul-phase c = omega (arith, own-record (c .before .before .before .pre .1 .stands) .1)
 
-shared-slice-read-is-test : tie.Need-shared-slice-read-is-test
-shared-slice-read-is-test c = let l = own-bytes (c .before .before .before .before .pre .1 .stands) in omega arith
+shared-slice-read-phase : tie.Need-shared-slice-read-phase
+shared-slice-read-phase c = let l = own-bytes (c .before .before .before .before .pre .1 .stands) in omega arith
 
 -- let nodes = word_at(table, table.len() - 10);
 sub-word-at : tie.Need-sub-word-at
@@ -67,57 +67,67 @@ returns c =
 
 -- let event = argument_at(table, i);
 argument-at-requires-2 : tie.Need-argument-at-requires-2
-argument-at-requires-2 c κs = omega (arith, own-record (c .before .before .before .before .before .before .before .pre .1 .stands) .0)
+argument-at-requires-2 c κs =
+    omega (arith, own-record (c .before .before .before .before .before .before .before .before .pre .1 .stands) .0)
 
 -- return EventSet::PLACES;
 returns-2 : tie.Need-returns-2
 returns-2 c =
-    let start = c .before .before .before .before .before .before .before .before .before .before .before in
-    let kind-at = c .before .before .before .before .before .before .before .before .kind-at in
-    let is-test = c .before .before .before .before .before .before .is-test in
-    let if1 = c .before .before .before .before .before .if1 in
+    let start = c .before .before .before .before .before .before .before .before .before .before .before .before in
+    let kind-at = c .before .before .before .before .before .before .before .before .before .kind-at in
+    let is-test = c .before .before .before .before .before .before .before .is-test in
+    let if1 = c .before .before .before .before .before .before .if1 in
+    let waits-itself = c .before .before .before .before .before .waits-itself in
     let if2 = c .before .before .before .before .if2 in
     let argument-at2 = c .before .before .before .argument-at2 in
     let marked = c .before .marked in
     let if3 = c .if3 in
     λ x w h e.
     let X = marks (start .args .words .now) in
-    control-holds X (control-waits h X e (kind-at .ensures .0) refl (sym (is-test .ensures) ∙ if1 .left) (if2 .taken))
+    let so = sym (waits-itself .ensures) ∙ if2 .taken in
+    event-holds X (itself-waits h X e (kind-at .ensures .0) refl (sym (is-test .ensures) ∙ if1 .left) so)
     (rw (argument-at2 .ensures .0) at (sym (marked .ensures) ∙ if3 .taken))
 
 -- return event;
 returns-3 : tie.Need-returns-3
 returns-3 c =
-    let start = c .before .before .before .before .before .before .before .before .before .before .before in
-    let kind-at = c .before .before .before .before .before .before .before .before .kind-at in
-    let is-test = c .before .before .before .before .before .before .is-test in
-    let if1 = c .before .before .before .before .before .if1 in
+    let start = c .before .before .before .before .before .before .before .before .before .before .before .before in
+    let kind-at = c .before .before .before .before .before .before .before .before .before .kind-at in
+    let is-test = c .before .before .before .before .before .before .before .is-test in
+    let if1 = c .before .before .before .before .before .before .if1 in
+    let waits-itself = c .before .before .before .before .before .waits-itself in
     let if2 = c .before .before .before .before .if2 in
     let argument-at2 = c .before .before .before .argument-at2 in
     let marked = c .before .marked in
     let if3 = c .if3 in
     λ x w h e.
-    control-tells h (kind-at .ensures .0) (if2 .taken) (argument-at2 .ensures .0) (marks (start .args .words .now))
-    (control-waits h (marks (start .args .words .now)) e (kind-at .ensures .0) refl (sym (is-test .ensures) ∙ if1 .left) (if2 .taken))
+    let X = marks (start .args .words .now) in
+    let so = sym (waits-itself .ensures) ∙ if2 .taken in
+    event-tells h (kind-at .ensures .0) so (argument-at2 .ensures .0) X
+    (itself-waits h X e (kind-at .ensures .0) refl (sym (is-test .ensures) ∙ if1 .left) so)
     (rw (argument-at2 .ensures .0) at (sym (marked .ensures) ∙ if3 .left))
 
 -- fn own_wait
 returns-4 : tie.Need-returns-4
 returns-4 c =
-    let start = c .before .before .before .before .before .before .before in
-    let kind-at = c .before .before .before .before .kind-at in
-    let is-test = c .before .before .is-test in
-    let if1 = c .before .if1 in
+    let start = c .before .before .before .before .before .before .before .before in
+    let kind-at = c .before .before .before .before .before .kind-at in
+    let is-test = c .before .before .before .is-test in
+    let if1 = c .before .before .if1 in
+    let waits-itself = c .before .waits-itself in
     let if2 = c .if2 in
-    λ x w h e. tells-not (no-own h (marks (start .args .words .now)) e (kind-at .ensures .0) refl (sym (is-test .ensures) ∙ if1 .left) (if2 .left))
+    λ x w h e.
+    tells-not
+    (no-own h (marks (start .args .words .now)) e (kind-at .ensures .0) refl (sym (is-test .ensures) ∙ if1 .left)
+    (sym (waits-itself .ensures) ∙ if2 .left))
 
 pub own-wait-spec : {M : Type 1} → statement M
 own-wait-spec =
     tie.close (tie.spec
     kind-at-requires
-    mul-is-test
-    shared-slice-read-is-test
-    (λ c κs. search needs)  -- is-test-requires
+    mul-phase
+    shared-slice-read-phase
+    (λ c κs. search needs)  -- is-test-requires: if is_test(kind, phase) {
     sub-word-at
     word-at-requires
     mul-lacking-event
@@ -126,6 +136,7 @@ own-wait-spec =
     add-lacking-event
     lacking-event-requires
     returns
+    (λ c κs. search needs)  -- waits-itself-requires: if waits_itself(kind, phase) {
     argument-at-requires-2
     (λ c κs. search needs)  -- marked-requires: if marked(words, event) {
     returns-2

@@ -10,18 +10,19 @@ use Rattle.zap_calls.proofs.answer_block.Statement.{statement}
 use Rattle.zap_calls.proofs.answer_block.Tie as tie
 
 abbrev Inv-loop : tie.InvT-loop
-Inv-loop table₀ state₀ row₀ text₀ input held to output₀ from₀ filled₀ end₀ table state row text output from filled end =
+Inv-loop table₀ state₀ row₀ text₀ store₀ input held to output₀ from₀ filled₀ end₀ table state row text store output from filled end =
     (length table ≡ length table₀)
     × (length state ≡ length state₀)
     × (length row ≡ length row₀)
     × (length text ≡ length text₀)
+    × (length store ≡ length store₀)
     × (length output ≡ length output₀)
     × (from ≤ end)
     × (end ≤ to)
     × (filled ≤ length output₀)
 
 abbrev μ-loop : tie.MeasureT-loop
-μ-loop table₀ state₀ row₀ text₀ input held to output₀ from₀ filled₀ end₀ table state row text output from filled end =
+μ-loop table₀ state₀ row₀ text₀ store₀ input held to output₀ from₀ filled₀ end₀ table state row text store output from filled end =
     to - end
 
 -- let mut end = bytes::scan::find(input, held, to, 10);
@@ -33,45 +34,45 @@ find-requires c κs =
 loop-holds : tie.Need-loop-holds Inv-loop μ-loop
 loop-holds c =
     let find = c .find in
-    (refl, refl, refl, refl, refl, omega (arith, find .ensures .0), find .ensures .1, omega arith)
+    (refl, refl, refl, refl, refl, refl, omega (arith, find .ensures .0), find .ensures .1, omega arith)
 
 -- filled = room_for_answer(output, filled);
 room-for-answer-requires : tie.Need-room-for-answer-requires Inv-loop μ-loop
 room-for-answer-requires c κs =
-    let start = c .before .before .before .before .before .before .before .before .before .before .before in
+    let start = c .before .before .before .before .before .before .before .before .before .before .before .before in
     let loop = c .before .before .loop in
     omega (arith, loop .inv, start .pre)
 
 -- filled += answer_call(
 sub-answer-call : tie.Need-sub-answer-call Inv-loop μ-loop
 sub-answer-call c =
-    let start = c .before .before .before .before .before .before .before .before .before .before .before .before in
+    let start = c .before .before .before .before .before .before .before .before .before .before .before .before .before in
     let loop = c .before .before .before .loop in
     let loop-test = c .before .before .loop-test in
     omega (arith, loop .inv, start .pre, loop-test .taken)
 
 part-answer-call-start : tie.Need-part-answer-call-start Inv-loop μ-loop
 part-answer-call-start c =
-    let start = c .before .before .before .before .before .before .before .before .before .before .before .before .before in
+    let start = c .before .before .before .before .before .before .before .before .before .before .before .before .before .before in
     let loop = c .before .before .before .before .loop in
     let loop-test = c .before .before .before .loop-test in
     omega (arith, loop .inv, start .pre, loop-test .taken)
 
 part-answer-call-end : tie.Need-part-answer-call-end Inv-loop μ-loop
 part-answer-call-end c =
-    let start = c .before .before .before .before .before .before .before .before .before .before .before .before .before in
+    let start = c .before .before .before .before .before .before .before .before .before .before .before .before .before .before in
     let loop = c .before .before .before .before .loop in
     let loop-test = c .before .before .before .loop-test in
     omega (arith, loop .inv, start .pre, loop-test .taken)
 
 sub-answer-call-2 : tie.Need-sub-answer-call-2 Inv-loop μ-loop
 sub-answer-call-2 c =
-    let room-for-answer = c .before .before .before .before .before .before .room-for-answer in
+    let room-for-answer = c .before .before .before .before .before .before .before .room-for-answer in
     omega (arith, room-for-answer .ensures)
 
 part-answer-call-start-2 : tie.Need-part-answer-call-start-2 Inv-loop μ-loop
 part-answer-call-start-2 c =
-    let room-for-answer = c .before .before .before .before .before .before .room-for-answer in
+    let room-for-answer = c .before .before .before .before .before .before .before .room-for-answer in
     omega (arith, room-for-answer .ensures)
 
 part-answer-call-end-2 : tie.Need-part-answer-call-end-2 Inv-loop μ-loop
@@ -82,9 +83,9 @@ answer-call-requires : tie.Need-answer-call-requires Inv-loop μ-loop
 answer-call-requires c κs =
     let c8 = c .before .before .before .before .before .before .before .before in
     let c16 = c8 .before .before .before .before .before .before .before .before in
-    let start = c16 .before .before .before in
-    let loop = c8 .before .before .loop in
-    let room-for-answer = c .before .before .before .before .before .before .before .room-for-answer in
+    let start = c16 .before .before .before .before .before in
+    let loop = c8 .before .before .before .loop in
+    let room-for-answer = c8 .room-for-answer in
     let long = mid-len (room-for-answer .result) (length (loop .output)) (loop .output) (omega (arith, room-for-answer .ensures)) in
     omega (arith, long, room-for-answer .ensures, loop .inv, start .pre)
 
@@ -93,10 +94,11 @@ add-filled c =
     let c8 = c .before .before .before .before .before .before .before .before in
     let c16 = c8 .before .before .before .before .before .before .before .before in
     let c24 = c16 .before .before .before .before .before .before .before .before in
-    let start = c24 .before .before .before .before .before .before in
-    let loop = c16 .before .before .before .before .before .loop in
-    let room-for-answer = c16 .before .before .room-for-answer in
-    let answer-call = c8 .before .before .answer-call in
+    let c32 = c24 .before .before .before .before .before .before .before .before in
+    let start = c32 .before .before in
+    let loop = c24 .loop in
+    let room-for-answer = c16 .before .before .before .before .before .room-for-answer in
+    let answer-call = c8 .before .before .before .before .answer-call in
     let long = mid-len (room-for-answer .result) (length (loop .output)) (loop .output) (omega (arith, room-for-answer .ensures)) in
     omega (arith, long, answer-call .ensures, loop .inv, start .pre)
 
@@ -106,9 +108,10 @@ add-from c =
     let c8 = c .before .before .before .before .before .before .before .before in
     let c16 = c8 .before .before .before .before .before .before .before .before in
     let c24 = c16 .before .before .before .before .before .before .before .before in
-    let start = c24 .before .before .before .before .before .before in
-    let loop = c16 .before .before .before .before .before .loop in
-    let loop-test = c16 .before .before .before .before .loop-test in
+    let c32 = c24 .before .before .before .before .before .before .before .before in
+    let start = c32 .before .before in
+    let loop = c24 .loop in
+    let loop-test = c16 .before .before .before .before .before .before .before .loop-test in
     omega (arith, loop .inv, start .pre, loop-test .taken)
 
 -- end = bytes::scan::find(input, from, to, 10);
@@ -117,9 +120,10 @@ find-requires-2 c κs =
     let c8 = c .before .before .before .before .before .before .before .before in
     let c16 = c8 .before .before .before .before .before .before .before .before in
     let c24 = c16 .before .before .before .before .before .before .before .before in
-    let start = c24 .before .before .before .before .before .before .before in
-    let loop = c16 .before .before .before .before .before .before .loop in
-    let loop-test = c16 .before .before .before .before .before .loop-test in
+    let c32 = c24 .before .before .before .before .before .before .before .before in
+    let start = c32 .before .before .before in
+    let loop = c24 .before .loop in
+    let loop-test = c24 .loop-test in
     omega (arith, loop .inv, start .pre, loop-test .taken)
 
 -- while end < to {
@@ -127,8 +131,9 @@ loop-less : tie.Need-loop-less Inv-loop μ-loop
 loop-less c =
     let c8 = c .before .before .before .before .before .before .before .before in
     let c16 = c8 .before .before .before .before .before .before .before .before in
-    let loop = c16 .before .before .before .before .before .before .before .loop in
-    let loop-test = c16 .before .before .before .before .before .before .loop-test in
+    let c24 = c16 .before .before .before .before .before .before .before .before in
+    let loop = c24 .before .before .loop in
+    let loop-test = c24 .before .loop-test in
     let find2 = c .find2 in
     omega (arith, find2 .ensures, loop .inv, loop-test .taken)
 
@@ -136,21 +141,23 @@ loop-again : tie.Need-loop-again Inv-loop μ-loop
 loop-again c =
     let c8 = c .before .before .before .before .before .before .before .before in
     let c16 = c8 .before .before .before .before .before .before .before .before in
-    let loop = c16 .before .before .before .before .before .before .before .loop in
-    let room-for-answer = c16 .before .before .before .before .room-for-answer in
-    let answer-call = c8 .before .before .before .before .answer-call in
+    let c24 = c16 .before .before .before .before .before .before .before .before in
+    let loop = c24 .before .before .loop in
+    let room-for-answer = c16 .before .before .before .before .before .before .before .room-for-answer in
+    let answer-call = c8 .before .before .before .before .before .before .answer-call in
     let find2 = c .find2 in
     let long = mid-len (room-for-answer .result) (length (loop .output)) (loop .output) (omega (arith, room-for-answer .ensures)) in
     let kept = same-len-mid (room-for-answer .result) (length (loop .output) - room-for-answer .result) (loop .output)
-    (answer-call .last .1 .1 .1 .1 .1 .0) (answer-call .kept .1 .1 .1 .1 .1 .0) in (
+    (answer-call .last .1 .1 .1 .1 .1 .1 .0) (answer-call .kept .1 .1 .1 .1 .1 .1 .0) in (
       answer-call .kept .1 .0 ∙ loop .inv .0,
       answer-call .kept .1 .1 .0 ∙ loop .inv .1,
       answer-call .kept .1 .1 .1 .0 ∙ loop .inv .2,
       answer-call .kept .1 .1 .1 .1 .0 ∙ loop .inv .3,
-      kept ∙ loop .inv .4,
+      answer-call .kept .1 .1 .1 .1 .1 .0 ∙ loop .inv .4,
+      kept ∙ loop .inv .5,
       omega (arith, find2 .ensures .0),
       find2 .ensures .1,
-      omega (arith, long, answer-call .ensures, room-for-answer .ensures, loop .inv .4),
+      omega (arith, long, answer-call .ensures, room-for-answer .ensures, loop .inv .5),
     )
 
 -- write_out(&output[..filled]);
@@ -171,7 +178,7 @@ write-out-requires c κs =
 -- keep_rest(input, from, to, LONGEST)
 keep-rest-requires : tie.Need-keep-rest-requires Inv-loop μ-loop
 keep-rest-requires c κs =
-    let start = c .before .before .before .before .before .before .before .before .before .before .before .before .before in
+    let start = c .before .before .before .before .before .before .before .before .before .before .before .before .before .before in
     let loop = c .before .before .before .before .loop in
     omega (arith, loop .inv, start .pre)
 
@@ -198,17 +205,22 @@ same-length-4 c =
 
 same-length-5 : tie.Need-same-length-5 Inv-loop μ-loop
 same-length-5 c =
-    let keep-rest = c .before .before .keep-rest in
-    keep-rest .kept .0
-
-same-length-6 : tie.Need-same-length-6 Inv-loop μ-loop
-same-length-6 c =
     let loop = c .before .before .before .before .before .before .before .loop in
     loop .inv .4
 
+same-length-6 : tie.Need-same-length-6 Inv-loop μ-loop
+same-length-6 c =
+    let keep-rest = c .before .before .keep-rest in
+    keep-rest .kept .0
+
+same-length-7 : tie.Need-same-length-7 Inv-loop μ-loop
+same-length-7 c =
+    let loop = c .before .before .before .before .before .before .before .loop in
+    loop .inv .5
+
 returns : tie.Need-returns Inv-loop μ-loop
 returns c =
-    let start = c .before .before .before .before .before .before .before .before .before .before .before .before .before .before .before .before in
+    let start = c .before .before .before .before .before .before .before .before .before .before .before .before .before .before .before .before .before in
     let loop = c .before .before .before .before .before .before .before .loop in
     let keep-rest = c .before .before .keep-rest in
     omega (arith, keep-rest .ensures, loop .inv, start .pre)
@@ -243,4 +255,5 @@ answer-block-spec =
     same-length-4
     same-length-5
     same-length-6
+    same-length-7
     returns)

@@ -9,8 +9,9 @@ use borrow.Author.Needs.{needs}
 -- write_out(&output[..n]);
 slice-aggregate-write-out : tie.Need-slice-aggregate-write-out
 slice-aggregate-write-out c =
-    let answer-call = c .before .before .before .before .before .before .before .before .before .before .before .answer-call in
-    sym (length-take-le (answer-call .result) (answer-call .last .1 .1 .1 .1 .1 .0) (omega (arith, answer-call .ensures, answer-call .kept .1 .1 .1 .1 .1 .0)))
+    let answer-call = c .before .before .before .before .before .before .before .before .before .before .before .before .before .answer-call in
+    sym (length-take-le (answer-call .result) (answer-call .last .1 .1 .1 .1 .1 .1 .0)
+    (omega (arith, answer-call .ensures, answer-call .kept .1 .1 .1 .1 .1 .1 .0)))
 
 pub answer-last-spec : {M : Type 1} → statement M
 answer-last-spec =
@@ -25,4 +26,5 @@ answer-last-spec =
     (λ c. search needs)  -- same-length-3
     (λ c. search needs)  -- same-length-4
     (λ c. search needs)  -- same-length-5
+    (λ c. search needs)  -- same-length-6
     (λ c. search needs))  -- returns-2

@@ -13,5 +13,6 @@ main-spec =
     (λ c. search needs)  -- slice-aggregate-answer-lines-4
     (λ c. search needs)  -- slice-aggregate-answer-lines-5
     (λ c. search needs)  -- slice-aggregate-answer-lines-6
+    (λ c. search needs)  -- slice-aggregate-answer-lines-7
     (λ c κs. omega arith)  -- answer-lines-requires
     (λ c. search needs))  -- returns

@@ -25,7 +25,7 @@ main-spec =
     (λ c. search needs)  -- slice-aggregate-put-2: put(refusal.index, b" ");
     (λ c κs. search needs)  -- put-requires-2
     (λ c. search needs)  -- enum-known-verdict: Checked::Accepted {
-    (λ c κs. search needs)  -- put-figures-requires: put_figures(generations, atoms, nodes)
-    (λ c κs. search needs)  -- put-figures-requires-2: put_figures(0, 0, 0)
+    (λ c κs. search needs)  -- put-figures-requires: put_figures(generations, atoms, nodes, parked)
+    (λ c κs. search needs)  -- put-figures-requires-2: put_figures(0, 0, 0, 0)
     (λ c. search needs)  -- returns: fn main
     (λ c. search needs))  -- returns-2

@@ -11,7 +11,7 @@ use Rattle.kernel.proofs.exports.zapper_check.Statement.{statement}
 use Rattle.kernel.proofs.exports.zapper_check.Tie as tie
 
 places : (c v : Checked) (n i : ℕ) (f : Figures) → c ≡ v → n ≡ numberOf c → i ≡ indexOf c → f ≡ figuresOf c
-    → (n ∷ i ∷ f .generations ∷ f .atoms ∷ f .nodes ∷ []) ≡ checkPlaces v
+    → (n ∷ i ∷ f .generations ∷ f .atoms ∷ f .nodes ∷ f .parked ∷ []) ≡ checkPlaces v
 places c v n i f e a b d = rw (a, b, d) (ap checkPlaces e)
 
 -- let verdict = check(table);
@@ -27,7 +27,7 @@ returns c =
     let check = c .before .before .before .before .before .check in
     places _ _ _ _ _ (check .ensures) (refusal-of-table .ensures .0) (refusal-of-table .ensures .1) (sym (ap figuresOf (told .given .1)))
 
--- *answer = [refusal.number as u64, refusal.index as u64, 0, 0, 0];
+-- *answer = [refusal.number as u64, refusal.index as u64, 0, 0, 0, 0];
 returns-2 : tie.Need-returns-2
 returns-2 c =
     let refusal-of-table = c .before .before .refusal-of-table in

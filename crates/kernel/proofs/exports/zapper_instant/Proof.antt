@@ -14,7 +14,7 @@ as-number false = refl
 -- pub extern "C" fn zapper_instant
 returns : tie.Need-returns
 returns c =
-    let instant = c .before .before .before .before .before .before .before .before .instant in
+    let instant = c .before .before .before .before .before .before .before .before .before .before .instant in
     let refusal-of = c .before .before .before .refusal-of in
     let places-of = c .places-of in
     let a = instant .result in
@@ -27,10 +27,11 @@ returns c =
 pub zapper-instant-spec : {M : Type 1} → statement M
 zapper-instant-spec =
     tie.close (tie.spec
-    (λ c κs. search needs)  -- instant-requires: let a = instant(table, state, EventSet { words }, values, atoms);
+    (λ c κs. search needs)  -- instant-requires: let a = instant(table, state, EventSet { words }, values, atoms, store);
     (λ c κs. search needs)  -- refusal-of-requires: let refusal = refusal_of(outcome);
     (λ c. search needs)  -- cast-leading: a.finished as u64,
     (λ c κs. search needs)  -- places-of-requires: *answer = places_of(leading, present);
     (λ c. search needs)  -- same-length: pub extern "C" fn zapper_instant
     (λ c. search needs)  -- same-length-2
+    (λ c. search needs)  -- same-length-3
     returns)

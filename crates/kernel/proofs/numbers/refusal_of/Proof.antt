@@ -28,9 +28,13 @@ refusal-of-spec =
     (λ c. search needs)  -- enum-known-outcome-2: Outcome::NotAtRest(i)
     (λ c. search needs)  -- enum-known-outcome-3: Outcome::UnlistedEvent(e)
     (λ c. search needs)  -- enum-told-3: Outcome::AtomRoom
+    (λ c. search needs)  -- enum-told-4: Outcome::BadStore
+    (λ c. search needs)  -- enum-told-5: Outcome::StoreRoom
     (λ c. same (c .enum-told .given .1))  -- returns: Outcome::Ran
     returns-2
     (λ c. same (c .enum-told2 .given .1))  -- returns-3: Outcome::StateRoom
     (λ c. same (c .before .outcome2 .given .1))  -- returns-4: Outcome::NotAtRest(i)
     (λ c. same (c .before .outcome3 .given .1))  -- returns-5: Outcome::UnlistedEvent(e)
-    (λ c. same (c .enum-told3 .given .1)))  -- returns-6: Outcome::AtomRoom
+    (λ c. same (c .enum-told3 .given .1))  -- returns-6: Outcome::AtomRoom
+    (λ c. same (c .enum-told4 .given .1))  -- returns-7: Outcome::BadStore
+    (λ c. same (c .enum-told5 .given .1)))  -- returns-8: Outcome::StoreRoom

@@ -14,7 +14,7 @@ use Rattle.junior.specs.Figures.{G}
 use Rattle.junior.proofs.Little.{STOP≢SUSP, TERM≢SUSP}
 use Rattle.table.specs.Spells.{treeOf}
 use Rattle.table.specs.Reading.{event-words}
-use Rattle.steps.specs.Running.{valuesIn}
+use Rattle.steps.specs.Running.{valuesIn, rooms-of}
 use Rattle.steps.specs.Numbers.{wordsOf, tallyOf, Numbers}
 use Rattle.steps.proofs.FlagNumbers.{is-stop, is-term}
 use Rattle.kernel.specs.declared.passes.HandedIn.{HandedIn}
@@ -28,17 +28,18 @@ handed-long : (h : HandedIn) (v : List Val) → Is I.the-row h v → length (h .
 handed-long h v i = search needs
 
 abbrev Inv-loop : tie.InvT-loop
-Inv-loop t1 state₀ atoms₀ table nodes numbers₀ passes₀ waits₀ state atoms numbers passes waits =
-    (b : Startable t1 (state₀ .now) (atoms₀ .now))
-    × (u : Underway t1 (b .term) (marks (wordsOf numbers₀)) (valuesIn (tallyOf numbers₀)) (atoms₀ .now)
-    (state .now) (wordsOf numbers) (atoms .now) (tallyOf numbers) passes)
+Inv-loop t1 state₀ atoms₀ free₀ table nodes numbers₀ passes₀ waits₀ state atoms free numbers passes waits =
+    (b : Startable t1 (state₀ .now) (atoms₀ .now) (free₀ .now))
+    × (u : Underway t1 (b .term) (marks (wordsOf numbers₀)) (valuesIn (tallyOf numbers₀)) (rooms-of (atoms₀ .now) (free₀ .now))
+    (state .now) (wordsOf numbers) (rooms-of (atoms .now) (free .now)) (tallyOf numbers) passes)
     × Numbers t1 numbers
     × (state .name ≡ state₀ .name)
     × (atoms .name ≡ atoms₀ .name)
+    × (free .name ≡ free₀ .name)
     × Names waits (u .named)
 
 abbrev μ-loop : tie.MeasureT-loop
-μ-loop t1 state₀ atoms₀ table nodes numbers₀ passes₀ waits₀ state atoms numbers passes waits = G (treeOf t1) + 2 - passes
+μ-loop t1 state₀ atoms₀ free₀ table nodes numbers₀ passes₀ waits₀ state atoms free numbers passes waits = G (treeOf t1) + 2 - passes
 
 -- let nodes = word_at(table, table.len() - 10);
 sub-word-at : tie.Need-sub-word-at Inv-loop μ-loop
@@ -68,7 +69,7 @@ loop-holds c =
     let H = start .args .handed in
     let (underway, holds, unnamed) =
     begins-by (H .events .words) (H .low) (H .high) (start .pre) long (rw (word-at .ensures .0) at (first-numbers .ensures)) in
-    (start .pre, underway, holds, refl, refl, rw unnamed (record { node-is = no-wait .ensures .0; event-is = no-wait .ensures .1 }))
+    (start .pre, underway, holds, refl, refl, refl, rw unnamed (record { node-is = no-wait .ensures .0; event-is = no-wait .ensures .1 }))
 
 -- passes += 1;
 add-passes : tie.Need-add-passes Inv-loop μ-loop
@@ -76,31 +77,38 @@ add-passes c =
     let loop = c .loop in
     omega (arith, few-passes (loop .inv .1), loop .inv .0 .few)
 
--- let flag = run_child(&table, 0, state, &mut row, atoms);
+-- let flag = run_child(&table, 0, state, &mut row, atoms, free);
 run-child-requires : tie.Need-run-child-requires Inv-loop μ-loop
 run-child-requires c κs =
-    let loop = c .before .before .before .before .loop in
+    let loop = c .before .before .before .before .before .loop in
     can-pass (loop .inv .1) (loop .inv .2)
 
--- return report(events_of(&row), row[ATOMS] as usize, false, passes, waits);
+-- return report(events_of(&row), row[ATOMS] as usize, row[PARKED] as usize, false, passes, waits);
 events-of-requires : tie.Need-events-of-requires Inv-loop μ-loop
 events-of-requires c κs =
-    let loop = c .before .before .before .before .before .before .before .loop in
+    let loop = c .before .before .before .before .before .before .before .before .loop in
     let run-child = c .before .before .run-child in
     row-holds (loop .inv .1) (loop .inv .2) (run-child .ensures .0) .long
 
 array-read-report : tie.Need-array-read-report Inv-loop μ-loop
 array-read-report c =
-    let loop = c .before .before .before .before .before .before .before .before .loop in
+    let loop = c .before .before .before .before .before .before .before .before .before .loop in
+    let run-child = c .before .before .before .run-child in
+    let long = row-holds (loop .inv .1) (loop .inv .2) (run-child .ensures .0) .long in
+    search needs
+
+array-read-report-2 : tie.Need-array-read-report-2 Inv-loop μ-loop
+array-read-report-2 c =
+    let loop = c .before .before .before .before .before .before .before .before .before .loop in
     let run-child = c .before .before .before .run-child in
     let long = row-holds (loop .inv .1) (loop .inv .2) (run-child .ensures .0) .long in
     search needs
 
 returns : tie.Need-returns Inv-loop μ-loop
 returns c =
-    let start = c .before .before .before .before .before .before .before .before .before .before .before .before .before .before in
-    let first-numbers = c .before .before .before .before .before .before .before .before .before .before .before .first-numbers in
-    let loop = c .before .before .before .before .before .before .before .before .before .loop in
+    let start = c .before .before .before .before .before .before .before .before .before .before .before .before .before .before .before in
+    let first-numbers = c .before .before .before .before .before .before .before .before .before .before .before .before .first-numbers in
+    let loop = c .before .before .before .before .before .before .before .before .before .before .loop in
     let run-child = c .before .before .before .before .run-child in
     let if1 = c .before .before .before .if1 in
     let events-of = c .before .events-of in
@@ -112,39 +120,46 @@ returns c =
     let handed = handed-words (start .args .t1 .now) (H .events .words) long (H .low) (H .high) _ (first-numbers .ensures) in
     let asked = handed-values (start .args .t1 .now) (H .events .words) long (H .low) (H .high) _ (first-numbers .ensures) in
     record {
-      outcome-is = report .ensures .outcome-is;
-      run = rw (handed, asked) at (run-of (loop .inv .0) u ran STOP≢SUSP (ran .bytes) (events-of .ensures) (loop .inv .5) (report .ensures));
+      ran = rw (handed, asked) at (run-of (loop .inv .0) u ran STOP≢SUSP (ran .bytes) (events-of .ensures) (loop .inv .6) (report .ensures));
       same-state = search needs;
       same-row = search needs;
+      same-free = search needs;
     }
 
 -- state[0] = GONE;
 index-1-state : tie.Need-index-1-state Inv-loop μ-loop
 index-1-state c =
-    let loop = c .before .before .before .before .before .before .before .loop in
+    let loop = c .before .before .before .before .before .before .before .before .loop in
     let run-child = c .before .before .run-child in
     let if2 = c .if2 in
     some-bytes (loop .inv .1) (ran-by (loop .inv .1) (loop .inv .2) (run-child .ensures .0) (is-term (if2 .taken)))
 
--- return report(events_of(&row), row[ATOMS] as usize, true, passes, waits);
+-- return report(events_of(&row), row[ATOMS] as usize, row[PARKED] as usize, true, passes, waits);
 events-of-requires-2 : tie.Need-events-of-requires-2 Inv-loop μ-loop
 events-of-requires-2 c κs =
-    let loop = c .before .before .before .before .before .before .before .before .loop in
+    let loop = c .before .before .before .before .before .before .before .before .before .loop in
     let run-child = c .before .before .before .run-child in
     row-holds (loop .inv .1) (loop .inv .2) (run-child .ensures .0) .long
 
-array-read-report-2 : tie.Need-array-read-report-2 Inv-loop μ-loop
-array-read-report-2 c =
-    let loop = c .before .before .before .before .before .before .before .before .before .loop in
+array-read-report-3 : tie.Need-array-read-report-3 Inv-loop μ-loop
+array-read-report-3 c =
+    let loop = c .before .before .before .before .before .before .before .before .before .before .loop in
+    let run-child = c .before .before .before .before .run-child in
+    let long = row-holds (loop .inv .1) (loop .inv .2) (run-child .ensures .0) .long in
+    search needs
+
+array-read-report-4 : tie.Need-array-read-report-4 Inv-loop μ-loop
+array-read-report-4 c =
+    let loop = c .before .before .before .before .before .before .before .before .before .before .loop in
     let run-child = c .before .before .before .before .run-child in
     let long = row-holds (loop .inv .1) (loop .inv .2) (run-child .ensures .0) .long in
     search needs
 
 returns-2 : tie.Need-returns-2 Inv-loop μ-loop
 returns-2 c =
-    let start = c .before .before .before .before .before .before .before .before .before .before .before .before .before .before .before in
-    let first-numbers = c .before .before .before .before .before .before .before .before .before .before .before .before .first-numbers in
-    let loop = c .before .before .before .before .before .before .before .before .before .before .loop in
+    let start = c .before .before .before .before .before .before .before .before .before .before .before .before .before .before .before .before in
+    let first-numbers = c .before .before .before .before .before .before .before .before .before .before .before .before .before .first-numbers in
+    let loop = c .before .before .before .before .before .before .before .before .before .before .before .loop in
     let run-child = c .before .before .before .before .before .run-child in
     let if2 = c .before .before .before .if2 in
     let events-of2 = c .before .events-of2 in
@@ -156,16 +171,16 @@ returns-2 c =
     let handed = handed-words (start .args .t1 .now) (H .events .words) long (H .low) (H .high) _ (first-numbers .ensures) in
     let asked = handed-values (start .args .t1 .now) (H .events .words) long (H .low) (H .high) _ (first-numbers .ensures) in
     record {
-      outcome-is = report2 .ensures .outcome-is;
-      run = rw (handed, asked) at (run-of (loop .inv .0) u ran TERM≢SUSP (marked-ended u ran) (events-of2 .ensures) (loop .inv .5) (report2 .ensures));
+      ran = rw (handed, asked) at (run-of (loop .inv .0) u ran TERM≢SUSP (marked-ended u ran) (events-of2 .ensures) (loop .inv .6) (report2 .ensures));
       same-state = search needs;
       same-row = search needs;
+      same-free = search needs;
     }
 
 -- waits = waits_after(table, state, &row, waits);
 waits-after-requires : tie.Need-waits-after-requires Inv-loop μ-loop
 waits-after-requires c κs =
-    let loop = c .before .before .before .before .before .before .before .before .before .loop in
+    let loop = c .before .before .before .before .before .before .before .before .before .before .loop in
     let run-child = c .before .before .before .before .run-child in
     let if1 = c .before .before .before .if1 in
     let if2 = c .before .before .if2 in
@@ -174,20 +189,20 @@ waits-after-requires c κs =
 -- next_pass(&mut row);
 next-pass-requires : tie.Need-next-pass-requires Inv-loop μ-loop
 next-pass-requires c κs =
-    let loop = c .before .before .before .before .before .before .before .before .before .before .before .loop in
+    let loop = c .before .before .before .before .before .before .before .before .before .before .before .before .loop in
     let run-child = c .before .before .before .before .before .before .run-child in
     row-holds (loop .inv .1) (loop .inv .2) (run-child .ensures .0) .long
 
 -- loop {
 loop-less : tie.Need-loop-less Inv-loop μ-loop
 loop-less c =
-    let loop = c .before .before .before .before .before .before .before .before .before .before .before .before .loop in
+    let loop = c .before .before .before .before .before .before .before .before .before .before .before .before .before .loop in
     let few = rw (loop .inv .0 .program) at (few-passes (loop .inv .1)) in
     omega arith
 
 loop-again : tie.Need-loop-again Inv-loop μ-loop
 loop-again c =
-    let loop = c .before .before .before .before .before .before .before .before .before .before .before .before .loop in
+    let loop = c .before .before .before .before .before .before .before .before .before .before .before .before .before .loop in
     let run-child = c .before .before .before .before .before .before .before .run-child in
     let if1 = c .before .before .before .before .before .before .if1 in
     let if2 = c .before .before .before .before .before .if2 in
@@ -201,7 +216,8 @@ loop-again c =
       next-row-holds (loop .inv .1) (loop .inv .2) run,
       search needs,
       search needs,
-      names _ _ (loop .inv .5) (waits-after .ensures .1),
+      search needs,
+      names _ _ (loop .inv .6) (waits-after .ensures .1),
     )
 
 pub run-from-spec : {M : Type 1} → statement M
@@ -219,11 +235,13 @@ run-from-spec =
     run-child-requires
     events-of-requires
     array-read-report
+    array-read-report-2
     (λ c κs. search needs)  -- report-requires
     returns
     index-1-state
     events-of-requires-2
-    array-read-report-2
+    array-read-report-3
+    array-read-report-4
     (λ c κs. search needs)  -- report-requires-2
     returns-2
     (λ c. search needs)  -- slice-aggregate-waits-after: waits = waits_after(table, state, &row, waits);

@@ -1,12 +1,14 @@
 -- `run_passes` meets its contract: its MIR is walked by hand, since a slice that is a parameter is lent on as a `&mut &mut`, which the covered
 -- way doesn't know (`Thin` in lending has the law of it). The MIR, with the names of the source:
---     _7 = _2; _5 = _7            let mut s = state;
---     _8 = _4; _6 = _8            let mut w = atoms;
---     _9 = &_5; _10 = &_6
---     _0 = run_from(_1, _9, _3, _10)
+--     _9 = _2; _6 = _9            let mut s = state;
+--     _10 = _4; _7 = _10          let mut w = atoms;
+--     _11 = _5; _8 = _11          let mut f = free;
+--     _12 = &_6; _13 = &_7; _14 = &_8
+--     _0 = run_from(_1, _12, _3, _13, _14)
 --     return
 -- Of `run_from` nothing is known but that it meets its contract; no field of what is handed in or of the answer is walked.
--- Letters: t, s, e, w are the table, the state, what is handed in, the row of atoms (also the locals s and w); κ a lifetime and its token.
+-- Letters: t, s, e, w, f are the table, the state, what is handed in, the row of atoms, the store's free part (also the locals s, w and f); κ a
+-- lifetime and its token.
 -- In brackets stands what is in hand at a point of the walk, counted from 0; `…` is what nothing asks for any more. A local _i is two
 -- items, its memory and the right to free it; a local that is lent leaves the second in its place.
 use mathlib.Core.Path.{_≡_, refl}
@@ -48,15 +50,13 @@ use denote.Triple.Walked.{walk-meets}
 use denote.Exit.{yes}
 use Rattle.events.specs.Members.{members}
 use Rattle.lending.proofs.Thin.{Loan, lifetime, half₁, half₂, Thin, thin, OnLoan, Back, lends-thin, ends-thin}
-use Rattle.kernel.specs.declared.Outcome.the-variants.{Ran}
-use Rattle.kernel.specs.declared.Answer.{Answer}
 use Rattle.kernel.specs.declared.passes.HandedIn.{HandedIn}
-use Rattle.kernel.specs.Answer.{Run}
-use Rattle.kernel.specs.Passes.{wordValues, Startable, RanBehind}
-use Rattle.kernel.proofs.Answer as An
-use Rattle.kernel.proofs.Answer.Laws as An′
+use Rattle.kernel.specs.declared.passes.Ending.{Ending}
+use Rattle.kernel.specs.Passes.{wordValues, Startable, RanFree, RanBehind}
 use Rattle.kernel.proofs.passes.HandedIn as I
 use Rattle.kernel.proofs.passes.HandedIn.Laws as I′
+use Rattle.kernel.proofs.passes.Ending as En
+use Rattle.kernel.proofs.passes.Ending.Laws as En′
 use Rattle.kernel.proofs.passes.run_from as run-from
 use Rattle.kernel.proofs.passes.run_from.Symbol as from-symbol
 use Rattle.kernel.proofs.passes.run_from.Met as from-met
@@ -68,11 +68,17 @@ use Rattle.kernel.proofs.passes.run_passes.Code as code
 abbrev Slice : Type 0
 Slice = RefT (List ℕ)
 
--- what the walk still has of its parameters at the end: the two `&mut` slices
+-- what the walk still has of its parameters at the end: the three `&mut` slices
 abbrev stayed : Stays (run-passes.ended .signature .params) (run-passes.ended .kept)
 stayed = (
   stay-dropped (shrSliceOf (0 ∷ []) tt (plain (λ _. u8))) yes,
-  (stay-slice (1 ∷ []) tt (plain (λ _. u8)), (stay-dropped (plain (λ _. I.the-row)) yes, (stay-slice (2 ∷ []) tt (plain (λ _. u16)), tt))),
+  (
+    stay-slice (1 ∷ []) tt (plain (λ _. u8)),
+    (
+      stay-dropped (plain (λ _. I.the-row)) yes,
+      (stay-slice (2 ∷ []) tt (plain (λ _. u16)), (stay-slice (3 ∷ []) tt (plain (λ _. u8)), tt)),
+    ),
+  ),
 )
 
 -- the contract of `run_from`
@@ -80,18 +86,21 @@ abbrev From : {M : Type 1} (𝓤 : URA M) (H : Heap 𝓤) (A : Atoms 𝓤) (memo
 From 𝓤 H A memory run = tripleOf 𝓤 H A run-from.signature (run-from.spec 𝓤 H A memory run)
 
 -- each parameter with its lifetime κ and the share q of that one's token: the table t, the state at (sb, so) under sγ, the events, the row of
--- atoms at (wb, wo) under wγ
+-- atoms at (wb, wo) under wγ, the store's free part at (fb, fo) under fγ
 module _ {M : Type 1} (𝓤 : URA M) (H : Heap 𝓤) (A : Atoms 𝓤) (W : Given 𝓤 H A) (memory : Memory → SProp 𝓤) (run : Routine → Fun 𝓤)
-    (κt κs κw : Lft) (qt qs qw : Share) (t : Slice) (sb so : ℕ) (sγ : GName) (state : List ℕ) (handed : HandedIn)
-    (wb wo : ℕ) (wγ : GName) (atoms : List ℕ) where
+    (κt κs κw κf : Lft) (qt qs qw qf : Share) (t : Slice) (sb so : ℕ) (sγ : GName) (state : List ℕ) (handed : HandedIn)
+    (wb wo : ℕ) (wγ : GName) (atoms : List ℕ) (fb fo : ℕ) (fγ : GName) (free : List ℕ) where
   abbrev s-with : List ℕ → Slice
   s-with l = record { ptr = (sb, so); name = sγ; now = l }
 
   abbrev w-with : List ℕ → Slice
   w-with l = record { ptr = (wb, wo); name = wγ; now = l }
 
-  abbrev args : Slice × (Slice × (HandedIn × (Slice × Unit {0})))
-  args = (t, (s-with state, (handed, (w-with atoms, tt))))
+  abbrev f-with : List ℕ → Slice
+  f-with l = record { ptr = (fb, fo); name = fγ; now = l }
+
+  abbrev args : Slice × (Slice × (HandedIn × (Slice × (Slice × Unit {0}))))
+  args = (t, (s-with state, (handed, (w-with atoms, (f-with free, tt)))))
 
   -- the parameters in the machine
   abbrev tv : Val
@@ -106,78 +115,101 @@ module _ {M : Type 1} (𝓤 : URA M) (H : Heap 𝓤) (A : Atoms 𝓤) (W : Given
   abbrev wv : Val
   wv = sliceVal (wb, wo) (length atoms)
 
-  abbrev vals : List Val × (List Val × (List Val × (List Val × Unit {0})))
-  vals = (tv ∷ [], (sv ∷ [], (ev ∷ [], (wv ∷ [], tt))))
+  abbrev fv : Val
+  fv = sliceVal (fb, fo) (length free)
+
+  abbrev vals : List Val × (List Val × (List Val × (List Val × (List Val × Unit {0}))))
+  vals = (tv ∷ [], (sv ∷ [], (ev ∷ [], (wv ∷ [], (fv ∷ [], tt)))))
 
   abbrev bound : walkOf 𝓤 H A run-passes.ended stayed (run-passes.clauses 𝓤 H A memory run) .Ghost
-  bound = (((κt, (κs, (κw, tt))), (qt, (qs, (qw, tt))), tt, args, vals), tt)
+  bound = (((κt, (κs, (κw, (κf, tt)))), (qt, (qs, (qw, (qf, tt)))), tt, args, vals), tt)
 
   abbrev Post : Val → SProp 𝓤
   Post = walkOf 𝓤 H A run-passes.ended stayed (run-passes.clauses 𝓤 H A memory run) .post bound
 
   -- what `run_passes` promises of what it leaves
-  abbrev Promised : Answer → List ℕ → List ℕ → Type 0
-  Promised r state′ atoms′ = (r .outcome ≡ Ran) × Run (t .now) state (members (handed .events)) (wordValues (handed .low) (handed .high)) atoms state′ atoms′ r
+  abbrev Promised : Ending → List ℕ → List ℕ → List ℕ → Type 0
+  Promised r state′ atoms′ free′ =
+      RanFree (t .now) state (members (handed .events)) (wordValues (handed .low) (handed .high)) atoms free state′ atoms′ free′ r
 
   -- what is had at the end
-  abbrev Left : Answer → Val → List ℕ → List ℕ → List (Item 𝓤)
-  Left r v state′ atoms′ =
+  abbrev Left : Ending → Val → List ℕ → List ℕ → List ℕ → List (Item 𝓤)
+  Left r v state′ atoms′ free′ =
       ‵ (MutSlice (named 1) κs u8 .own (s-with state′) (sv ∷ [])) ∷ ‵ (flft κs qs)
-      ∷ ‵ (MutSlice (named 2) κw u16 .own (w-with atoms′) (wv ∷ [])) ∷ ‵ (flft κw qw) ∷ ‵ (flft κt qt) ∷ ‵ (An.the-row .own r (v ∷ [])) ∷ []
+      ∷ ‵ (MutSlice (named 2) κw u16 .own (w-with atoms′) (wv ∷ [])) ∷ ‵ (flft κw qw)
+      ∷ ‵ (MutSlice (named 3) κf u8 .own (f-with free′) (fv ∷ [])) ∷ ‵ (flft κf qf) ∷ ‵ (flft κt qt) ∷ ‵ (En.the-row .own r (v ∷ [])) ∷ []
 
-  exits : (r : Answer) (v : Val) (state′ atoms′ : List ℕ) → Promised r state′ atoms′ → length state′ ≡ length state → length atoms′ ≡ length atoms
-      → ent 𝓤 (⋆ 𝓤 H A (Left r v state′ atoms′)) (Post v)
-  exits r v state′ atoms′ promised s-long w-long =
-      qed W (Left r v state′ atoms′) ∵
+  exits : (r : Ending) (v : Val) (state′ atoms′ free′ : List ℕ) → Promised r state′ atoms′ free′ → length state′ ≡ length state
+      → length atoms′ ≡ length atoms
+      → length free′ ≡ length free
+      → ent 𝓤 (⋆ 𝓤 H A (Left r v state′ atoms′ free′)) (Post v)
+  exits r v state′ atoms′ free′ promised s-long w-long f-long =
+      qed W (Left r v state′ atoms′ free′) ∵
       suffices ! _ (ends-at 𝓤 H A run-passes.ended stayed (run-passes.clauses 𝓤 H A memory run) W bound v r
-      (tt, (state′, (tt, (atoms′, tt)))) (tt, (s-long, (tt, (w-long, tt))))) $ says ! promised $
+      (tt, (state′, (tt, (atoms′, (free′, tt))))) (tt, (s-long, (tt, (w-long, (f-long, tt)))))) $ says ! promised $
       -- the tokens, then what is left of the parameters
-      nothing ! $ move ! (4 ∷ 0 ∷ []) $ join ! $ move ! (2 ∷ 0 ∷ []) $ join ! $ move ! (3 ∷ 0 ∷ []) $ join ! $ frame ! $
-      nothing ! $ move ! (2 ∷ 0 ∷ []) $ fjoin ! $ nothing ! $ fjoin ! $ move ! (1 ∷ 0 ∷ []) $ fjoin ! $ nothing ! $ fjoin ! $ done !
+      nothing ! $ move ! (6 ∷ 0 ∷ []) $ join ! $ move ! (4 ∷ 0 ∷ []) $ join ! $ move ! (2 ∷ 0 ∷ []) $ join ! $ move ! (4 ∷ 0 ∷ []) $ join ! $
+      frame ! $ nothing ! $ move ! (3 ∷ 0 ∷ []) $ fjoin ! $ move ! (2 ∷ 0 ∷ []) $ fjoin ! $ nothing ! $ fjoin ! $ move ! (1 ∷ 0 ∷ []) $ fjoin ! $
+      nothing ! $ fjoin ! $ done !
 
-  -- the call, where s stands at block l and w at block m, lent by n and k
-  module _ (l m : ℕ) (n k : Loan) where
+  -- the call, where s stands at block l, w at block m and f at block o, lent by n, k and j
+  module _ (l m o : ℕ) (n k j : Loan) where
     abbrev s-thin : RefT Slice
     s-thin = thin u8 κs qs sγ sb so l n state
 
     abbrev w-thin : RefT Slice
     w-thin = thin u16 κw qw wγ wb wo m k atoms
 
-    abbrev lives : Lft × (Lft × (Lft × (Lft × (Lft × Unit {0}))))
-    lives = (κt, (lifetime n, (lifetime n, (lifetime k, (lifetime k, tt)))))
+    abbrev f-thin : RefT Slice
+    f-thin = thin u8 κf qf fγ fb fo o j free
 
-    abbrev passed : Slice × (RefT Slice × (HandedIn × (RefT Slice × Unit {0})))
-    passed = (t, (s-thin, (handed, (w-thin, tt))))
+    abbrev lives : Lft × (Lft × (Lft × (Lft × (Lft × (Lft × (Lft × Unit {0}))))))
+    lives = (κt, (lifetime n, (lifetime n, (lifetime k, (lifetime k, (lifetime j, (lifetime j, tt)))))))
 
-    abbrev passed-vals : List Val × (List Val × (List Val × (List Val × Unit {0})))
-    passed-vals = (tv ∷ [], (vptr l 0 ∷ [], (ev ∷ [], (vptr m 0 ∷ [], tt))))
+    abbrev passed : Slice × (RefT Slice × (HandedIn × (RefT Slice × (RefT Slice × Unit {0}))))
+    passed = (t, (s-thin, (handed, (w-thin, (f-thin, tt)))))
+
+    abbrev passed-vals : List Val × (List Val × (List Val × (List Val × (List Val × Unit {0}))))
+    passed-vals = (tv ∷ [], (vptr l 0 ∷ [], (ev ∷ [], (vptr m 0 ∷ [], (vptr o 0 ∷ [], tt)))))
 
     abbrev at-call : From 𝓤 H A memory run .Ghost
-    at-call = ((lives, (qt, (half₁, (half₂, (half₁, (half₂, tt))))), ((λ i h. h), ((λ i h. h), tt)), passed, passed-vals), tt)
+    at-call = (
+      (
+        lives,
+        (qt, (half₁, (half₂, (half₁, (half₂, (half₁, (half₂, tt))))))),
+        ((λ i h. h), ((λ i h. h), ((λ i h. h), tt))),
+        passed,
+        passed-vals,
+      ),
+      tt,
+    )
 
     abbrev tokens : Item 𝓤
     tokens =
         ‵ (flft κt qt) ⊛ ‵ (flft (lifetime n) half₁) ⊛ ‵ (flft (lifetime n) half₂) ⊛ ‵ (flft (lifetime k) half₁) ⊛ ‵ (flft (lifetime k) half₂)
-        ⊛ ‵ ftrue
+        ⊛ ‵ (flft (lifetime j) half₁) ⊛ ‵ (flft (lifetime j) half₂) ⊛ ‵ ftrue
 
     abbrev Given-up : Fml
     Given-up =
-        owns (ShrSlice (named 0) κt u8 ∷ Thin u8 (named 1) (named 2) n ∷ I.the-row ∷ Thin u16 (named 3) (named 4) k ∷ []) passed passed-vals
+        owns
+        (ShrSlice (named 0) κt u8 ∷ Thin u8 (named 1) (named 2) n ∷ I.the-row ∷ Thin u16 (named 3) (named 4) k ∷ Thin u8 (named 5) (named 6) j ∷ [])
+        passed passed-vals
 
-    asks : Startable (t .now) state atoms → ent 𝓤 (⋆ 𝓤 H A (tokens ∷ ‵ Given-up ∷ [])) (From 𝓤 H A memory run .pre at-call)
+    asks : Startable (t .now) state atoms free → ent 𝓤 (⋆ 𝓤 H A (tokens ∷ ‵ Given-up ∷ [])) (From 𝓤 H A memory run .pre at-call)
     asks start = qed W (tokens ∷ ‵ Given-up ∷ []) ∵ says ! start $ frame ! $ done !
 
     abbrev Last : Type 0
     Last = Lasts run-from.ended lives passed
 
-    abbrev Ensured : Answer → SProp 𝓤
+    abbrev Ensured : Ending → SProp 𝓤
     Ensured r = ensured 𝓤 H A run-from.ended (run-from.clauses 𝓤 H A memory run) lives passed tt r
 
-    -- what is heard of it: x and y are what it left in s and in w
-    abbrev Heard : Slice → Slice → Answer → Type 0
-    Heard x y r = RanBehind (t .now) (s-thin .now) (members (handed .events)) (wordValues (handed .low) (handed .high)) (w-thin .now) x y r
+    -- what is heard of it: x, y and z are what it left in s, in w and in f
+    abbrev Heard : Slice → Slice → Slice → Ending → Type 0
+    Heard x y z r =
+        RanBehind (t .now) (s-thin .now) (members (handed .events)) (wordValues (handed .low) (handed .high)) (w-thin .now) (f-thin .now) x y z r
 
-  -- the two loans, of the locals at block l
+  -- the three loans, of the locals at block l
   abbrev S-lent : ℕ → Loan → Item 𝓤
   S-lent l = OnLoan u8 κs qs sγ sb so l 𝓤 H A W (named 1) (named 1) (named 2) state
 
@@ -190,8 +222,14 @@ module _ {M : Type 1} (𝓤 : URA M) (H : Heap 𝓤) (A : Atoms 𝓤) (W : Given
   abbrev W-back : ℕ → Slice → Item 𝓤
   W-back l = Back u16 κw qw wγ wb wo l 𝓤 H A W (named 2) (named 3) (named 4) atoms
 
+  abbrev F-lent : ℕ → Loan → Item 𝓤
+  F-lent l = OnLoan u8 κf qf fγ fb fo l 𝓤 H A W (named 3) (named 5) (named 6) free
+
+  abbrev F-back : ℕ → Slice → Item 𝓤
+  F-back l = Back u8 κf qf fγ fb fo l 𝓤 H A W (named 3) (named 5) (named 6) free
+
   module _ (t-room : Room u8 (length (t .now))) (s-room : Room u8 (length state)) (w-room : Room u16 (length atoms))
-      (ev-is : Is I.the-row handed (ev ∷ [])) (C : Calls 𝓤 H) (Λ : Loops 𝓤 H) (fm : FmC 𝓤 H (W .laws) C)
+      (f-room : Room u8 (length free)) (ev-is : Is I.the-row handed (ev ∷ [])) (C : Calls 𝓤 H) (Λ : Loops 𝓤 H) (fm : FmC 𝓤 H (W .laws) C)
       (known : Triple 𝓤 (C from-symbol.name) (From 𝓤 H A memory run)) where
     -- the machine's values are of their types
     abbrev t-fits : Unit {0} × WT tv
@@ -203,84 +241,115 @@ module _ {M : Type 1} (𝓤 : URA M) (H : Heap 𝓤) (A : Atoms 𝓤) (W : Given
     abbrev w-fits : Unit {0} × WT wv
     w-fits = (tt, (tt, (record { fits = w-room .0 }, tt)))
 
-    walk : Startable (t .now) state atoms
-        → ent 𝓤 (onEntry 𝓤 H A run-passes.signature (κt, (κs, (κw, tt))) (qt, (qs, (qw, tt))) args vals)
-        (WpFn 𝓤 H C Λ code.function (tv ∷ sv ∷ ev ∷ wv ∷ []) Post)
+    abbrev f-fits : Unit {0} × WT fv
+    f-fits = (tt, (tt, (record { fits = f-room .0 }, tt)))
+
+    walk : Startable (t .now) state atoms free
+        → ent 𝓤 (onEntry 𝓤 H A run-passes.signature (κt, (κs, (κw, (κf, tt)))) (qt, (qs, (qw, (qf, tt)))) args vals)
+        (WpFn 𝓤 H C Λ code.function (tv ∷ sv ∷ ev ∷ wv ∷ fv ∷ []) Post)
     walk start =
-        qed W ((‵ (flft κt qt) ⊛ ‵ (flft κs qs) ⊛ ‵ (flft κw qw) ⊛ ‵ ftrue)
-        ∷ ‵ (owns (ShrSlice (named 0) κt u8 ∷ MutSlice (named 1) κs u8 ∷ I.the-row ∷ MutSlice (named 2) κw u16 ∷ []) args vals) ∷ []) ∵
-        enter ! C Λ code.function (tv ∷ sv ∷ ev ∷ wv ∷ []) _ $
-        -- room for the locals _0 to _10; each gives two items, and the last stands first: _i at 20 - 2i
+        qed W ((‵ (flft κt qt) ⊛ ‵ (flft κs qs) ⊛ ‵ (flft κw qw) ⊛ ‵ (flft κf qf) ⊛ ‵ ftrue)
+        ∷ ‵ (owns (ShrSlice (named 0) κt u8 ∷ MutSlice (named 1) κs u8 ∷ I.the-row ∷ MutSlice (named 2) κw u16 ∷ MutSlice (named 3) κf u8 ∷ []) args vals)
+        ∷ []) ∵
+        enter ! C Λ code.function (tv ∷ sv ∷ ev ∷ wv ∷ fv ∷ []) _ $
+        -- room for the locals _0 to _14; each gives two items, and the last stands first: _i at 28 - 2i
         alloc1 ! (λ l₀. alloc1 ! (λ l₁. alloc1 ! (λ l₂. alloc1 ! (λ l₃. alloc1 ! (λ l₄. alloc1 ! (λ l₅. alloc1 ! (λ l₆.
-        alloc1 ! (λ l₇. alloc1 ! (λ l₈. alloc1 ! (λ l₉. alloc1 ! (λ l₁₀. alloc0 ! $ params1 ! $
-        -- the parameters, _1 to _4
-        pass1 ! (init ! 18 refl t-fits) $
-        pass1 ! (init ! 16 refl s-fits) $
-        pass1 ! (init ! 14 refl (LL.lawful I.the-type I′.the-laws 𝓤 H A W .typed handed _ ev-is .0)) $
-        pass1 ! (init ! 12 refl w-fits) $ pass0 ! $
-        -- _7 = _2
-        assigns ! (of-opd ! (load ! (from ! (stop !)) (look ! 16 refl))) (from ! (stop !)) (init ! 6 refl s-fits) $
-        -- _5 = _7
-        assigns ! (of-opd ! (load ! (from ! (stop !)) (look ! 6 refl))) (from ! (stop !)) (init ! 10 refl s-fits) $
-        -- _8 = _4
-        assigns ! (of-opd ! (load ! (from ! (stop !)) (look ! 12 refl))) (from ! (stop !)) (init ! 4 refl w-fits) $
-        -- _6 = _8
-        assigns ! (of-opd ! (load ! (from ! (stop !)) (look ! 4 refl))) (from ! (stop !)) (init ! 8 refl w-fits) $
-        -- _9 = &_5
+        alloc1 ! (λ l₇. alloc1 ! (λ l₈. alloc1 ! (λ l₉. alloc1 ! (λ l₁₀. alloc1 ! (λ l₁₁. alloc1 ! (λ l₁₂. alloc1 ! (λ l₁₃.
+        alloc1 ! (λ l₁₄. alloc0 ! $ params1 ! $
+        -- the parameters, _1 to _5
+        pass1 ! (init ! 26 refl t-fits) $
+        pass1 ! (init ! 24 refl s-fits) $
+        pass1 ! (init ! 22 refl (LL.lawful I.the-type I′.the-laws 𝓤 H A W .typed handed _ ev-is .0)) $
+        pass1 ! (init ! 20 refl w-fits) $
+        pass1 ! (init ! 18 refl f-fits) $ pass0 ! $
+        -- _9 = _2
+        assigns ! (of-opd ! (load ! (from ! (stop !)) (look ! 24 refl))) (from ! (stop !)) (init ! 10 refl s-fits) $
+        -- _6 = _9
+        assigns ! (of-opd ! (load ! (from ! (stop !)) (look ! 10 refl))) (from ! (stop !)) (init ! 16 refl s-fits) $
+        -- _10 = _4
+        assigns ! (of-opd ! (load ! (from ! (stop !)) (look ! 20 refl))) (from ! (stop !)) (init ! 8 refl w-fits) $
+        -- _7 = _10
+        assigns ! (of-opd ! (load ! (from ! (stop !)) (look ! 8 refl))) (from ! (stop !)) (init ! 14 refl w-fits) $
+        -- _11 = _5
+        assigns ! (of-opd ! (load ! (from ! (stop !)) (look ! 18 refl))) (from ! (stop !)) (init ! 6 refl f-fits) $
+        -- _8 = _11
+        assigns ! (of-opd ! (load ! (from ! (stop !)) (look ! 6 refl))) (from ! (stop !)) (init ! 12 refl f-fits) $
+        -- _12 = &_6
+        assigns ! (addr ! (from ! (stop !))) (from ! (stop !)) (init ! 4 refl (tt, tt)) $
+        -- _13 = &_7
         assigns ! (addr ! (from ! (stop !))) (from ! (stop !)) (init ! 2 refl (tt, tt)) $
-        -- _10 = &_6
+        -- _14 = &_8
         assigns ! (addr ! (from ! (stop !))) (from ! (stop !)) (init ! 0 refl (tt, tt)) $
         -- what the parameters own, and the tokens, are taken apart
-        move ! (23 ∷ []) $ fsplit ! $ move ! (1 ∷ []) $ fsplit ! $ move ! (1 ∷ []) $ fsplit ! $ move ! (1 ∷ []) $ fsplit ! $
-        move ! (27 ∷ []) $ split ! $ move ! (1 ∷ []) $ split ! $ move ! (1 ∷ []) $ split ! $
-        -- [κw; …; κs; κt; the atoms; …; the events; the state; the table; _10 .. _0 from 9]: _5 is lent
-        move ! (19 ∷ 7 ∷ 2 ∷ []) $
-        use3 W (later (some (S-lent l₅))) (lends-thin u8 κs qs sγ sb so l₅ 𝓤 H A W (named 1) (named 1) (named 2) state) $
+        move ! (31 ∷ []) $ fsplit ! $ move ! (1 ∷ []) $ fsplit ! $ move ! (1 ∷ []) $ fsplit ! $ move ! (1 ∷ []) $ fsplit ! $ move ! (1 ∷ []) $ fsplit ! $
+        move ! (36 ∷ []) $ split ! $ move ! (1 ∷ []) $ split ! $ move ! (1 ∷ []) $ split ! $ move ! (1 ∷ []) $ split ! $
+        -- [κf; …; κw; κs; κt; the free part; …; the atoms; the events; the state; the table; _14 .. _0 from 11]: _6 is lent
+        move ! (27 ∷ 9 ∷ 3 ∷ []) $
+        use3 W (later (some (S-lent l₆))) (lends-thin u8 κs qs sγ sb so l₆ 𝓤 H A W (named 1) (named 1) (named 2) state) $
         await ! tt $ pick ! (λ n. split ! $ move ! (1 ∷ []) $ split ! $ fsplit ! $
-        -- [n's halves; what waits for s; s; κw; …; κt; the atoms; …; the events; the table; _10 .. _0 from 11]: _6 is lent
-        move ! (19 ∷ 7 ∷ 4 ∷ []) $
-        use3 W (later (some (W-lent l₆))) (lends-thin u16 κw qw wγ wb wo l₆ 𝓤 H A W (named 2) (named 3) (named 4) atoms) $
+        -- [n's halves; what waits for s; s; κf; …; κw; κt; the free part; …; the atoms; the events; the table; _14 .. _0 from 13]: _7 is lent
+        move ! (27 ∷ 10 ∷ 6 ∷ []) $
+        use3 W (later (some (W-lent l₇))) (lends-thin u16 κw qw wγ wb wo l₇ 𝓤 H A W (named 2) (named 3) (named 4) atoms) $
         await ! tt $ pick ! (λ k. split ! $ move ! (1 ∷ []) $ split ! $ fsplit ! $
-        -- [k's halves; what waits for w; w; n's halves; what waits for s; s; …; κt; …; the events; the table; _10 .. _0 from 13]:
-        -- what is passed is put together, then the tokens
-        move ! (9 ∷ 4 ∷ 5 ∷ 0 ∷ 1 ∷ 12 ∷ 7 ∷ 11 ∷ 3 ∷ []) $ nothing ! $ move ! (9 ∷ 0 ∷ []) $ fjoin ! $ move ! (8 ∷ 0 ∷ []) $ fjoin ! $
-        move ! (7 ∷ 0 ∷ []) $ fjoin ! $ move ! (6 ∷ 0 ∷ []) $ fjoin ! $ nothing ! $ move ! (6 ∷ 0 ∷ []) $ join ! $ move ! (5 ∷ 0 ∷ []) $ join ! $
+        -- [k's halves; what waits for w; w; n's halves; what waits for s; s; κf; …; κt; the free part; …; the events; the table; _14 .. _0 from 15]:
+        -- _8 is lent
+        move ! (27 ∷ 11 ∷ 8 ∷ []) $
+        use3 W (later (some (F-lent l₈))) (lends-thin u8 κf qf fγ fb fo l₈ 𝓤 H A W (named 3) (named 5) (named 6) free) $
+        await ! tt $ pick ! (λ j. split ! $ move ! (1 ∷ []) $ split ! $ fsplit ! $
+        -- [j's halves; what waits for f; f; k's halves; what waits for w; w; n's halves; what waits for s; s; …; κt; …; the events; the table;
+        -- _14 .. _0 from 17]: what is passed is put together, then the tokens
+        move ! (13 ∷ 8 ∷ 9 ∷ 4 ∷ 5 ∷ 0 ∷ 1 ∷ 16 ∷ 11 ∷ 15 ∷ 7 ∷ 3 ∷ []) $ nothing ! $ move ! (12 ∷ 0 ∷ []) $ fjoin ! $ move ! (11 ∷ 0 ∷ []) $ fjoin ! $
+        move ! (10 ∷ 0 ∷ []) $ fjoin ! $ move ! (9 ∷ 0 ∷ []) $ fjoin ! $ move ! (8 ∷ 0 ∷ []) $ fjoin ! $ nothing ! $
+        move ! (8 ∷ 0 ∷ []) $ join ! $ move ! (7 ∷ 0 ∷ []) $ join ! $ move ! (6 ∷ 0 ∷ []) $ join ! $ move ! (5 ∷ 0 ∷ []) $ join ! $
         move ! (4 ∷ 0 ∷ []) $ join ! $ move ! (3 ∷ 0 ∷ []) $ join ! $ move ! (2 ∷ 0 ∷ []) $ join ! $
-        use2 W (raw (From 𝓤 H A memory run .pre (at-call l₅ l₆ n k))) (asks l₅ l₆ n k start) $
-        -- _0 = run_from(_1, _9, _3, _10)
-        calls-at ! fm (From 𝓤 H A memory run) known (at-call l₅ l₆ n k)
-        (and-then ! (load ! (from ! (stop !)) (look ! 21 refl)) (and-then ! (load ! (from ! (stop !)) (look ! 7 refl))
-        (and-then ! (load ! (from ! (stop !)) (look ! 17 refl)) (and-then ! (load ! (from ! (stop !)) (look ! 5 refl)) (no-more !))))) (λ v.
+        use2 W (raw (From 𝓤 H A memory run .pre (at-call l₆ l₇ l₈ n k j))) (asks l₆ l₇ l₈ n k j start) $
+        -- _0 = run_from(_1, _12, _3, _13, _14)
+        calls-at ! fm (From 𝓤 H A memory run) known (at-call l₆ l₇ l₈ n k j)
+        (and-then ! (load ! (from ! (stop !)) (look ! 29 refl)) (and-then ! (load ! (from ! (stop !)) (look ! 10 refl))
+        (and-then ! (load ! (from ! (stop !)) (look ! 25 refl)) (and-then ! (load ! (from ! (stop !)) (look ! 8 refl))
+        (and-then ! (load ! (from ! (stop !)) (look ! 6 refl)) (no-more !)))))) (λ v.
         -- the answer, and what `run_from` says of it and of the last slices
-        use1 W (later (some (λ (r : Answer). (tokens l₅ l₆ n k ⊛ ‵ (An.the-row .own r (v ∷ []))) ⊛ raw (Ensured l₅ l₆ n k r)))) (id⊢ 𝓤 _) $
+        use1 W (later (some (λ (r : Ending). (tokens l₆ l₇ l₈ n k j ⊛ ‵ (En.the-row .own r (v ∷ []))) ⊛ raw (Ensured l₆ l₇ l₈ n k j r)))) (id⊢ 𝓤 _) $
         await ! tt $ pick ! (λ r. split ! $ move ! (1 ∷ []) $
-        use1 W (some (λ (z : Last l₅ l₆ n k). ‵ (lasts run-from.ended (lives l₅ l₆ n k) (passed l₅ l₆ n k) z)
-        ⊛ raw (fact 𝓤 (Heard l₅ l₆ n k (z .1 .0) (z .1 .1 .1 .0) r)))) (id⊢ 𝓤 _) $ pick ! (λ z. let s′ = z .1 .0 in let w′ = z .1 .1 .1 .0 in
-        split ! $ move ! (1 ∷ []) $ heard ! (Heard l₅ l₆ n k s′ w′ r) (λ e.
-        fsplit ! $ drop ! $ fsplit ! $ move ! (1 ∷ []) $ fsplit ! $ drop ! $ fsplit ! $
-        -- [the last w; …; the last s; the tokens and the answer; what waits for w; for s; …; …; _10 .. _0 from 8]: the answer goes into _0
-        move ! (3 ∷ []) $ split ! $ move ! (1 ∷ []) $ peeks ! An.the-row (Is An.the-row) (shows 𝓤 H A An.the-row) r (v ∷ []) (λ is.
-        land ! (from ! (stop !)) (init ! 27 refl (LL.lawful An.the-type An′.the-laws 𝓤 H A W .typed r _ is .0)) $
+        use1 W (some (λ (z : Last l₆ l₇ l₈ n k j). ‵ (lasts run-from.ended (lives l₆ l₇ l₈ n k j) (passed l₆ l₇ l₈ n k j) z)
+        ⊛ raw (fact 𝓤 (Heard l₆ l₇ l₈ n k j (z .1 .0) (z .1 .1 .1 .0) (z .1 .1 .1 .1 .0) r)))) (id⊢ 𝓤 _) $ pick ! (λ z.
+        let s′ = z .1 .0 in let w′ = z .1 .1 .1 .0 in let f′ = z .1 .1 .1 .1 .0 in
+        split ! $ move ! (1 ∷ []) $ heard ! (Heard l₆ l₇ l₈ n k j s′ w′ f′ r) (λ e.
+        fsplit ! $ drop ! $ fsplit ! $ move ! (1 ∷ []) $ fsplit ! $ drop ! $ fsplit ! $ move ! (1 ∷ []) $ fsplit ! $
+        -- [the last f; …; the last w; the last s; the tokens and the answer; what waits for f; for w; for s; …; …; _14 .. _0 from 10]: the answer
+        -- goes into _0
+        move ! (4 ∷ []) $ split ! $ move ! (1 ∷ []) $ peeks ! En.the-row (Is En.the-row) (shows 𝓤 H A En.the-row) r (v ∷ []) (λ is.
+        land ! (from ! (stop !)) (init ! 36 refl (LL.lawful En.the-type En′.the-laws 𝓤 H A W .typed r _ is .0)) $
         move ! (1 ∷ []) $ split ! $ move ! (1 ∷ []) $ split ! $ move ! (1 ∷ []) $ split ! $ move ! (1 ∷ []) $ split ! $ move ! (1 ∷ []) $ split ! $
-        -- [k's second half; …; k's first; n's second; n's first; κt; the answer; the last w; …; the last s; what waits for w; for s; …; …;
-        -- _10 .. _0 from 14]: w's loan is ended
-        move ! (2 ∷ 0 ∷ []) $ fjoin ! $ move ! (0 ∷ 9 ∷ 6 ∷ []) $
-        use3 W (later (W-back l₆ w′))
-        (ends-thin u16 κw qw wγ wb wo l₆ 𝓤 H A W (named 2) (named 3) (named 4) atoms k w′ (e .same-row) w-room) $
+        move ! (1 ∷ []) $ split ! $ move ! (1 ∷ []) $ split ! $
+        -- [j's second half; …; j's first; k's second; k's first; n's second; n's first; κt; the answer; the last f; …; the last w; the last s; what
+        -- waits for f; for w; for s; …; …; _14 .. _0 from 18]: f's loan is ended
+        move ! (2 ∷ 0 ∷ []) $ fjoin ! $ move ! (0 ∷ 12 ∷ 8 ∷ []) $
+        use3 W (later (F-back l₈ f′))
+        (ends-thin u8 κf qf fγ fb fo l₈ 𝓤 H A W (named 3) (named 5) (named 6) free j f′ (e .same-free) f-room) $
+        await ! tt $ split ! $ move ! (1 ∷ []) $ split ! $ feqL ! (λ f-long. split ! $
+        -- [the free part; κf; _8; …; k's second half; k's first; n's second; n's first; κt; the answer; …; the last w; the last s; what waits for w;
+        -- for s; …; …; _14 .. _0 from 17]: then w's
+        move ! (5 ∷ 4 ∷ []) $ fjoin ! $ move ! (0 ∷ 12 ∷ 10 ∷ []) $
+        use3 W (later (W-back l₇ w′))
+        (ends-thin u16 κw qw wγ wb wo l₇ 𝓤 H A W (named 2) (named 3) (named 4) atoms k w′ (e .same-row) w-room) $
         await ! tt $ split ! $ move ! (1 ∷ []) $ split ! $ feqL ! (λ w-long. split ! $
-        -- [the atoms; κw; _6; …; n's second half; n's first; κt; the answer; …; the last s; what waits for s; …; …; _10 .. _0 from 13]: and s's
-        move ! (5 ∷ 4 ∷ []) $ fjoin ! $ move ! (0 ∷ 9 ∷ 8 ∷ []) $
-        use3 W (later (S-back l₅ s′))
-        (ends-thin u8 κs qs sγ sb so l₅ 𝓤 H A W (named 1) (named 1) (named 2) state n s′ (e .same-state) s-room) $
+        -- [the atoms; κw; _7; the free part; κf; _8; …; n's second half; n's first; κt; the answer; …; the last s; what waits for s; …; …;
+        -- _14 .. _0 from 16]: and s's
+        move ! (8 ∷ 7 ∷ []) $ fjoin ! $ move ! (0 ∷ 12 ∷ 11 ∷ []) $
+        use3 W (later (S-back l₆ s′))
+        (ends-thin u8 κs qs sγ sb so l₆ 𝓤 H A W (named 1) (named 1) (named 2) state n s′ (e .same-state) s-room) $
         await ! tt $ split ! $ move ! (1 ∷ []) $ split ! $ feqL ! (λ s-long. split ! $
-        -- [the state; κs; _5; the atoms; κw; _6; …; κt; the answer; …; …; …; _10 .. _0 from 12]
+        -- [the state; κs; _6; the atoms; κw; _7; the free part; κf; _8; …; κt; the answer; …; …; …; _14 .. _0 from 15]
         -- return; what the locals hold is forgotten, and they are freed, _0 first
-        returns ! (look ! 30 refl) $ forget ! 2 refl $ forget ! 5 refl $ forget ! 12 refl $ forget ! 14 refl $ forget ! 16 refl $ forget ! 18 refl $
-        forget ! 22 refl $ forget ! 24 refl $ forget ! 26 refl $ forget ! 28 refl $ forget ! 30 refl $
-        move ! (30 ∷ 31 ∷ []) $ free1 ! $ move ! (28 ∷ 29 ∷ []) $ free1 ! $ move ! (26 ∷ 27 ∷ []) $ free1 ! $ move ! (24 ∷ 25 ∷ []) $ free1 ! $
-        move ! (22 ∷ 23 ∷ []) $ free1 ! $ move ! (2 ∷ 21 ∷ []) $ free1 ! $ move ! (4 ∷ 19 ∷ []) $ free1 ! $ move ! (16 ∷ 17 ∷ []) $ free1 ! $
-        move ! (14 ∷ 15 ∷ []) $ free1 ! $ move ! (12 ∷ 13 ∷ []) $ free1 ! $ move ! (10 ∷ 11 ∷ []) $ free1 ! $ free0 ! $
-        keep ! (0 ∷ 1 ∷ 2 ∷ 3 ∷ 5 ∷ 6 ∷ []) $ by ! (exits r v (s′ .now) (w′ .now) (e .outcome-is, e .run) s-long w-long)))))))))))))))))))))
+        returns ! (look ! 40 refl) $ forget ! 2 refl $ forget ! 5 refl $ forget ! 8 refl $ forget ! 15 refl $ forget ! 17 refl $ forget ! 19 refl $
+        forget ! 21 refl $ forget ! 23 refl $ forget ! 25 refl $ forget ! 30 refl $ forget ! 32 refl $ forget ! 34 refl $ forget ! 36 refl $
+        forget ! 38 refl $ forget ! 40 refl $
+        move ! (40 ∷ 41 ∷ []) $ free1 ! $ move ! (38 ∷ 39 ∷ []) $ free1 ! $ move ! (36 ∷ 37 ∷ []) $ free1 ! $ move ! (34 ∷ 35 ∷ []) $ free1 ! $
+        move ! (32 ∷ 33 ∷ []) $ free1 ! $ move ! (30 ∷ 31 ∷ []) $ free1 ! $ move ! (2 ∷ 29 ∷ []) $ free1 ! $ move ! (4 ∷ 27 ∷ []) $ free1 ! $
+        move ! (6 ∷ 25 ∷ []) $ free1 ! $ move ! (22 ∷ 23 ∷ []) $ free1 ! $ move ! (20 ∷ 21 ∷ []) $ free1 ! $ move ! (18 ∷ 19 ∷ []) $ free1 ! $
+        move ! (16 ∷ 17 ∷ []) $ free1 ! $ move ! (14 ∷ 15 ∷ []) $ free1 ! $ move ! (12 ∷ 13 ∷ []) $ free1 ! $ free0 ! $
+        keep ! (0 ∷ 1 ∷ 2 ∷ 3 ∷ 4 ∷ 5 ∷ 7 ∷ 8 ∷ []) $ by ! (exits r v (s′ .now) (w′ .now) (f′ .now) (e .ran) s-long w-long f-long)))))))))))))))))))))))))))
 
 module _ {M : Type 1} (𝓤 : URA M) (H : Heap 𝓤) (A : Atoms 𝓤) (W : Given 𝓤 H A) (memory : Memory → SProp 𝓤) (run : Routine → Fun 𝓤) where
   -- the walk, at whatever is passed
@@ -288,27 +357,34 @@ module _ {M : Type 1} (𝓤 : URA M) (H : Heap 𝓤) (A : Atoms 𝓤) (W : Given
       → Walks 𝓤 H A run-passes.ended stayed (WpFn 𝓤 H C Λ code.function) (run-passes.clauses 𝓤 H A memory run)
   walks C Λ fm known =
       walked 𝓤 H A run-passes.ended stayed (run-passes.clauses 𝓤 H A memory run) (WpFn 𝓤 H C Λ code.function)
-      (λ κs. (slice-vals, (slice-vals, ((λ d. I′.lowered d ∷ []), (slice-vals, tt)))))
+      (λ κs. (slice-vals, (slice-vals, ((λ d. I′.lowered d ∷ []), (slice-vals, (slice-vals, tt))))))
       (λ κs. (
         shr-slice-tells (named 0) (κs .0) u8,
         (
           mut-slice-tells (named 1) (κs .1 .0) u8,
-          (I′.lowers .val-is, (mut-slice-tells (named 2) (κs .1 .1 .0) u16, tt)),
+          (
+            I′.lowers .val-is,
+            (mut-slice-tells (named 2) (κs .1 .1 .0) u16, (mut-slice-tells (named 3) (κs .1 .1 .1 .0) u8, tt)),
+          ),
         ),
       ))
-      (λ κs qs bounds a g are. needs 𝓤 (Startable (a .0 .now) (a .1 .0 .now) (a .1 .1 .1 .0 .now)) _
-      (walk 𝓤 H A W memory run (κs .0) (κs .1 .0) (κs .1 .1 .0) (qs .0) (qs .1 .0) (qs .1 .1 .0)
+      (λ κs qs bounds a g are. needs 𝓤 (Startable (a .0 .now) (a .1 .0 .now) (a .1 .1 .1 .0 .now) (a .1 .1 .1 .1 .0 .now)) _
+      (walk 𝓤 H A W memory run (κs .0) (κs .1 .0) (κs .1 .1 .0) (κs .1 .1 .1 .0) (qs .0) (qs .1 .0) (qs .1 .1 .0) (qs .1 .1 .1 .0)
       (a .0) (a .1 .0 .ptr .0) (a .1 .0 .ptr .1) (a .1 .0 .name) (a .1 .0 .now) (a .1 .1 .0)
       (a .1 .1 .1 .0 .ptr .0) (a .1 .1 .1 .0 .ptr .1) (a .1 .1 .1 .0 .name) (a .1 .1 .1 .0 .now)
-      (are .0 .0 .1) (are .1 .0 .0 .1) (are .1 .1 .1 .0 .0 .1) (are .1 .1 .0) C Λ fm known))
+      (a .1 .1 .1 .1 .0 .ptr .0) (a .1 .1 .1 .1 .0 .ptr .1) (a .1 .1 .1 .1 .0 .name) (a .1 .1 .1 .1 .0 .now)
+      (are .0 .0 .1) (are .1 .0 .0 .1) (are .1 .1 .1 .0 .0 .1) (are .1 .1 .1 .1 .0 .0 .1) (are .1 .1 .0) C Λ fm known))
 
   -- what is had of each parameter at the end is given up for what says its last value
-  goes-all : AllGo 𝓤 H A W 3 (run-passes.signature .params) (run-passes.ended .kept) stayed
+  goes-all : AllGo 𝓤 H A W 4 (run-passes.signature .params) (run-passes.ended .kept) stayed
   goes-all = (
-    goes-dropped 𝓤 H A W 3 (shrSliceOf (0 ∷ []) tt (plain (λ _. u8))) yes (λ κs x f. refl),
+    goes-dropped 𝓤 H A W 4 (shrSliceOf (0 ∷ []) tt (plain (λ _. u8))) yes (λ κs x f. refl),
     (
-      goes-slice 𝓤 H A W 3 1 tt (plain (λ _. u8)),
-      (goes-dropped 𝓤 H A W 3 (plain (λ _. I.the-row)) yes (λ κs x f. refl), (goes-slice 𝓤 H A W 3 2 tt (plain (λ _. u16)), tt)),
+      goes-slice 𝓤 H A W 4 1 tt (plain (λ _. u8)),
+      (
+        goes-dropped 𝓤 H A W 4 (plain (λ _. I.the-row)) yes (λ κs x f. refl),
+        (goes-slice 𝓤 H A W 4 2 tt (plain (λ _. u16)), (goes-slice 𝓤 H A W 4 3 tt (plain (λ _. u8)), tt)),
+      ),
     ),
   )
 

@@ -22,13 +22,13 @@ returns c =
 -- &row[..n],
 slice-reshare-prefix-write-ran : tie.Need-slice-reshare-prefix-write-ran
 slice-reshare-prefix-write-ran c =
-    let instant = c .before .before .before .before .before .before .before .instant in
+    let instant = c .before .before .before .before .before .before .before .before .before .instant in
     let enum-told = c .before .enum-told in
     atoms-within (instant .ensures .ran (enum-told .given .1))
 
 slice-aggregate-write-ran : tie.Need-slice-aggregate-write-ran
 slice-aggregate-write-ran c =
-    let instant = c .before .before .before .before .before .before .before .before .instant in
+    let instant = c .before .before .before .before .before .before .before .before .before .before .instant in
     let enum-told = c .before .before .enum-told in
     sym (length-take-le (instant .result .atoms) (instant .last .1 .1 .1 .1 .0) (atoms-within (instant .ensures .ran (enum-told .given .1))))
 
@@ -37,8 +37,9 @@ put-under-requires : tie.Need-put-under-requires
 put-under-requires c κs =
     let c8 = c .before .before .before .before .before .before .before .before in
     let c16 = c8 .before .before .before .before .before .before .before .before in
-    let start = c16 .before .before .before .before .before .before .before .before in
-    let instant = c8 .before .before .before .before .instant in
+    let c24 = c16 .before .before .before .before .before .before .before .before in
+    let start = c24 .before .before .before .before in
+    let instant = c8 .before .before .before .before .before .before .instant in
     let enum-told = c .before .before .before .before .before .before .enum-told in
     let write-ran = c .before .before .before .write-ran in
     let within = atoms-within (instant .ensures .ran (enum-told .given .1)) in
@@ -52,10 +53,11 @@ returns-2 : tie.Need-returns-2
 returns-2 c =
     let c8 = c .before .before .before .before .before .before .before .before in
     let c16 = c8 .before .before .before .before .before .before .before .before in
-    let start = c16 .before .before .before .before .before .before .before .before .before .before .before in
-    let read-line = c16 .before .before .before .before .before .read-line in
-    let if1 = c16 .before .before .before .if1 in
-    let instant = c8 .before .before .before .before .before .before .before .instant in
+    let c24 = c16 .before .before .before .before .before .before .before .before in
+    let start = c24 .before .before .before .before .before .before .before in
+    let read-line = c24 .read-line in
+    let if1 = c16 .before .before .before .before .before .before .if1 in
+    let instant = c16 .before .instant in
     let enum-told = c8 .before .enum-told in
     let write-ran = c .before .before .before .before .before .before .write-ran in
     let put-under = c .before .before .put-under in
@@ -71,10 +73,11 @@ returns-3 : tie.Need-returns-3
 returns-3 c =
     let c8 = c .before .before .before .before .before .before .before .before in
     let c16 = c8 .before .before .before .before .before .before .before .before in
-    let start = c16 .before .before .before .before .before .before in
-    let read-line = c8 .before .before .before .before .before .before .before .before .read-line in
-    let if1 = c8 .before .before .before .before .before .before .if1 in
-    let instant = c8 .before .before .instant in
+    let c24 = c16 .before .before .before .before .before .before .before .before in
+    let start = c24 .before .before in
+    let read-line = c16 .before .before .before .read-line in
+    let if1 = c16 .before .if1 in
+    let instant = c8 .before .before .before .before .instant in
     let match = c .before .before .before .before .before .match in
     let refusal-of = c .before .before .before .before .refusal-of in
     let write-refused = c .before .before .write-refused in
@@ -102,8 +105,10 @@ answer-line-spec =
     (λ c. search needs)  -- same-length-2: pub fn answer_line
     (λ c. search needs)  -- same-length-3
     (λ c. search needs)  -- same-length-4
-    returns-2
     (λ c. search needs)  -- same-length-5
+    returns-2
     (λ c. search needs)  -- same-length-6
     (λ c. search needs)  -- same-length-7
+    (λ c. search needs)  -- same-length-8
+    (λ c. search needs)  -- same-length-9
     returns-3)

@@ -3,7 +3,7 @@ use Prim.Native.Nat.{_+_}
 use mathlib.Core.Path.{sym, _∙_}
 use native.Mathlib.Omega.{arith}
 use borrow.Author.Needs.{needs}
-use Rattle.table.specs.Records.{nodes}
+use Rattle.table.specs.Records.{sizeAt}
 use Rattle.state.specs.Resting.{rests}
 use Rattle.state.proofs.Firsts.{hold-one, first-here, first-later}
 use Rattle.state.proofs.resting.begun_low.Statement.{statement}
@@ -26,7 +26,7 @@ returns-2 c =
     let rests-at = c .before .rests-at in
     let if1 = c .if1 in
     let A = start .args in
-    first-here (rests (A .table .now) (A .state .now)) (A .i) (nodes (A .table .now)) (omega arith) (λ z. sym (rests-at .ensures) ∙ if1 .left)
+    first-here (rests (A .table .now) (A .state .now)) (A .i) (sizeAt (A .table .now) 0) (omega arith) (λ z. sym (rests-at .ensures) ∙ if1 .left)
 
 pub begun-low-spec : {M : Type 1} → statement M
 begun-low-spec =

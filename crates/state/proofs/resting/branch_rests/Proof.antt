@@ -3,7 +3,7 @@ use mathlib.Core.Bool.{or-false}
 use mathlib.Core.Path.{sym, _∙_}
 use borrow.Author.Tests.{ne-eqb}
 use Rattle.table.proofs.Subtrees.{pair}
-use Rattle.state.proofs.Near.{below-near, first-near, pair-below}
+use Rattle.state.proofs.Near.{child-read, below-near, first-near, pair-below}
 use Rattle.state.proofs.resting.branch_rests.Statement.{statement}
 use Rattle.state.proofs.resting.branch_rests.Tie as tie
 use borrow.Author.Needs.{needs}
@@ -14,6 +14,13 @@ second-zero-requires c κs =
     let start = c .before .before .before in
     (start .pre .0, start .pre .1)
 
+-- 2 => second_at(table, i) <= near,
+second-at-requires : tie.Need-second-at-requires
+second-at-requires c κs =
+    let start = c .before .before .before in
+    let j = start .pre .0 in
+    child-read (j .behind .rooted) _ (pair (j .behind .rooted) _ (j .inside) (start .pre .1) .first-in)
+
 -- fn branch_rests
 returns : tie.Need-returns
 returns c =
@@ -21,7 +28,7 @@ returns c =
     let match = c .before .match in
     let size-at = c .size-at in
     let j = start .pre .0 in
-    rw (match .keys1, or-false, size-at .ensures .0) (sym (below-near j) ∙ pair-below _ (pair (j .behind .loaded) _ (j .inside) (start .pre .1)))
+    rw (match .keys1, or-false, size-at .ensures .0) (sym (below-near j) ∙ pair-below _ (pair (j .behind .rooted) _ (j .inside) (start .pre .1)))
 
 returns-2 : tie.Need-returns-2
 returns-2 c =
@@ -35,7 +42,7 @@ returns-3 c =
     let match = c .before .match in
     let second-at = c .second-at in
     let j = start .pre .0 in
-    rw (match .keys3, second-at .ensures) (sym (first-near j (pair (j .behind .loaded) _ (j .inside) (start .pre .1) .first-in)))
+    rw (match .keys3, second-at .ensures) (sym (first-near j (pair (j .behind .rooted) _ (j .inside) (start .pre .1) .first-in)))
 
 returns-4 : tie.Need-returns-4
 returns-4 c =
@@ -48,7 +55,7 @@ branch-rests-spec =
     (λ c κs. search needs)  -- size-at-requires: 0 => i + size_at(table, i) <= near,
     (λ c. search needs)  -- add-result
     second-zero-requires
-    (λ c κs. search needs)  -- second-at-requires: 2 => second_at(table, i) <= near,
+    second-at-requires
     returns
     returns-2
     returns-3

@@ -3,16 +3,16 @@ use Prim.Native.Nat.{_+_, _-_}
 use mathlib.Core.Path.{_≡_}
 use native.Mathlib.Omega.{arith}
 use borrow.Author.Needs.{needs}
-use Rattle.table.specs.Records.{nodes}
+use Rattle.table.specs.Records.{sizeAt}
 use Rattle.state.specs.Resting.{zeroNode, rests}
 use Rattle.state.specs.Inside.{Nearest, Blamed}
 use Rattle.state.proofs.Firsts.{first-here, first-lowest}
-use Rattle.state.proofs.Near.{judged}
+use Rattle.state.proofs.Near.{own-size, judged}
 use Rattle.state.proofs.resting.first_blamed.Statement.{statement}
 use Rattle.state.proofs.resting.first_blamed.Tie as tie
 
 abbrev Inv-loop : tie.InvT-loop
-Inv-loop table n state near₀ low₀ near low = Nearest state near (nodes table) near × Blamed table state near low
+Inv-loop table n state near₀ low₀ near low = Nearest state near (sizeAt table 0) near × Blamed table state near low
 
 abbrev μ-loop : tie.MeasureT-loop
 μ-loop table n state near₀ low₀ near low = near
@@ -22,7 +22,8 @@ loop-holds : tie.Need-loop-holds Inv-loop μ-loop
 loop-holds c =
     let start = c .before .before in
     let A = start .args in
-    let N = nodes (A .table .now) in (
+    let whole = start .pre .0 .whole in
+    let N = sizeAt (A .table .now) 0 in (
       first-here (zeroNode (A .state .now)) (A .n) N (omega arith) (λ h. absurd (omega arith)),
       first-here (rests (A .table .now) (A .state .now)) (A .n) N (omega arith) (λ h. absurd (omega arith)),
     )
@@ -33,7 +34,7 @@ fresh-low-requires c κs =
     let start = c .before .before .before .before .before in
     let loop = c .before .before .loop in
     let zero-from = c .zero-from in
-    (judged (start .args .state .now) (start .pre .0) (rw (start .pre .1 .0) at (start .pre .1 .1)) (loop .inv .0) (zero-from .ensures), loop .inv .1)
+    (judged (start .args .state .now) (own-size (start .pre .0)) (rw (← start .pre .0 .whole) at (start .pre .1)) (loop .inv .0) (zero-from .ensures), loop .inv .1)
 
 -- return low;
 returns : tie.Need-returns Inv-loop μ-loop
@@ -41,7 +42,7 @@ returns c =
     let start = c .before .before .before .before .before .before .before in
     let fresh-low = c .before .fresh-low in
     let if1 = c .if1 in
-    first-lowest (rests (start .args .table .now) (start .args .state .now)) _ _ (rw (if1 .taken) at (fresh-low .ensures))
+    first-lowest (rests (start .args .table .now) (start .args .state .now)) _ _ (rw (if1 .taken, start .pre .0 .whole) at (fresh-low .ensures))
 
 -- low = begun_low(table, state, from - 1, near, low);
 begun-low-requires : tie.Need-begun-low-requires Inv-loop μ-loop
@@ -52,7 +53,7 @@ begun-low-requires c κs =
     let fresh-low = c .before .fresh-low in
     let z = zero-from .ensures in
     let e : zero-from .result - 1 + 1 ≡ zero-from .result = omega arith in
-    let j = judged (start .args .state .now) (start .pre .0) (rw (start .pre .1 .0) at (start .pre .1 .1)) (loop .inv .0) z in
+    let j = judged (start .args .state .now) (own-size (start .pre .0)) (rw (← start .pre .0 .whole) at (start .pre .1)) (loop .inv .0) z in
     (record { inside = omega (arith, z .within); behind = rw e j }, rw e (fresh-low .ensures))
 
 -- while 0 < near {
@@ -70,7 +71,7 @@ returns-2 c =
     let start = c .before .before .before .before in
     let loop = c .before .loop in
     let e : loop .near ≡ 0 = search needs in
-    first-lowest (rests (start .args .table .now) (start .args .state .now)) _ _ (rw e at (loop .inv .1))
+    first-lowest (rests (start .args .table .now) (start .args .state .now)) _ _ (rw (e, start .pre .0 .whole) at (loop .inv .1))
 
 pub first-blamed-spec : {M : Type 1} → statement M
 first-blamed-spec =

@@ -9,6 +9,7 @@ use Rattle.table.specs.Good.{children}
 use Rattle.table.proofs.Subtrees.{pair}
 use Rattle.state.specs.Resting.{flagsRest}
 use Rattle.state.proofs.Little.{cond-same}
+use Rattle.state.proofs.Near.{child-read}
 use Rattle.state.proofs.resting.flags_rest.Statement.{statement}
 use Rattle.state.proofs.resting.flags_rest.Tie as tie
 
@@ -37,6 +38,14 @@ shared-slice-read-result c =
     omega (arith, pair (p .0) _ (p .1 .1 .0) (rw (sym (p .1 .1 .1), if2 .left)) .first-in)
 
 -- 8 => state[4 * second_at(table, i)] == 3,
+second-at-requires : tie.Need-second-at-requires
+unfolding children
+second-at-requires c κs =
+    let start = c .before .before .before .before .before in
+    let if2 = c .before .if2 in
+    let p = start .pre in
+    child-read (p .0) _ (pair (p .0) _ (p .1 .1 .0) (rw (sym (p .1 .1 .1), if2 .left)) .first-in)
+
 mul-result-2 : tie.Need-mul-result-2
 unfolding children
 mul-result-2 c =
@@ -87,7 +96,7 @@ flags-rest-spec =
     (λ c. search needs)  -- add-result: 2 => state[4 * (i + 1)] == 3,
     (λ c. search needs)  -- mul-result
     shared-slice-read-result
-    (λ c κs. search needs)  -- second-at-requires: 8 => state[4 * second_at(table, i)] == 3,
+    second-at-requires
     mul-result-2
     shared-slice-read-result-2
     returns-3

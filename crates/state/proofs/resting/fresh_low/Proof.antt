@@ -24,7 +24,7 @@ loop-less c =
     let loop = c .before .before .before .loop in
     let size-at = c .before .size-at in
     let j = start .pre .0 in
-    omega (arith, size-at .ensures .0, starts (j .loaded) (loop .at) (at-in j (loop .at) (loop .inv .0) (search needs)))
+    omega (arith, size-at .ensures .0, starts (j .rooted) (loop .at) (at-in j (loop .at) (loop .inv .0) (search needs)))
 
 loop-again : tie.Need-loop-again Inv-loop μ-loop
 loop-again c =

@@ -1,7 +1,6 @@
 -- The phases, sort of kinds by sort of kinds.
 use Rattle.state.proofs.resting.phase_rests.Statement.{statement}
 use Rattle.state.proofs.resting.phase_rests.Tie as tie
-use borrow.Author.Needs.{needs}
 use Prim.Native.Nat.{ℕ}
 use mathlib.Core.Bool.{Bool, _&&_, _||_}
 use mathlib.Core.Path.{_≡_, ap, sym, _∙_}
@@ -12,7 +11,7 @@ use borrow.Author.Tests.{ne-eqb}
 use Rattle.table.specs.Good.{children}
 use Rattle.table.proofs.Subtrees.{body}
 use Rattle.state.specs.Resting.{firstZero, secondZero, branchRests, phaseRests}
-use Rattle.state.proofs.Near.{first-near}
+use Rattle.state.proofs.Near.{child-read, first-near}
 
 -- a Seq or Until; a When or If; a Loop, Repeat or RepeatExt
 two-parts : {k : ℕ} → (k ≡ 3) ⊎ (k ≡ 10) → children k ≡ 2
@@ -54,6 +53,24 @@ part-rests-requires c κs =
     let match = c .match in
     (start .pre .0, ap children (sym (start .pre .1)) ∙ two-parts (match .keys1))
 
+-- 5 => body_rests(table, i, near, phase),
+body-rests-requires : tie.Need-body-rests-requires
+unfolding children
+body-rests-requires c κs =
+    let start = c .before .before .before in
+    let match = c .match in
+    let j = start .pre .0 in
+    child-read (j .behind .rooted) _ (body (j .behind .rooted) _ (j .inside) (rw (← start .pre .1, match .keys2)) .first-in)
+
+-- 6 | 15 => body_rests(table, i, near, phase),
+body-rests-requires-2 : tie.Need-body-rests-requires-2
+body-rests-requires-2 c κs =
+    let start = c .before .before .before in
+    let match = c .match in
+    let j = start .pre .0 in
+    let b = body (j .behind .rooted) _ (j .inside) (ap children (sym (start .pre .1)) ∙ one-body (match .keys3)) in
+    child-read (j .behind .rooted) _ (b .first-in)
+
 -- 9 | 14 => branch_rests(table, state, i, near, phase),
 branch-rests-requires : tie.Need-branch-rests-requires
 branch-rests-requires c κs =
@@ -69,7 +86,7 @@ returns-2 c =
     let match = c .before .match in
     let body-rests = c .body-rests in
     let j = start .pre .0 in
-    let b = body (j .behind .loaded) _ (j .inside) (rw (← start .pre .1, match .keys2)) in
+    let b = body (j .behind .rooted) _ (j .inside) (rw (← start .pre .1, match .keys2)) in
     let ph = start .args .phase in
     rw (match .keys2) (body-rests .ensures ∙ ap (λ (z : Bool). (eqb ph 0 && z) || eqb ph 1) (sym (first-near j (b .first-in))))
 
@@ -79,7 +96,7 @@ returns-3 c =
     let match = c .before .match in
     let body-rests2 = c .body-rests2 in
     let j = start .pre .0 in
-    let b = body (j .behind .loaded) _ (j .inside) (ap children (sym (start .pre .1)) ∙ one-body (match .keys3)) in
+    let b = body (j .behind .rooted) _ (j .inside) (ap children (sym (start .pre .1)) ∙ one-body (match .keys3)) in
     let ph = start .args .phase in
     body-rests2 .ensures
     ∙ (ap (λ (z : Bool). (eqb ph 0 && z) || eqb ph 1) (sym (first-near j (b .first-in))) ∙ sym (by-body _ _ _ _ (match .keys3)))
@@ -106,8 +123,8 @@ pub phase-rests-spec : {M : Type 1} → statement M
 phase-rests-spec =
     tie.close (tie.spec
     part-rests-requires
-    (λ c κs. search needs)  -- body-rests-requires: 5 => body_rests(table, i, near, phase),
-    (λ c κs. search needs)  -- body-rests-requires-2: 6 | 15 => body_rests(table, i, near, phase),
+    body-rests-requires
+    body-rests-requires-2
     branch-rests-requires
     (λ c. c .part-rests .ensures ∙ sym (by-parts _ _ _ _ (c .before .match .keys1)))  -- returns: fn phase_rests
     returns-2

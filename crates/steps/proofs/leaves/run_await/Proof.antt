@@ -20,7 +20,7 @@ read-test-requires : tie.Need-read-test-requires
 read-test-requires c κs =
     let start = c .before .before .before .before .before .before .before .before in
     let if1 = c .before .before .before .before .before .before .if1 in
-    await-tests (if1 .left) (start .pre)
+    await-tests (if1 .left) (start .pre .1)
 
 -- return SUSP;
 returns-3 : tie.Need-returns-3
@@ -29,7 +29,7 @@ returns-3 c =
     let read-test = c .before .before .read-test in
     let rank-of = c .before .rank-of in
     let if3 = c .if3 in
-    (await-suspends (if1 .left) (λ d s. sym (rank-of .ensures) ∙ read-test .ensures d s) (if3 .taken), (refl, refl))
+    ((λ store. await-suspends (if1 .left) (λ d s. sym (rank-of .ensures) ∙ read-test .ensures d s) (if3 .taken)), (refl, refl))
 
 -- return STOP;
 returns-4 : tie.Need-returns-4
@@ -38,7 +38,7 @@ returns-4 c =
     let read-test = c .before .before .before .read-test in
     let rank-of = c .before .before .rank-of in
     let if4 = c .if4 in
-    (await-refused (if1 .left) (λ d s. sym (rank-of .ensures) ∙ read-test .ensures d s) (if4 .taken), (refl, refl))
+    ((λ store. await-refused (if1 .left) (λ d s. sym (rank-of .ensures) ∙ read-test .ensures d s) (if4 .taken)), (refl, refl))
 
 -- return TERM;
 returns-5 : tie.Need-returns-5
@@ -49,13 +49,13 @@ returns-5 c =
     let if3 = c .before .before .before .if3 in
     let if4 = c .before .before .if4 in
     let if5 = c .if5 in
-    (await-met (if1 .left) (λ d s. sym (rank-of .ensures) ∙ read-test .ensures d s) (if3 .left) (if4 .left) (if5 .taken), (refl, refl))
+    ((λ store. await-met (if1 .left) (λ d s. sym (rank-of .ensures) ∙ read-test .ensures d s) (if3 .left) (if4 .left) (if5 .taken)), (refl, refl))
 
 -- state[4 * i] = GONE;
 index-1-state-2 : tie.Need-index-1-state-2
 index-1-state-2 c =
     let start = c .before .before .before .before .before .before .before .before .before .before .before .before .before .before in
-    phase-reads (start .pre)
+    phase-reads (start .pre .1)
 
 -- pub fn run_await
 returns-6 : tie.Need-returns-6
@@ -66,17 +66,17 @@ returns-6 c =
     let if3 = c .before .before .before .if3 in
     let if4 = c .before .before .if4 in
     let if5 = c .if5 in
-    (await-met-late (if1 .left) (λ d s. sym (rank-of .ensures) ∙ read-test .ensures d s) (if3 .left) (if4 .left) (if5 .left), (refl, refl))
+    ((λ store. await-met-late (if1 .left) (λ d s. sym (rank-of .ensures) ∙ read-test .ensures d s) (if3 .left) (if4 .left) (if5 .left)), (refl, refl))
 
 pub run-await-spec : {M : Type 1} → statement M
 run-await-spec =
     tie.close (tie.spec
     (λ c. search needs)  -- mul-phase: let phase = state[4 * i];
-    (λ c. phase-reads (c .pre))  -- index-1-phase
+    (λ c. phase-reads (c .pre .1))  -- index-1-phase
     (λ c. search needs)  -- mul-state: state[4 * i] = 0;
-    (λ c. phase-reads (c .before .before .pre))  -- index-1-state
-    (λ c. (done-run (c .if1 .taken), (refl, refl)))  -- returns: return TERM;
-    (λ c κs on. await-tests on (c .before .before .before .before .pre))  -- lone-event-requires: if lone_event(*table, i, phase, numbers) {
+    (λ c. phase-reads (c .before .before .pre .1))  -- index-1-state
+    (λ c. ((λ store. done-run (c .if1 .taken)), (refl, refl)))  -- returns: return TERM;
+    (λ c κs on. await-tests on (c .before .before .before .before .pre .1))  -- lone-event-requires: if lone_event(*table, i, phase, numbers) {
     run-lone-requires
     (λ c. (c .run-lone .ensures .0, c .run-lone .ensures .1))  -- returns-2
     read-test-requires

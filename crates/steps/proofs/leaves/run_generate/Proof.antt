@@ -13,7 +13,7 @@ put-event-requires c κs =
     let start = c .before .before .before .before .before in
     let if1 = c .before .before .before .if1 in
     let argument-at = c .argument-at in
-    (start .pre .3 .numbers .long, event-below (argument-at .ensures .0) (event-placed (if1 .left) (start .pre)))
+    (start .pre .1 .3 .numbers .long, event-below (argument-at .ensures .0) (event-placed (if1 .left) (start .pre .1)))
 
 -- pub fn run_generate
 returns-2 : tie.Need-returns-2
@@ -22,17 +22,17 @@ returns-2 c =
     let if1 = c .before .before .before .before .if1 in
     let argument-at = c .before .argument-at in
     let put-event = c .put-event in
-    let there = event-below (argument-at .ensures .0) (event-placed (if1 .left) (start .pre)) in
-    (generate-run (if1 .left) _ (argument-at .ensures .0) there (put-event .ensures), (refl, refl))
+    let there = event-below (argument-at .ensures .0) (event-placed (if1 .left) (start .pre .1)) in
+    ((λ store. generate-run (if1 .left) _ (argument-at .ensures .0) there (put-event .ensures)), (refl, refl))
 
 pub run-generate-spec : {M : Type 1} → statement M
 run-generate-spec =
     tie.close (tie.spec
     (λ c. search needs)  -- mul-if1: if state[4 * i] == GONE {
-    (λ c. phase-reads (c .pre))  -- index-1-if1
+    (λ c. phase-reads (c .pre .1))  -- index-1-if1
     (λ c. search needs)  -- mul-state: state[4 * i] = 0;
-    (λ c. phase-reads (c .before .before .pre))  -- index-1-state
-    (λ c. (done-run (c .if1 .taken), (refl, refl)))  -- returns: return TERM;
+    (λ c. phase-reads (c .before .before .pre .1))  -- index-1-state
+    (λ c. ((λ store. done-run (c .if1 .taken)), (refl, refl)))  -- returns: return TERM;
     (λ c κs. search needs)  -- argument-at-requires: put_event(numbers, argument_at(*table, i), true);
     put-event-requires
     (λ c. search needs)  -- element-write-numbers: numbers[MOVED] = 1;

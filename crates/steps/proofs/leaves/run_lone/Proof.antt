@@ -12,7 +12,7 @@ part-event-requires : tie.Need-part-event-requires
 part-event-requires c κs =
     let start = c .before .before .before .before .before .before in
     let (on, k) = lone-is (start .args .table .now .now) (start .args .i) _ (start .pre .1) in
-    let can = await-tests on (start .pre .0) in
+    let can = await-tests on (start .pre .0 .1) in
     search needs
 
 -- return STOP;
@@ -25,9 +25,9 @@ returns c =
     let if1 = c .before .before .if1 in
     let if2 = c .if2 in
     let (on, k) = lone-is (start .args .table .now .now) (start .args .i) _ (start .pre .1) in
-    let can = await-tests on (start .pre .0) in
+    let can = await-tests on (start .pre .0 .1) in
     let here = lone-marked can (test-here can _ (argument-at .ensures .0)) (part-event .ensures) (marked .ensures) (if1 .taken) in
-    (lone-met-late on k here (if2 .taken), (refl, refl))
+    ((λ store. lone-met-late on k here (if2 .taken)), (refl, refl))
 
 -- return TERM;
 returns-2 : tie.Need-returns-2
@@ -39,9 +39,9 @@ returns-2 c =
     let if1 = c .before .before .if1 in
     let if2 = c .if2 in
     let (on, k) = lone-is (start .args .table .now .now) (start .args .i) _ (start .pre .1) in
-    let can = await-tests on (start .pre .0) in
+    let can = await-tests on (start .pre .0 .1) in
     let here = lone-marked can (test-here can _ (argument-at .ensures .0)) (part-event .ensures) (marked .ensures) (if1 .taken) in
-    (lone-met on k here (if2 .left), (refl, refl))
+    ((λ store. lone-met on k here (if2 .left)), (refl, refl))
 
 -- pub fn run_lone
 returns-3 : tie.Need-returns-3
@@ -52,9 +52,9 @@ returns-3 c =
     let marked = c .before .before .marked in
     let if1 = c .before .if1 in
     let (on, k) = lone-is (start .args .table .now .now) (start .args .i) _ (start .pre .1) in
-    let can = await-tests on (start .pre .0) in
+    let can = await-tests on (start .pre .0 .1) in
     let absent = lone-marked can (test-here can _ (argument-at .ensures .0)) (part-event .ensures) (marked .ensures) (if1 .left) in
-    (lone-run on k absent, (refl, refl))
+    ((λ store. lone-run on k absent), (refl, refl))
 
 pub run-lone-spec : {M : Type 1} → statement M
 run-lone-spec =
@@ -67,7 +67,7 @@ run-lone-spec =
     (λ c κs. search needs)  -- marked-requires
     (λ c. search needs)  -- element-copy-out-if2: if numbers[ENDED] != 0 {
     (λ c. search needs)  -- mul-state: state[4 * i] = GONE;
-    (λ c. phase-reads (c .before .before .before .before .before .before .before .before .before .before .before .pre .0))  -- index-1-state
+    (λ c. phase-reads (c .before .before .before .before .before .before .before .before .before .before .before .pre .0 .1))  -- index-1-state
     returns
     returns-2
     (λ c. search needs)  -- element-copy-out-result: numbers[ENDED] as u8

@@ -10,5 +10,5 @@ pub run-nothing-spec : {M : Type 1} → statement M
 run-nothing-spec =
     tie.close (tie.spec
     (λ c. search needs)  -- mul-state: state[4 * i] = 0;
-    (λ c. phase-reads (c .pre))  -- index-1-state
-    (λ c. (nothing-run, (refl, refl))))  -- returns: pub fn run_nothing
+    (λ c. phase-reads (c .pre .1))  -- index-1-state
+    (λ c. ((λ store. nothing-run), (refl, refl))))  -- returns: pub fn run_nothing

@@ -11,10 +11,10 @@ pub run-stop-spec : {M : Type 1} → statement M
 run-stop-spec =
     tie.close (tie.spec
     (λ c. search needs)  -- mul-if1: if state[4 * i] == GONE {
-    (λ c. phase-reads (c .pre))  -- index-1-if1
+    (λ c. phase-reads (c .pre .1))  -- index-1-if1
     (λ c. search needs)  -- mul-state: state[4 * i] = 0;
-    (λ c. phase-reads (c .before .before .pre))  -- index-1-state
-    (λ c. (done-run (c .if1 .taken), (refl, refl)))  -- returns: return TERM;
+    (λ c. phase-reads (c .before .before .pre .1))  -- index-1-state
+    (λ c. ((λ store. done-run (c .if1 .taken)), (refl, refl)))  -- returns: return TERM;
     (λ c. search needs)  -- mul-state-2: state[4 * i] = GONE;
-    (λ c. phase-reads (c .before .before .pre))  -- index-1-state-2
-    (λ c. (stop-run (c .if1 .left), (refl, refl))))  -- returns-2: pub fn run_stop
+    (λ c. phase-reads (c .before .before .pre .1))  -- index-1-state-2
+    (λ c. ((λ store. stop-run (c .if1 .left)), (refl, refl))))  -- returns-2: pub fn run_stop

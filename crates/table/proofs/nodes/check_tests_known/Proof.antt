@@ -50,7 +50,7 @@ refused-requires-2 c κs =
     let k = rw (weight-at .ensures) at (if2 .taken) in
     (start .pre .0, λ g. omega arith)
 
--- let endless = waiting[320] as usize;
+-- let endless = waiting[384] as usize;
 cast-endless : tie.Need-cast-endless Inv-loop μ-loop
 cast-endless c =
     search needs
@@ -94,7 +94,7 @@ check-tests-known-spec =
     tie.close (tie.spec
     Inv-loop
     μ-loop
-    (λ c. search needs)  -- cast-waiting: waiting[320] =..
+    (λ c. search needs)  -- cast-waiting: waiting[384] =..
     (λ c. search needs)  -- array-write-waiting
     (λ c. swept-none _ _ _ (c .before .before .pre .0 .framed .n-is) refl refl)  -- loop-holds: while i > 0 {
     (λ c. search needs)  -- sub-i: i -= 1;
@@ -106,7 +106,7 @@ check-tests-known-spec =
     (λ c κs. search needs)  -- weight-at-requires: let x = weight_at(&waiting, 0);
     refused-requires-2
     (λ c. c .refused2 .ensures)  -- returns-2
-    (λ c. search needs)  -- array-read-endless: let endless = waiting[320] as usize;
+    (λ c. search needs)  -- array-read-endless: let endless = waiting[384] as usize;
     cast-endless
     returns-3
     (λ c κs. search needs)  -- weighed-requires: weighed(x)

@@ -8,7 +8,7 @@ pub keep-endless-spec : {M : Type 1} → statement M
 keep-endless-spec =
     tie.close
     (tie.spec
-    (λ c. search needs)  -- cast-waiting: waiting[320] = i as u32;
+    (λ c. search needs)  -- cast-waiting: waiting[384] = i as u32;
     (λ c. search needs)  -- element-write-waiting
     (λ c. rw (eq-eqb _ _ (c .before .if1 .taken), eq-eqb _ _ (c .if2 .taken)))  -- returns: stored
     (λ c. rw (eq-eqb _ _ (c .before .if1 .taken), ne-eqb _ _ (c .if2 .left)))  -- returns-2: the body stops

@@ -4,18 +4,17 @@ use mathlib.Core.Path.{refl, sym, _∙_}
 use native.Mathlib.Omega.{arith}
 use borrow.Author.Needs.{needs}
 use Rattle.table.specs.Good.{children, argumentLimit}
-use Rattle.table.proofs.Judged.{as-kind, none-known, bad-kind}
+use Rattle.table.proofs.Judged.{as-kind, above-all, bad-kind}
 use Rattle.table.proofs.KnownEarly.{no-test, test-here}
 use Rattle.table.proofs.Little.{none-of}
 use Rattle.table.proofs.nodes.place.Statement.{statement}
 use Rattle.table.proofs.nodes.place.Tie as tie
 
 -- _ => 0,
-returns-16 : tie.Need-returns-16
-returns-16 c =
+returns-17 : tie.Need-returns-17
+returns-17 c =
     let kind-at = c .before .kind-at in
-    let rest = c .match .rest in
-    let unknown = rw (kind-at .ensures .0) at (none-known _ (none-of 13 _ (rest .0 .0)) (rest .0 .1) (rest .1)) in
+    let unknown = rw (kind-at .ensures .0) at (above-all _ (none-of 16 _ (c .match .rest))) in
     (λ z. absurd (omega arith), λ z g. absurd (false≢true (bad-kind _ _ unknown ∙ g)))
 
 pub place-spec : {M : Type 1} → statement M
@@ -98,16 +97,21 @@ place-spec =
     let start = c .before .before .before .before .before in
     let kind-at = c .before .before .kind-at in
     (start .pre .1 .0, as-kind (kind-at .ensures .0) 12 (c .before .match .keys13) refl (sym (start .pre .0 .v-is)) refl))
+    -- body-requires-5: 13 => body(table, n, i, 13, v, waiting, top),
+    (λ c κs.
+    let start = c .before .before .before .before .before in
+    let kind-at = c .before .before .kind-at in
+    (start .pre .1 .0, as-kind (kind-at .ensures .0) 13 (c .before .match .keys14) refl (sym (start .pre .0 .v-is)) refl))
     -- pair-requires-5: 14 => pair(table, n, i, 14, 16, 0, waiting, top),
     (λ c κs.
     let start = c .before .before .before .before .before in
     let kind-at = c .before .before .kind-at in
-    (start .pre .1 .0, (as-kind (kind-at .ensures .0) 14 (c .before .match .keys14) refl refl refl, no-test (λ a b. omega arith))))
-    -- body-requires-5: 15 => body(table, n, i, 15, 4096, waiting, top),
+    (start .pre .1 .0, (as-kind (kind-at .ensures .0) 14 (c .before .match .keys15) refl refl refl, no-test (λ a b. omega arith))))
+    -- body-requires-6: 15 => body(table, n, i, 15, 4096, waiting, top),
     (λ c κs.
     let start = c .before .before .before .before .before in
     let kind-at = c .before .before .kind-at in
-    (start .pre .1 .0, as-kind (kind-at .ensures .0) 15 (c .before .match .keys15) refl refl refl))
+    (start .pre .1 .0, as-kind (kind-at .ensures .0) 15 (c .before .match .keys16) refl refl refl))
     (λ c. c .leaf .ensures)  -- returns
     (λ c. c .leaf2 .ensures)  -- returns-2
     (λ c. c .leaf3 .ensures)  -- returns-3
@@ -121,6 +125,7 @@ place-spec =
     (λ c. c .pair4 .ensures)  -- returns-11
     (λ c. c .body3 .ensures)  -- returns-12
     (λ c. c .body4 .ensures)  -- returns-13
-    (λ c. c .pair5 .ensures)  -- returns-14
-    (λ c. c .body5 .ensures)  -- returns-15
-    returns-16)
+    (λ c. c .body5 .ensures)  -- returns-14
+    (λ c. c .pair5 .ensures)  -- returns-15
+    (λ c. c .body6 .ensures)  -- returns-16
+    returns-17)

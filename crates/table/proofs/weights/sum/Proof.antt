@@ -15,6 +15,7 @@ sum-spec =
     (λ c. search needs)  -- add-t5: atoms: x.atoms + y.atoms,
     (λ c. search needs)  -- add-t6: nodes: x.nodes + y.nodes + 1,
     (λ c. search needs)  -- add-t7: nodes: x.nodes + y.nodes + 1,
+    (λ c. search needs)  -- add-t8: parked: x.parked + y.parked,
     (λ c κs. search needs)  -- larger-requires: height: larger(x.height, y.height) + 1,
-    (λ c. search needs)  -- add-t9: height: larger(x.height, y.height) + 1,
+    (λ c. search needs)  -- add-t10: height: larger(x.height, y.height) + 1,
     returns)

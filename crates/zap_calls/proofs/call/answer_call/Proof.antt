@@ -9,7 +9,7 @@ use borrow.Author.Needs.{needs}
 -- if is_name(&line[..name], b"check") {
 slice-aggregate-is-name : tie.Need-slice-aggregate-is-name
 slice-aggregate-is-name c =
-    let start = c .before .before .before .before .before .before .before .before .before .before .before in
+    let start = c .before .before .before .before .before .before .before .before .before .before .before .before in
     let find = c .before .before .before .before .find in
     let if1 = c .before .before .before .if1 in
     sym (length-take-le (find .result) (start .args .line .now) (omega (arith, if1 .left)))
@@ -17,7 +17,7 @@ slice-aggregate-is-name c =
 -- if is_name(&line[..name], b"start") {
 slice-aggregate-is-name-3 : tie.Need-slice-aggregate-is-name-3
 slice-aggregate-is-name-3 c =
-    let start = c .before .before .before .before .before .before .before .before .before .before .before .before .before .before .before in
+    let start = c .before .before .before .before .before .before .before .before .before .before .before .before .before .before .before .before in
     let find = c .before .before .before .before .before .before .before .before .find in
     let if1 = c .before .before .before .before .before .before .before .if1 in
     sym (length-take-le (find .result) (start .args .line .now) (omega (arith, if1 .left)))
@@ -27,7 +27,7 @@ slice-aggregate-is-name-5 : tie.Need-slice-aggregate-is-name-5
 slice-aggregate-is-name-5 c =
     let c8 = c .before .before .before .before .before .before .before .before in
     let c16 = c8 .before .before .before .before .before .before .before .before in
-    let start = c16 .before .before .before in
+    let start = c16 .before .before .before .before in
     let find = c8 .before .before .before .before .find in
     let if1 = c8 .before .before .before .if1 in
     sym (length-take-le (find .result) (start .args .line .now) (omega (arith, if1 .left)))
@@ -37,7 +37,8 @@ slice-aggregate-is-name-7 : tie.Need-slice-aggregate-is-name-7
 slice-aggregate-is-name-7 c =
     let c8 = c .before .before .before .before .before .before .before .before in
     let c16 = c8 .before .before .before .before .before .before .before .before in
-    let start = c16 .before .before .before .before .before .before .before in
+    let c24 = c16 .before .before .before .before .before .before .before .before in
+    let start = c24 in
     let find = c16 .find in
     let if1 = c8 .before .before .before .before .before .before .before .if1 in
     sym (length-take-le (find .result) (start .args .line .now) (omega (arith, if1 .left)))
@@ -48,7 +49,7 @@ slice-aggregate-is-name-9 c =
     let c8 = c .before .before .before .before .before .before .before .before in
     let c16 = c8 .before .before .before .before .before .before .before .before in
     let c24 = c16 .before .before .before .before .before .before .before .before in
-    let start = c24 .before .before .before in
+    let start = c24 .before .before .before .before in
     let find = c16 .before .before .before .before .find in
     let if1 = c16 .before .before .before .if1 in
     sym (length-take-le (find .result) (start .args .line .now) (omega (arith, if1 .left)))
@@ -60,7 +61,40 @@ answer-print-requires c κs =
     let c16 = c8 .before .before .before .before .before .before .before .before in
     let c24 = c16 .before .before .before .before .before .before .before .before in
     let c32 = c24 .before .before .before .before .before .before .before .before in
-    let start = c32 .before in
+    let start = c32 .before .before in
+    omega (arith, start .pre)
+
+-- if is_name(&line[..name], b"take") {
+slice-aggregate-is-name-11 : tie.Need-slice-aggregate-is-name-11
+slice-aggregate-is-name-11 c =
+    let c8 = c .before .before .before .before .before .before .before .before in
+    let c16 = c8 .before .before .before .before .before .before .before .before in
+    let c24 = c16 .before .before .before .before .before .before .before .before in
+    let c32 = c24 .before .before .before .before .before .before .before .before in
+    let start = c32 in
+    let find = c24 .find in
+    let if1 = c16 .before .before .before .before .before .before .before .if1 in
+    sym (length-take-le (find .result) (start .args .line .now) (omega (arith, if1 .left)))
+
+-- return answer_take(words, table, store, text, state, output);
+answer-take-requires : tie.Need-answer-take-requires
+answer-take-requires c κs =
+    let c8 = c .before .before .before .before .before .before .before .before in
+    let c16 = c8 .before .before .before .before .before .before .before .before in
+    let c24 = c16 .before .before .before .before .before .before .before .before in
+    let c32 = c24 .before .before .before .before .before .before .before .before in
+    let c40 = c32 .before .before .before .before .before .before .before .before in
+    let start = c40 in
+    omega (arith, start .pre)
+
+-- bad_line(output)
+bad-line-requires-3 : tie.Need-bad-line-requires-3
+bad-line-requires-3 c κs =
+    let c8 = c .before .before .before .before .before .before .before .before in
+    let c16 = c8 .before .before .before .before .before .before .before .before in
+    let c24 = c16 .before .before .before .before .before .before .before .before in
+    let c32 = c24 .before .before .before .before .before .before .before .before in
+    let start = c32 .before .before .before .before in
     omega (arith, start .pre)
 
 pub answer-call-spec : {M : Type 1} → statement M
@@ -100,23 +134,34 @@ answer-call-spec =
     (λ c. search needs)  -- same-length-9
     (λ c. search needs)  -- same-length-10
     (λ c. search needs)  -- same-length-11
+    (λ c. search needs)  -- same-length-12
     (λ c. search needs)  -- returns-5
     slice-aggregate-is-name-7
     (λ c. search needs)  -- slice-aggregate-is-name-8
     (λ c κs. search needs)  -- is-name-requires-4
     (λ c κs. search needs)  -- answer-read-requires: return answer_read(words, text, table, output);
-    (λ c. search needs)  -- same-length-12
     (λ c. search needs)  -- same-length-13
     (λ c. search needs)  -- same-length-14
+    (λ c. search needs)  -- same-length-15
     (λ c. search needs)  -- returns-6
     slice-aggregate-is-name-9
     (λ c. search needs)  -- slice-aggregate-is-name-10
     (λ c κs. search needs)  -- is-name-requires-5
     answer-print-requires
-    (λ c. search needs)  -- same-length-15
     (λ c. search needs)  -- same-length-16
     (λ c. search needs)  -- same-length-17
+    (λ c. search needs)  -- same-length-18
     (λ c. search needs)  -- returns-7
-    (λ c κs. search needs)  -- bad-line-requires-3: bad_line(output)
-    (λ c. search needs)  -- same-length-18: pub fn answer_call
-    (λ c. search needs))  -- returns-8
+    slice-aggregate-is-name-11
+    (λ c. search needs)  -- slice-aggregate-is-name-12
+    (λ c κs. search needs)  -- is-name-requires-6
+    answer-take-requires
+    (λ c. search needs)  -- same-length-19
+    (λ c. search needs)  -- same-length-20
+    (λ c. search needs)  -- same-length-21
+    (λ c. search needs)  -- same-length-22
+    (λ c. search needs)  -- same-length-23
+    (λ c. search needs)  -- returns-8
+    bad-line-requires-3
+    (λ c. search needs)  -- same-length-24: pub fn answer_call
+    (λ c. search needs))  -- returns-9

@@ -9,7 +9,7 @@ use lib.Seq.{length-take-le}
 -- let p = read_pair(&words[..state_end], table, state);
 slice-aggregate-read-pair : tie.Need-slice-aggregate-read-pair
 slice-aggregate-read-pair c =
-    let start = c .before .before .before .before .before .before .before .before .before .before in
+    let start = c .before .before .before .before .before .before .before .before .before .before .before in
     let find2 = c .before .before .find2 in
     let if2 = c .before .if2 in
     sym (length-take-le (find2 .result) (start .args .words .now) (omega (arith, if2 .left)))
@@ -46,4 +46,5 @@ answer-instant-spec =
     (λ c. search needs)  -- same-length-7
     (λ c. search needs)  -- same-length-8
     (λ c. search needs)  -- same-length-9
+    (λ c. search needs)  -- same-length-10
     (λ c. search needs))  -- returns-4

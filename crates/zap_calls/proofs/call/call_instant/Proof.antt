@@ -10,7 +10,7 @@ put-numbers-requires-2 c κs =
     let c8 = c .before .before .before .before .before .before .before .before in
     let c16 = c8 .before .before .before .before .before .before .before .before in
     let c24 = c16 .before .before .before .before .before .before .before .before in
-    let start = c24 in
+    let start = c24 .before .before .before .before in
     let put-numbers = c8 .before .put-numbers in
     let put-events = c .before .before .before .before .before .put-events in
     omega (arith, start .pre, put-numbers .ensures .1, put-numbers .kept .0, put-events .ensures .1, put-events .kept .0)
@@ -21,8 +21,9 @@ put-bytes-requires c κs =
     let c8 = c .before .before .before .before .before .before .before .before in
     let c16 = c8 .before .before .before .before .before .before .before .before in
     let c24 = c16 .before .before .before .before .before .before .before .before in
-    let start = c24 .before .before .before .before .before in
-    let instant = c16 .before .before .before .before .before .before .instant in
+    let c32 = c24 .before .before .before .before .before .before .before .before in
+    let start = c32 .before in
+    let instant = c24 .instant in
     let put-numbers = c8 .before .before .before .before .before .before .put-numbers in
     let put-events = c8 .before .before .put-events in
     let put-numbers2 = c .before .before .before .before .put-numbers2 in
@@ -38,15 +39,15 @@ put-bytes-requires c κs =
       instant .kept .1 .0,
     )
 
--- put_row(output, bytes, row, 10)
+-- let numbers = put_row(output, bytes, row, 32);
 put-row-requires : tie.Need-put-row-requires
 put-row-requires c κs =
     let c8 = c .before .before .before .before .before .before .before .before in
     let c16 = c8 .before .before .before .before .before .before .before .before in
     let c24 = c16 .before .before .before .before .before .before .before .before in
     let c32 = c24 .before .before .before .before .before .before .before .before in
-    let start = c32 .before .before in
-    let instant = c24 .before .before .before .instant in
+    let start = c32 .before .before .before .before .before .before in
+    let instant = c24 .before .before .before .before .before .instant in
     let put-numbers = c16 .before .before .before .put-numbers in
     let put-events = c8 .before .before .before .before .before .before .before .put-events in
     let put-numbers2 = c8 .before .put-numbers2 in
@@ -66,13 +67,47 @@ put-row-requires c κs =
       instant .kept .1 .1 .1 .1 .0,
     )
 
+-- put_bytes(output, numbers, store, 10)
+put-bytes-requires-2 : tie.Need-put-bytes-requires-2
+put-bytes-requires-2 c κs =
+    let c8 = c .before .before .before .before .before .before .before .before in
+    let c16 = c8 .before .before .before .before .before .before .before .before in
+    let c24 = c16 .before .before .before .before .before .before .before .before in
+    let c32 = c24 .before .before .before .before .before .before .before .before in
+    let c40 = c32 .before .before .before .before .before .before .before .before in
+    let start = c40 .before .before .before in
+    let instant = c32 .before .before .instant in
+    let put-numbers = c24 .put-numbers in
+    let put-events = c16 .before .before .before .before .put-events in
+    let put-numbers2 = c8 .before .before .before .before .before .before .put-numbers2 in
+    let put-bytes = c8 .before .put-bytes in
+    let put-row = c .before .before .before .before .put-row in
+    omega (
+      arith,
+      start .pre,
+      put-numbers .ensures .1,
+      put-numbers .kept .0,
+      put-events .ensures .1,
+      put-events .kept .0,
+      put-numbers2 .ensures .1,
+      put-numbers2 .kept .0,
+      instant .kept .1 .0,
+      put-bytes .ensures .1,
+      put-bytes .kept .0,
+      instant .kept .1 .1 .1 .1 .0,
+      put-row .ensures .1,
+      put-row .kept .0,
+      instant .kept .1 .1 .1 .1 .1 .0,
+    )
+
 -- fn call_instant
 same-length : tie.Need-same-length
 same-length c =
     let c8 = c .before .before .before .before .before .before .before .before in
     let c16 = c8 .before .before .before .before .before .before .before .before in
     let c24 = c16 .before .before .before .before .before .before .before .before in
-    let instant = c24 .before .before .before .before .before .before .instant in
+    let c32 = c24 .before .before .before .before .before .before .before .before in
+    let instant = c32 .before .before .before .before .before .instant in
     instant .kept .1 .0
 
 same-length-2 : tie.Need-same-length-2
@@ -80,8 +115,18 @@ same-length-2 c =
     let c8 = c .before .before .before .before .before .before .before .before in
     let c16 = c8 .before .before .before .before .before .before .before .before in
     let c24 = c16 .before .before .before .before .before .before .before .before in
-    let instant = c24 .before .before .before .before .before .before .instant in
+    let c32 = c24 .before .before .before .before .before .before .before .before in
+    let instant = c32 .before .before .before .before .before .instant in
     instant .kept .1 .1 .1 .1 .0
+
+same-length-3 : tie.Need-same-length-3
+same-length-3 c =
+    let c8 = c .before .before .before .before .before .before .before .before in
+    let c16 = c8 .before .before .before .before .before .before .before .before in
+    let c24 = c16 .before .before .before .before .before .before .before .before in
+    let c32 = c24 .before .before .before .before .before .before .before .before in
+    let instant = c32 .before .before .before .before .before .instant in
+    instant .kept .1 .1 .1 .1 .1 .0
 
 returns : tie.Need-returns
 returns c =
@@ -89,13 +134,15 @@ returns c =
     let c16 = c8 .before .before .before .before .before .before .before .before in
     let c24 = c16 .before .before .before .before .before .before .before .before in
     let c32 = c24 .before .before .before .before .before .before .before .before in
-    let start = c32 .before .before .before .before .before in
-    let instant = c24 .before .before .before .before .before .before .instant in
-    let put-numbers = c16 .before .before .before .before .before .before .put-numbers in
-    let put-events = c16 .before .before .put-events in
-    let put-numbers2 = c8 .before .before .before .before .put-numbers2 in
-    let put-bytes = c .before .before .before .before .before .before .before .put-bytes in
-    let put-row = c .before .before .put-row in
+    let c40 = c32 .before .before .before .before .before .before .before .before in
+    let start = c40 .before .before .before .before .before .before in
+    let instant = c32 .before .before .before .before .before .instant in
+    let put-numbers = c24 .before .before .before .put-numbers in
+    let put-events = c16 .before .before .before .before .before .before .before .put-events in
+    let put-numbers2 = c16 .before .put-numbers2 in
+    let put-bytes = c8 .before .before .before .before .put-bytes in
+    let put-row = c .before .before .before .before .before .before .before .put-row in
+    let put-bytes2 = c .before .before .put-bytes2 in
     omega (
       arith,
       start .pre,
@@ -104,8 +151,10 @@ returns c =
       put-numbers2 .ensures .1,
       put-bytes .ensures .1,
       put-row .ensures .1,
+      put-bytes2 .ensures .1,
       instant .kept .1 .0,
       instant .kept .1 .1 .1 .1 .0,
+      instant .kept .1 .1 .1 .1 .1 .0,
     )
 
 pub call-instant-spec : {M : Type 1} → statement M
@@ -121,7 +170,9 @@ call-instant-spec =
     put-numbers-requires-2
     put-bytes-requires
     put-row-requires
+    put-bytes-requires-2
     same-length
     same-length-2
-    (λ c. search needs)  -- same-length-3
+    same-length-3
+    (λ c. search needs)  -- same-length-4
     returns)

@@ -1,4 +1,4 @@
--- `put_check` meets its contract: five numbers have room.
+-- `put_check` meets its contract: six numbers have room.
 use native.Mathlib.Omega.{arith}
 use Rattle.letters.proofs.Decimal.{decimal-length}
 use Rattle.letters.proofs.Puts.{number-end}
@@ -6,12 +6,12 @@ use Rattle.zap_calls.proofs.call.put_check.Statement.{statement}
 use Rattle.zap_calls.proofs.call.put_check.Tie as tie
 use borrow.Author.Needs.{needs}
 
--- letters::put_number(output, to, w as u64, 10)
+-- letters::put_number(output, to, f as u64, 10)
 put-number-requires : tie.Need-put-number-requires
 put-number-requires c κs =
     let start = c .before .before .before .before .before .before .before in
     let put-numbers = c .before .before .before .put-numbers in
-    omega (arith, start .pre, put-numbers .ensures .1, put-numbers .kept .0, decimal-length 19 (start .args .w) (omega arith))
+    omega (arith, start .pre, put-numbers .ensures .1, put-numbers .kept .0, decimal-length 19 (start .args .f) (omega arith))
 
 -- fn put_check
 returns : tie.Need-returns
@@ -19,7 +19,7 @@ returns c =
     let start = c .before .before .before .before .before .before .before .before .before .before in
     let put-numbers = c .before .before .before .before .before .before .put-numbers in
     let put-number = c .before .before .put-number in
-    omega (arith, start .pre, put-numbers .ensures .1, number-end 19 (start .args .w) 10 (omega arith) (put-number .ensures))
+    omega (arith, start .pre, put-numbers .ensures .1, number-end 19 (start .args .f) 10 (omega arith) (put-number .ensures))
 
 pub put-check-spec : {M : Type 1} → statement M
 put-check-spec =

@@ -9,7 +9,7 @@ use lib.Seq.{length-take-le}
 -- let v = read_bytes(&words[..b], &mut values);
 slice-aggregate-read-bytes : tie.Need-slice-aggregate-read-bytes
 slice-aggregate-read-bytes c =
-    let start = c .before .before .before .before .before .before .before .before in
+    let start = c .before .before .before .before .before .before .before .before .before in
     let find = c .before .before .find in
     let if1 = c .before .if1 in
     sym (length-take-le (find .result) (start .args .words .now) (omega (arith, if1 .left)))
@@ -27,19 +27,13 @@ with-events-spec =
     (λ c κs. search needs)  -- bad-line-requires-2: return bad_line(output);
     (λ c. search needs)  -- same-length-2
     (λ c. search needs)  -- returns-2
-    (λ c. search needs)  -- add-read-row: let r = read_row(&words[b + 1..], row);
-    (λ c. search needs)  -- sub-read-row
-    (λ c. search needs)  -- part-read-row-start
-    (λ c. search needs)  -- part-read-row-end
-    (λ c κs. search needs)  -- read-row-requires
-    (λ c κs. search needs)  -- bad-line-requires-3: return bad_line(output);
-    (λ c. search needs)  -- same-length-3
+    (λ c. search needs)  -- add-with-values: &words[b + 1..],
+    (λ c. search needs)  -- sub-with-values
+    (λ c. search needs)  -- part-with-values-start
+    (λ c. search needs)  -- part-with-values-end
+    (λ c κs. search needs)  -- with-values-requires: with_values(
+    (λ c. search needs)  -- same-length-3: fn with_events
     (λ c. search needs)  -- same-length-4
-    (λ c. search needs)  -- returns-3
-    (λ c. search needs)  -- slice-relend-prefix-call-instant: call_instant(table, state, handed_in, &values,..
-    (λ c. search needs)  -- slice-aggregate-call-instant
-    (λ c κs. search needs)  -- call-instant-requires
-    (λ c. search needs)  -- same-length-5: fn with_events
+    (λ c. search needs)  -- same-length-5
     (λ c. search needs)  -- same-length-6
-    (λ c. search needs)  -- same-length-7
-    (λ c. search needs))  -- returns-4
+    (λ c. search needs))  -- returns-3

@@ -9,7 +9,7 @@ use lib.Seq.{length-take-le}
 -- let e = read_list(&words[..b]);
 slice-aggregate-read-list : tie.Need-slice-aggregate-read-list
 slice-aggregate-read-list c =
-    let start = c .before .before .before .before .before .before .before .before in
+    let start = c .before .before .before .before .before .before .before .before .before in
     let find = c .before .before .find in
     let if1 = c .before .if1 in
     sym (length-take-le (find .result) (start .args .words .now) (omega (arith, if1 .left)))
@@ -34,4 +34,5 @@ with-state-spec =
     (λ c. search needs)  -- same-length-3: fn with_state
     (λ c. search needs)  -- same-length-4
     (λ c. search needs)  -- same-length-5
+    (λ c. search needs)  -- same-length-6
     (λ c. search needs))  -- returns-3

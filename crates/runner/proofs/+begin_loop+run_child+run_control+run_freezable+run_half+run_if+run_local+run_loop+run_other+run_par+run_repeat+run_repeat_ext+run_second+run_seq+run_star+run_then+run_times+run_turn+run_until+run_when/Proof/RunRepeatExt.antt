@@ -1,0 +1,330 @@
+-- A RepeatExt meets its contract: 001's "Extended Repeat", then as a Repeat.
+use Rattle.runner.proofs as proofs
+use proofs.+begin_loop+run_child+run_control+run_freezable+run_half+run_if+run_local+run_loop+run_other+run_par+run_repeat+run_repeat_ext+run_second+run_seq+run_star+run_then+run_times+run_turn+run_until+run_when as cycle
+use cycle.Lts-run_repeat_ext as lts
+use proofs.run_repeat_ext.Reads.{Pre, Post}
+use cycle.Proof.Measures.{exactly, smaller, μ-run-repeat-ext, μ-run-times}
+use Rattle.table.proofs.records.argument_at.Reads as argument-at-reads
+use Rattle.table.proofs.records.kind_at.Reads as kind-at-reads
+use borrow.Fn.Kinds.{In, Out}
+use Prim.Native.Nat.{ℕ}
+use borrow.Author.Needs.{needs}
+use mathlib.Core.Path.{refl}
+use lib.Dec.{lit<}
+use native.Mathlib.Omega.{arith}
+use Rattle.steps.proofs.Ended.{done-run}
+use Rattle.steps.proofs.Dispatch.{few-nodes, kind-reads, argument-reads, phase-reads, own-reads, to-kind, by-kind}
+use Rattle.runner.proofs.Falling.{lower-rank, lighter, form-rank, last-rank}
+use proofs.RepeatRuns.{turns-asked, ext-none, ext-turn, ext-by, numbers-long, times-body, times-own, times-wait, times-end, times-next, times-then}
+use proofs.Indices.{own-fits, byte-fits}
+
+module _ (t : ℕ) where
+  abbrev given : lts.Claims
+  given = (
+    argument-at-reads.Asked,
+    argument-at-reads.Learnt,
+    Rattle.steps.proofs.numbers.times_asked.Reads.Asked,
+    Rattle.steps.proofs.numbers.times_asked.Reads.Learnt,
+    Rattle.steps.proofs.phases.turns_of.Reads.Asked,
+    Rattle.steps.proofs.phases.turns_of.Reads.Learnt,
+    kind-at-reads.Asked,
+    kind-at-reads.Learnt,
+    smaller proofs.run_repeat_ext.Kinds.ps μ-run-repeat-ext proofs.run_repeat_ext.Reads.Pre t,
+    proofs.run_repeat_ext.Reads.Post,
+    Rattle.steps.proofs.phases.begin_turn.Reads.Asked,
+    Rattle.steps.proofs.phases.begin_turn.Reads.Learnt,
+    Rattle.steps.proofs.phases.end_turns.Reads.Asked,
+    Rattle.steps.proofs.phases.end_turns.Reads.Learnt,
+    smaller proofs.run_times.Kinds.ps μ-run-times proofs.run_times.Reads.Pre t,
+    proofs.run_times.Reads.Post,
+  )
+
+  abbrev Of : (lts.Claims → In 9 lts.ps → Out 9 lts.ps lts.r → Type 0) → Type 0
+  Of N = N given (exactly lts.ps μ-run-repeat-ext Pre t) Post
+
+  -- times_asked(numbers, argument_at(*table, i)),
+  times-asked-requires : Of lts.Need-times-asked-requires
+  times-asked-requires c κs =
+      let start = c .before .before .before .before .before in
+      numbers-long (start .pre .1)
+
+  -- state[4 * i + COUNT + 1],
+  index-1-turns-of-2 : Of lts.Need-index-1-turns-of-2
+  index-1-turns-of-2 c =
+      let start = c .before .before .before .before .before .before .before in
+      let l = own-reads (start .pre .1) 3 (lit< tt) in
+      omega arith
+
+  -- return TERM;
+  returns-2 : Of lts.Need-returns-2
+  returns-2 c =
+      let start = c .before .before .before .before .before .before .before .before .before .before in
+      let if1 = c .before .before .before .before .before .before .before .before .if1 in
+      let argument-at = c .before .before .before .before .before .argument-at in
+      let times-asked = c .before .before .before .before .times-asked in
+      let turns-of = c .before .turns-of in
+      let if2 = c .if2 in
+      let A = start .args in
+      let is =
+      turns-asked (A .table .now .now) (A .i) (A .state .now .now) (A .numbers .now) (argument-at .ensures .0) (times-asked .ensures)
+      (turns-of .ensures) in
+      (ext-none (if1 .left) is (if2 .taken), (refl, refl, refl))
+
+  -- if kind_at(*table, i + 1) == kinds::REPEAT_EXT {
+  kind-at-requires : Of lts.Need-kind-at-requires
+  kind-at-requires c κs =
+      let start = c .before .before .before .before .before .before .before .before .before .before .before in
+      let if1 = c .before .before .before .before .before .before .before .before .before .if1 in
+      let argument-at = c .before .before .before .before .before .before .argument-at in
+      let times-asked = c .before .before .before .before .before .times-asked in
+      let turns-of = c .before .before .turns-of in
+      let if2 = c .before .if2 in
+      let A = start .args in
+      let is =
+      turns-asked (A .table .now .now) (A .i) (A .state .now .now) (A .numbers .now) (argument-at .ensures .0) (times-asked .ensures)
+      (turns-of .ensures) in
+      let (o, z) = ext-turn (if1 .left) is (if2 .left) (start .pre .1) in
+      kind-reads (times-body o .1)
+
+  -- let f = run_repeat_ext(table, i + 1, state, numbers, atoms, store);
+  run-repeat-ext-requires : Of lts.Need-run-repeat-ext-requires
+  run-repeat-ext-requires c κs =
+      let start = c .before .before .before .before .before .before .before .before .before .before .before .before .before .before .before .before .before in
+      let if1 = c .before .before .before .before .before .before .before .before .before .before .before .before .before .before .before .if1 in
+      let argument-at = c .before .before .before .before .before .before .before .before .before .before .before .before .argument-at in
+      let times-asked = c .before .before .before .before .before .before .before .before .before .before .before .times-asked in
+      let turns-of = c .before .before .before .before .before .before .before .before .turns-of in
+      let if2 = c .before .before .before .before .before .before .before .if2 in
+      let kind-at = c .before .before .before .before .before .kind-at in
+      let if3 = c .before .before .before .before .if3 in
+      let A = start .args in
+      let is =
+      turns-asked (A .table .now .now) (A .i) (A .state .now .now) (A .numbers .now) (argument-at .ensures .0) (times-asked .ensures)
+      (turns-of .ensures) in
+      let (o, z) = ext-turn (if1 .left) is (if2 .left) (start .pre .1) in
+      let (l, s) = times-body o in
+      (lighter form-rank form-rank (lit< tt) l (start .pre .0), to-kind (kind-at .ensures .0) (if3 .taken) s)
+
+  -- begin_turn(*state, 4 * i, left);
+  mul-begin-turn : Of lts.Need-mul-begin-turn
+  mul-begin-turn c =
+      let c8 = c .before .before .before .before .before .before .before .before in
+      let c16 = c8 .before .before .before .before .before .before .before .before in
+      let start = c16 .before .before .before .before in
+      own-fits (start .pre .1)
+
+  begin-turn-requires : Of lts.Need-begin-turn-requires
+  begin-turn-requires c κs =
+      let c8 = c .before .before .before .before .before .before .before .before in
+      let c16 = c8 .before .before .before .before .before .before .before .before in
+      let start = c16 .before .before .before .before in
+      let if1 = c16 .before .before .if1 in
+      let argument-at = c8 .before .before .before .before .before .before .before .argument-at in
+      let times-asked = c8 .before .before .before .before .before .before .times-asked in
+      let turns-of = c8 .before .before .before .turns-of in
+      let if2 = c8 .before .before .if2 in
+      let kind-at = c8 .kind-at in
+      let if3 = c .before .before .before .before .before .before .before .if3 in
+      let run-repeat-ext = c .before .before .run-repeat-ext in
+      let A = start .args in
+      let is =
+      turns-asked (A .table .now .now) (A .i) (A .state .now .now) (A .numbers .now) (argument-at .ensures .0) (times-asked .ensures)
+      (turns-of .ensures) in
+      let (o, z) = ext-turn (if1 .left) is (if2 .left) (start .pre .1) in
+      let body = by-kind (kind-at .ensures .0) (if3 .taken) (run-repeat-ext .ensures .0) in
+      times-own body o
+
+  -- return f;
+  returns-3 : Of lts.Need-returns-3
+  returns-3 c =
+      let c8 = c .before .before .before .before .before .before .before .before in
+      let c16 = c8 .before .before .before .before .before .before .before .before in
+      let start = c16 .before .before .before .before .before in
+      let if1 = c16 .before .before .before .if1 in
+      let argument-at = c16 .argument-at in
+      let times-asked = c8 .before .before .before .before .before .before .before .times-asked in
+      let turns-of = c8 .before .before .before .before .turns-of in
+      let if2 = c8 .before .before .before .if2 in
+      let kind-at = c8 .before .kind-at in
+      let if3 = c8 .if3 in
+      let run-repeat-ext = c .before .before .before .run-repeat-ext in
+      let if4 = c .before .before .if4 in
+      let begin-turn = c .begin-turn in
+      let A = start .args in
+      let is =
+      turns-asked (A .table .now .now) (A .i) (A .state .now .now) (A .numbers .now) (argument-at .ensures .0) (times-asked .ensures)
+      (turns-of .ensures) in
+      let (o, z) = ext-turn (if1 .left) is (if2 .left) (start .pre .1) in
+      let body = by-kind (kind-at .ensures .0) (if3 .taken) (run-repeat-ext .ensures .0) in
+      (ext-by (if1 .left) is (if2 .left) (times-wait body z (if4 .taken) (begin-turn .ensures)), search needs)
+
+  -- end_turns(*state, 4 * i);
+  mul-end-turns : Of lts.Need-mul-end-turns
+  mul-end-turns c =
+      let c8 = c .before .before .before .before .before .before .before .before in
+      let c16 = c8 .before .before .before .before .before .before .before .before in
+      let start = c16 .before .before .before .before .before in
+      omega (arith, few-nodes (start .pre .1))
+
+  end-turns-requires : Of lts.Need-end-turns-requires
+  end-turns-requires c κs =
+      let c8 = c .before .before .before .before .before .before .before .before in
+      let c16 = c8 .before .before .before .before .before .before .before .before in
+      let start = c16 .before .before .before .before .before in
+      let if1 = c16 .before .before .before .if1 in
+      let argument-at = c16 .argument-at in
+      let times-asked = c8 .before .before .before .before .before .before .before .times-asked in
+      let turns-of = c8 .before .before .before .before .turns-of in
+      let if2 = c8 .before .before .before .if2 in
+      let kind-at = c8 .before .kind-at in
+      let if3 = c8 .if3 in
+      let run-repeat-ext = c .before .before .before .run-repeat-ext in
+      let A = start .args in
+      let is =
+      turns-asked (A .table .now .now) (A .i) (A .state .now .now) (A .numbers .now) (argument-at .ensures .0) (times-asked .ensures)
+      (turns-of .ensures) in
+      let (o, z) = ext-turn (if1 .left) is (if2 .left) (start .pre .1) in
+      let body = by-kind (kind-at .ensures .0) (if3 .taken) (run-repeat-ext .ensures .0) in
+      times-own body o .0
+
+  -- return TERM;
+  returns-4 : Of lts.Need-returns-4
+  returns-4 c =
+      let c8 = c .before .before .before .before .before .before .before .before in
+      let c16 = c8 .before .before .before .before .before .before .before .before in
+      let start = c16 .before .before .before .before .before .before in
+      let if1 = c16 .before .before .before .before .if1 in
+      let argument-at = c16 .before .argument-at in
+      let times-asked = c16 .times-asked in
+      let turns-of = c8 .before .before .before .before .before .turns-of in
+      let if2 = c8 .before .before .before .before .if2 in
+      let kind-at = c8 .before .before .kind-at in
+      let if3 = c8 .before .if3 in
+      let run-repeat-ext = c .before .before .before .before .run-repeat-ext in
+      let if4 = c .before .before .before .if4 in
+      let if5 = c .before .before .if5 in
+      let end-turns = c .end-turns in
+      let A = start .args in
+      let is =
+      turns-asked (A .table .now .now) (A .i) (A .state .now .now) (A .numbers .now) (argument-at .ensures .0) (times-asked .ensures)
+      (turns-of .ensures) in
+      let (o, z) = ext-turn (if1 .left) is (if2 .left) (start .pre .1) in
+      let body = by-kind (kind-at .ensures .0) (if3 .taken) (run-repeat-ext .ensures .0) in
+      (ext-by (if1 .left) is (if2 .left) (times-end body z (if4 .left) (if5 .taken) (end-turns .ensures)), search needs)
+
+  -- return run_times(table, i, state, numbers, atoms, store, left - 1);
+  run-times-requires : Of lts.Need-run-times-requires
+  run-times-requires c κs =
+      let c8 = c .before .before .before .before .before .before .before .before in
+      let c16 = c8 .before .before .before .before .before .before .before .before in
+      let start = c16 .before .before .before .before .before .before .before .before in
+      let if1 = c16 .before .before .before .before .before .before .if1 in
+      let argument-at = c16 .before .before .before .argument-at in
+      let times-asked = c16 .before .before .times-asked in
+      let turns-of = c8 .before .before .before .before .before .before .before .turns-of in
+      let if2 = c8 .before .before .before .before .before .before .if2 in
+      let kind-at = c8 .before .before .before .before .kind-at in
+      let if3 = c8 .before .before .before .if3 in
+      let run-repeat-ext = c .before .before .before .before .before .before .run-repeat-ext in
+      let if4 = c .before .before .before .before .before .if4 in
+      let if5 = c .before .before .before .before .if5 in
+      let A = start .args in
+      let is =
+      turns-asked (A .table .now .now) (A .i) (A .state .now .now) (A .numbers .now) (argument-at .ensures .0) (times-asked .ensures)
+      (turns-of .ensures) in
+      let (o, z) = ext-turn (if1 .left) is (if2 .left) (start .pre .1) in
+      let body = by-kind (kind-at .ensures .0) (if3 .taken) (run-repeat-ext .ensures .0) in
+      (lower-rank _ form-rank last-rank (lit< tt) (start .pre .0), times-next body (if4 .left) (if5 .left) o z)
+
+  returns-5 : Of lts.Need-returns-5
+  returns-5 c =
+      let c8 = c .before .before .before .before .before .before .before .before in
+      let c16 = c8 .before .before .before .before .before .before .before .before in
+      let start = c16 .before .before .before .before .before .before .before .before .before in
+      let if1 = c16 .before .before .before .before .before .before .before .if1 in
+      let argument-at = c16 .before .before .before .before .argument-at in
+      let times-asked = c16 .before .before .before .times-asked in
+      let turns-of = c16 .turns-of in
+      let if2 = c8 .before .before .before .before .before .before .before .if2 in
+      let kind-at = c8 .before .before .before .before .before .kind-at in
+      let if3 = c8 .before .before .before .before .if3 in
+      let run-repeat-ext = c .before .before .before .before .before .before .before .run-repeat-ext in
+      let if4 = c .before .before .before .before .before .before .if4 in
+      let if5 = c .before .before .before .before .before .if5 in
+      let run-times = c .run-times in
+      let A = start .args in
+      let is =
+      turns-asked (A .table .now .now) (A .i) (A .state .now .now) (A .numbers .now) (argument-at .ensures .0) (times-asked .ensures)
+      (turns-of .ensures) in
+      let body = by-kind (kind-at .ensures .0) (if3 .taken) (run-repeat-ext .ensures .0) in
+      (ext-by (if1 .left) is (if2 .left) (times-then body (if4 .left) (if5 .left) (run-times .ensures .0)), search needs)
+
+  -- run_times(table, i, state, numbers, atoms, store, left)
+  run-times-requires-2 : Of lts.Need-run-times-requires-2
+  run-times-requires-2 c κs =
+      let start = c .before .before .before .before .before .before .before .before .before .before .before .before .before .before .before .before .before in
+      let if1 = c .before .before .before .before .before .before .before .before .before .before .before .before .before .before .before .if1 in
+      let argument-at = c .before .before .before .before .before .before .before .before .before .before .before .before .argument-at in
+      let times-asked = c .before .before .before .before .before .before .before .before .before .before .before .times-asked in
+      let turns-of = c .before .before .before .before .before .before .before .before .turns-of in
+      let if2 = c .before .before .before .before .before .before .before .if2 in
+      let A = start .args in
+      let is =
+      turns-asked (A .table .now .now) (A .i) (A .state .now .now) (A .numbers .now) (argument-at .ensures .0) (times-asked .ensures)
+      (turns-of .ensures) in
+      (lower-rank _ form-rank last-rank (lit< tt) (start .pre .0), ext-turn (if1 .left) is (if2 .left) (start .pre .1))
+
+  -- fn run_repeat_ext
+  returns-6 : Of lts.Need-returns-6
+  returns-6 c =
+      let c8 = c .before .before .before .before .before .before .before .before in
+      let c16 = c8 .before .before .before .before .before .before .before .before in
+      let start = c16 .before .before in
+      let if1 = c16 .if1 in
+      let argument-at = c8 .before .before .before .before .before .argument-at in
+      let times-asked = c8 .before .before .before .before .times-asked in
+      let turns-of = c8 .before .turns-of in
+      let if2 = c8 .if2 in
+      let run-times2 = c .run-times2 in
+      let A = start .args in
+      let is =
+      turns-asked (A .table .now .now) (A .i) (A .state .now .now) (A .numbers .now) (argument-at .ensures .0) (times-asked .ensures)
+      (turns-of .ensures) in
+      (ext-by (if1 .left) is (if2 .left) (run-times2 .ensures .0), run-times2 .ensures .1)
+
+  pub closed : {M : Type 1} → lts.Closed given (exactly lts.ps μ-run-repeat-ext Pre t) Post M
+  closed = lts.spec given (exactly lts.ps μ-run-repeat-ext Pre t) Post
+      (λ c. own-fits (c .pre .1))  -- mul-phase: let phase = state[4 * i];
+      (λ c. phase-reads (c .pre .1))  -- index-1-phase
+      (λ c. own-fits (c .before .before .pre .1))  -- mul-state: state[4 * i] = 0;
+      (λ c. phase-reads (c .before .before .pre .1))  -- index-1-state
+      (λ c. (done-run (c .if1 .taken), (refl, refl, refl)))  -- returns: return TERM;
+      (λ c κs. argument-reads (c .before .before .before .before .pre .1))  -- argument-at-requires: times_asked(numbers, argument_at(*table, i)),
+      times-asked-requires
+      (λ c. own-fits (c .before .before .before .before .before .before .pre .1))  -- mul-turns-of: state[4 * i + COUNT],
+      (λ c. byte-fits (c .before .before .before .before .before .before .pre .1) 2 (lit< tt))  -- add-turns-of
+      (λ c. own-reads (c .before .before .before .before .before .before .pre .1) 2 (lit< tt))  -- index-1-turns-of
+      (λ c. search needs)  -- mul-turns-of-2: state[4 * i + COUNT + 1],
+      (λ c. search needs)  -- add-turns-of-2
+      (λ c. search needs)  -- add-turns-of-3
+      index-1-turns-of-2
+      (λ c κs. tt)  -- turns-of-requires: let turns = turns_of(
+      returns-2
+      (λ c. search needs)  -- sub-left: let left = turns - 1;
+      (λ c. search needs)  -- add-kind-at: if kind_at(*table, i + 1) == kinds::REPEAT_EXT {
+      kind-at-requires
+      (λ c. search needs)  -- add-run-repeat-ext: let f = run_repeat_ext(table, i + 1, state, numbers, atoms, store);
+      run-repeat-ext-requires
+      (λ c. search needs)  -- slice-aggregate-begin-turn: begin_turn(*state, 4 * i, left);
+      mul-begin-turn
+      begin-turn-requires
+      returns-3
+      (λ c. search needs)  -- slice-aggregate-end-turns: end_turns(*state, 4 * i);
+      mul-end-turns
+      end-turns-requires
+      returns-4
+      (λ c. search needs)  -- sub-run-times: return run_times(table, i, state, numbers, atoms, store, left..
+      run-times-requires
+      returns-5
+      run-times-requires-2
+      returns-6

@@ -1,0 +1,2 @@
+-- The law of the program that takes.
+pub mod Within
