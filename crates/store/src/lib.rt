@@ -7,13 +7,13 @@ ghost use lib.Dec.{eqb};
 ghost use lib.ListN.{length, drop};
 ghost use Rattle.table.specs.Inside.{Loaded};
 ghost use Rattle.store.specs.Store.{inUse, eventOf, two, storeGood, storeRoom, newest, without};
-use bytes::close_gap;
-use bytes::put_word;
 use table::records::size_at;
 use table::records::word_at;
+use writing::close_gap;
+use writing::put_word;
 
-pub mod bytes;
 pub mod good;
+pub mod writing;
 
 // How many bytes of pieces there is room for.
 pub fn room_of(store: &[u8]) -> usize

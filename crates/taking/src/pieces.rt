@@ -8,7 +8,7 @@ ghost use Rattle.table.specs.Bytes.{trailer};
 ghost use Rattle.table.specs.Part.{partTable, partLength};
 ghost use Rattle.table.specs.Inside.{Loaded};
 ghost use Rattle.taking.specs.Inside.{behindNodes};
-use store::bytes::copy;
+use store::writing::copy;
 use table::records::size_at;
 use table::records::word_at;
 

@@ -6,8 +6,8 @@ use native.Mathlib.Omega.{arith}
 use lib.ListN.{length, take, drop, length-set}
 use Rattle.store.proofs.Moved.{moves-more, to-end}
 use borrow.Author.Needs.{needs}
-use Rattle.store.proofs.bytes.close_gap.Statement.{statement}
-use Rattle.store.proofs.bytes.close_gap.Tie as tie
+use Rattle.store.proofs.writing.close_gap.Statement.{statement}
+use Rattle.store.proofs.writing.close_gap.Tie as tie
 
 abbrev Inv-loop : tie.InvT-loop
 Inv-loop part₀ n rest k₀ part k =

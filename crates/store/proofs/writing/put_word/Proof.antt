@@ -2,8 +2,8 @@
 use Prim.Native.Nat.{_/_, _%_}
 use Rattle.store.proofs.Moved.{two-set}
 use borrow.Author.Needs.{needs}
-use Rattle.store.proofs.bytes.put_word.Statement.{statement}
-use Rattle.store.proofs.bytes.put_word.Tie as tie
+use Rattle.store.proofs.writing.put_word.Statement.{statement}
+use Rattle.store.proofs.writing.put_word.Tie as tie
 
 -- pub fn put_word
 returns : tie.Need-returns

@@ -7,8 +7,8 @@ use lib.ListN.{length, take, drop, length-set}
 use lib.Seq.{take-length}
 use Rattle.store.proofs.Moved.{copies-more}
 use borrow.Author.Needs.{needs}
-use Rattle.store.proofs.bytes.copy.Statement.{statement}
-use Rattle.store.proofs.bytes.copy.Tie as tie
+use Rattle.store.proofs.writing.copy.Statement.{statement}
+use Rattle.store.proofs.writing.copy.Tie as tie
 
 abbrev Inv-loop : tie.InvT-loop
 Inv-loop from room₀ k₀ k-end room k =
