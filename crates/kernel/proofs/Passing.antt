@@ -1,5 +1,5 @@
 -- An instant in the code's hands: what holds before each pass, what a pass that suspends leaves of it, and what one that ends it gives.
-use Prim.Native.Nat.{ℕ, suc, _+_, _-_, _*_, _≤_, _<_}
+use Prim.Native.Nat.{ℕ, zero, suc, _+_, _-_, _*_, _≤_, _<_}
 use mathlib.Core.Bool.{Bool, true, false, cond, false≢true}
 use mathlib.Core.Path.{_≡_, refl, ap, sym, subst, _∙_}
 use mathlib.Core.Logic.{_≢_}
@@ -16,7 +16,7 @@ use Rattle.events.specs.declared.EventSet.{EventSet}
 use Rattle.events.specs.Events.{Events, howMany, lowest}
 use Rattle.events.specs.Members.{places, marks, members}
 use Rattle.junior.specs.declared.Flag.{Flag}
-use Rattle.junior.specs.declared.Flag.the-variants.{SUSP, TERM}
+use Rattle.junior.specs.declared.Flag.the-variants.{SUSP, STOP, TERM}
 use Rattle.junior.specs.Values.{Values}
 use Rattle.junior.specs.Configuration.{Env, handed-in, unmoved, declared-end}
 use Rattle.junior.specs.Program.{Program, size}
@@ -44,6 +44,7 @@ use Rattle.state.proofs.Parts.{len-bytes}
 use Rattle.state.proofs.Pieces.{pieces-++}
 use Rattle.store.specs.Store.{two}
 use Rattle.steps.specs.Running.{atoms-done, bytes-parked, envOf, valuesIn, Rooms, rooms-of, Any, Ready, Ran, Wrote, something-moved, end-declared}
+use Rattle.steps.specs.Running.{ended as ended-in}
 use Rattle.table.specs.Reading.{event-words}
 use Rattle.steps.specs.Numbers.{moved-at, ended-at, places-of-row, wordsOf, tallyOf, firstNumbers, nextNumbers, Numbers}
 use Rattle.steps.specs.Flags.{flagOf}
@@ -350,18 +351,33 @@ ended-bytes p = let e : 4 * size p ≡ suc (suc (suc (suc (4 * size p - 4)))) = 
 module _ {table : List ℕ} {t₀ : Term} {X : Events} {value : Values} {rooms₀ : Rooms} {state words : List ℕ} {rooms : Rooms} {tally : List ℕ}
     {passes : ℕ} (u : Underway table t₀ X value rooms₀ state words rooms tally passes) {state′ words′ : List ℕ} {rooms′ : Rooms}
     {tally′ : List ℕ} where
-  pub marked-ended : (ran : Ran root (u .term) words rooms tally state′ words′ rooms′ tally′ TERM) → set state′ 0 3 ≡ stateBytes (ran .to)
+  marked-ended : (ran : Ran root (u .term) words rooms tally state′ words′ rooms′ tally′ TERM) → set state′ 0 3 ≡ stateBytes (ran .to)
   unfolding prog
   marked-ended ran =
       let (p, e) = stands (ran .rewrites) (u .ready .going) in
       rw (ran .bytes, e) (ended-bytes p)
 
+  -- and so what any pass leaves is the term's bytes, node 0 being marked if it has ended
+  pub left-bytes : (α : Flag) (ran : Ran root (u .term) words rooms tally state′ words′ rooms′ tally′ α)
+      → ended-in α 0 3 state′ ≡ stateBytes (ran .to)
+  left-bytes SUSP ran = ran .bytes
+  left-bytes STOP ran = ran .bytes
+  left-bytes TERM ran = marked-ended ran
+
   -- node 0 has bytes
-  pub some-bytes : Ran root (u .term) words rooms tally state′ words′ rooms′ tally′ TERM → 0 < length state′
-  some-bytes ran =
+  pub some-bytes : (α : Flag) → Ran root (u .term) words rooms tally state′ words′ rooms′ tally′ α → 0 < length state′
+  some-bytes SUSP ran = omega (arith, ap length (ran .bytes) ∙ len-bytes (ran .to), size-pos (prog (ran .to)))
+  some-bytes STOP ran = omega (arith, ap length (ran .bytes) ∙ len-bytes (ran .to), size-pos (prog (ran .to)))
+  some-bytes TERM ran =
       let p = prog (ran .to) in
       let n = ap length (ran .bytes) ∙ length-replicate {A = ℕ} (4 * size p) 0 in
       omega (arith, size-pos p)
+
+-- whether the program has finished, by the flag's number
+pub finished-by : (f : ℕ) → f < 3 → eqb f 2 ≡ ended-by (flagOf f)
+finished-by zero l = refl
+finished-by (suc zero) l = refl
+finished-by (suc (suc n)) l = let none : n ≡ 0 = omega arith in rw none
 
 -- the answer of an instant that has ended
 pub run-of : {t s row₀ free₀ state words : List ℕ} {rooms : Rooms} {tally : List ℕ} {X : Events} {passes : ℕ} {value : Values}
@@ -460,6 +476,10 @@ module _ {table : List ℕ} {t₀ : Term} {X : Events} {value : Values} {rooms�
         let all : went .part′ ≡ state′ = sym (went .around .split ∙ append-nil (went .part′)) in
         rw (all, e) at (went .runs (u .term) tt (u .ready) root refl)
 
+    -- by a flag
+    pub some-flag : r < 3
+    some-flag = went .below
+
     pub row-holds : Numbers table m′
     row-holds = still n (went .kept)
 
@@ -482,16 +502,15 @@ module _ {table : List ℕ} {t₀ : Term} {X : Events} {value : Values} {rooms�
       leads-if : LeadsIfStill table state′ m′
       leads-if = (row-holds .long, λ z. let (w, l, first) = leads u ran (le-ltb 0 (getD m′ moved-at 0) (omega arith)) in (w, l))
 
-    pub can-look : r ≢ 1 → r ≢ 2 → LeadsIfStill table state′ m′
-    can-look x y = let suspended : r ≡ 0 = omega (arith, went .below) in leads-if (ran-by (ap flagOf suspended))
+    pub can-look : r ≡ 0 → LeadsIfStill table state′ m′
+    can-look suspended = leads-if (ran-by (ap flagOf suspended))
 
-    -- neither STOP nor TERM: another pass
-    pub goes-by : r ≢ 1 → r ≢ 2
+    -- SUSP: another pass
+    pub goes-by : r ≡ 0
         → (v : Underway table t₀ X value rooms₀ state′ (wordsOf (nextNumbers m′)) rooms′ (tallyOf (nextNumbers m′)) (passes + 1))
         × ((before after : W.Wait) → Names before (u .named) → WaitsAfter table state′ m′ before after → Names after (v .named))
     unfolding goes ran-by went
-    goes-by x y =
-        let suspended : r ≡ 0 = omega (arith, went .below) in
+    goes-by suspended =
         rw (next-words m′, next-tallied m′ (row-holds .long))
         (goes u (ran-by (ap flagOf suspended)), λ before after n a. names-after (ran-by (ap flagOf suspended)) n a)
 

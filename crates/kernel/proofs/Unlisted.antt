@@ -1,20 +1,24 @@
 -- The lowest event from v on that words mark, found by the trailing zeros of the words from there on.
-use mathlib.Core.Path.{_≡_, refl, sym, ap, subst, _∙_}
+use mathlib.Core.Path.{_≡_, refl, sym, ap, subst, fun-ext, _∙_}
 use mathlib.Core.Bool.{Bool, true, false, _&&_, and-false, false≢true}
-use mathlib.Core.List.{List}
-use Prim.Native.Nat.{ℕ, _+_, _-_, _*_, _/_, _%_, _^_, _≤_, _<_}
+use mathlib.Core.List.{List, [], _∷_}
+use Prim.Native.Nat.{ℕ, zero, suc, _+_, _-_, _*_, _/_, _%_, _^_, _≤_, _<_}
 use native.Mathlib.Omega.{arith}
 use native.Mathlib.Nat.{div-eq-of-lt, lt-of-lt-of-le}
 use lib.Dec.{eqb, ltb, leb}
-use lib.ListN.{getD}
+use native.Mathlib.Numerals.{add-one}
+use lib.ListN.{length, getD, drop, drop-of-length-le}
+use lib.Seq.{drop-cons, getD-drop}
+use lib.Bits.{bitOr, or-add-and, and-le-l, and-le-r}
 use lib.Pow.{pow-mono, shr-shr}
 use lib.Count.{trailingZeros}
-use borrow.Author.Tests.{ltb-true, ltb-false, leb-true, le-leb}
+use borrow.Author.Tests.{ltb-true, ltb-false, leb-true, leb-false, le-leb}
 use Rattle.events.specs.Events.{lowest}
 use Rattle.events.specs.Members.{places, marks}
 use Rattle.events.proofs.Bits.{digits, digits-at, digits-lowest}
 use Rattle.events.proofs.Events.{before-lowest, at-lowest, lowest-is}
 use Rattle.events.proofs.Words.{marks-at}
+use Rattle.kernel.specs.Lowest.{lowestFrom, joined}
 
 -- a shift brings the digits down
 digits-shifted : (w k j : ℕ) → digits (w / 2 ^ k) j ≡ digits w (k + j)
@@ -90,7 +94,7 @@ module _ (l : List ℕ) (n : ℕ) where
 
     -- so the first marked behind a gap is the lowest
     pub found : getD l (n / 64) 0 < 2 ^ 64 → gap l n < 64 → v ≤ n → n < places
-        → n + gap l n ≡ lowest places (λ e. marks l e && leb v e)
+        → n + gap l n ≡ lowestFrom l v
     found f h a b =
         let inside = in-word f h in
         let marked = marks-onward (gap l n) inside ∙ digit-behind h in
@@ -98,7 +102,7 @@ module _ (l : List ℕ) (n : ℕ) where
         (unmarked-so (n + gap l n) (λ k c d. over-gap k c d (omega arith)))
         (λ z. rw (marked, le-leb v (n + gap l n) (omega arith)))
 
-    pub none-found : places ≤ n → places ≡ lowest places (λ e. marks l e && leb v e)
+    pub none-found : places ≤ n → places ≡ lowestFrom l v
     none-found h =
         lowest-is places places (λ e. marks l e && leb v e) (omega arith)
         (unmarked-so places (λ k a b. u k a (omega arith)))
@@ -110,8 +114,51 @@ module _ (l : List ℕ) (q v : ℕ) (u : Unmarked l v (64 * q)) where
   over-whole h k a b = over-word l (64 * q) v u (subst (λ g. 64 ≤ g) (sym (gap-whole l q)) h) k a (omega arith)
 
   pub found-whole : getD l q 0 < 2 ^ 64 → trailingZeros 64 (getD l q 0) < 64 → v ≤ 64 * q → 64 * q < places
-      → 64 * q + trailingZeros 64 (getD l q 0) ≡ lowest places (λ e. marks l e && leb v e)
+      → 64 * q + trailingZeros 64 (getD l q 0) ≡ lowestFrom l v
   found-whole f h a b =
       let word : q ≡ 64 * q / 64 = omega arith in
       ap (λ g. 64 * q + g) (sym (gap-whole l q))
       ∙ found l (64 * q) v u (subst (λ n. getD l n 0 < 2 ^ 64) word f) (subst (λ g. g < 64) (sym (gap-whole l q)) h) a b
+
+-- what is lowest from n on is lowest from v on, if none is marked between
+pub lowest-further : (l : List ℕ) (v n : ℕ) → v ≤ n → Unmarked l v n → lowestFrom l n ≡ lowestFrom l v
+lowest-further l v n h u = ap (lowest places) (fun-ext (λ e. go e (leb n e) refl))
+  where
+    go : (e : ℕ) (b : Bool) → leb n e ≡ b → (marks l e && b) ≡ (marks l e && leb v e)
+    go e true t = let past = leb-true n e t in rw (le-leb v e (omega arith))
+    go e false t = let before = leb-false n e t in and-false (marks l e) ∙ sym (unmarked-so l n v u n u e before)
+
+-- the words joined: one more, and all
+pub join-more : (w : ℕ) (l : List ℕ) (q : ℕ) → q < length l → joined (bitOr w (getD l q 0)) (drop (q + 1) l) ≡ joined w (drop q l)
+unfolding joined
+join-more w l q h = rw (add-one, drop-cons l q 0)
+
+pub join-all : (w : ℕ) (l : List ℕ) (q : ℕ) → length l ≤ q → joined w (drop q l) ≡ w
+unfolding joined
+join-all w l q h = rw (drop-of-length-le l {i = q} h)
+
+or-none : (a b : ℕ) → bitOr a b ≡ 0 → (a ≡ 0) × (b ≡ 0)
+or-none a b e = (omega (arith, or-add-and a b, and-le-r a b), omega (arith, or-add-and a b, and-le-l a b))
+
+first-and-others : (x : ℕ) (l : List ℕ) → x ≡ 0 → ((q : ℕ) → getD l q 0 ≡ 0) → (q : ℕ) → getD (x ∷ l) q 0 ≡ 0
+first-and-others x l e f zero = e
+first-and-others x l e f (suc q) = f q
+
+-- if that is 0, each of them is
+all-zero : (w : ℕ) (l : List ℕ) → joined w l ≡ 0 → (w ≡ 0) × ((q : ℕ) → getD l q 0 ≡ 0)
+unfolding joined
+all-zero w [] e = (e, λ q. refl)
+all-zero w (x ∷ l) e =
+    let (first, others) = all-zero (bitOr w x) l e in
+    let (a, b) = or-none w x first in
+    (a, first-and-others x l b others)
+
+-- and none of their events is marked
+pub none-behind : (l : List ℕ) (q : ℕ) → joined 0 (drop q l) ≡ 0 → lowestFrom l (64 * q) ≡ places
+none-behind l q e = sym (none-found l places (64 * q) unmarked (omega arith))
+  where
+    unmarked : Unmarked l (64 * q) places
+    unmarked k h b =
+        let far : k / 64 ≡ q + (k / 64 - q) = omega arith in
+        let word = ap (λ n. getD l n 0) far ∙ (sym (getD-drop q l (k / 64 - q) 0) ∙ all-zero 0 (drop q l) e .1 (k / 64 - q)) in
+        rw (marks-at l k, word) (no-digit 0 0 (k % 64) (omega arith) (omega arith))

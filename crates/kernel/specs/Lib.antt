@@ -1,5 +1,6 @@
 pub mod Answer
 pub mod Passes
+pub mod Lowest
 pub mod Demand1
 pub mod Demand2
 pub mod Demand3

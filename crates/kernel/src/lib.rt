@@ -1,17 +1,16 @@
 // The kernel: check, start and run one instant. Each call takes its table, state, events, values and rooms as they come.
 
 ghost use mathlib.Core.Path.{_≡_};
-ghost use mathlib.Core.Bool.{_&&_};
-ghost use lib.Dec.{leb};
-ghost use Rattle.events.specs.Events.{lowest};
+ghost use Prim.Native.Nat.{_*_};
+ghost use lib.ListN.{length, drop};
 ghost use Rattle.events.specs.Members.{places, members};
 ghost use Rattle.table.specs.Inside.{Loaded};
+ghost use Rattle.kernel.specs.Lowest.{lowestFrom, joined};
 ghost use Rattle.kernel.specs.Answer.{Started, rooms, storeOutcome, instantOutcome, valuesOf, Answered, Refused};
 use crate::passes::HandedIn;
 use crate::passes::run_passes;
 use crate::values::eight_from;
 use events::EventSet;
-use events::WORDS;
 use state::clear;
 use state::resting::first_blamed;
 use store::good::store_good;
@@ -169,23 +168,48 @@ fn store_outcome(table: &[u8], store: &[u8], parked: usize) -> Outcome
     Outcome::BadStore
 }
 
-// The lowest event of the set that is not below v; `PLACES` if none is.
+// The lowest event of the set that is not below v; `PLACES` if none is. Seldom is one there at all, so the words behind v's are first looked at together.
 fn lowest_from(events: EventSet, v: usize) -> usize
-    ensures { λ r. ⌜ r ≡ lowest places (λ e. members events e && leb v e) ⌝ }
+    ensures { λ r. ⌜ r ≡ lowestFrom (events .words) v ⌝ }
 {
     if v < EventSet::PLACES {
         let low = u64::trailing_zeros(events.words[v / 64] >> (v % 64)) as usize;
         if low < 64 {
             return v + low;
         }
-        let mut at = v / 64 + 1;
-        while at < WORDS {
-            let low = u64::trailing_zeros(events.words[at]) as usize;
-            if low < 64 {
-                return 64 * at + low;
-            }
-            at += 1;
+        let behind = v / 64 + 1;
+        if joined_words(&events.words, behind) != 0 {
+            return lowest_in(&events.words, behind);
         }
+    }
+    EventSet::PLACES
+}
+
+// The words from the one at `from` on, joined by `|`.
+fn joined_words(words: &[u64], from: usize) -> u64
+    ensures { λ r. ⌜ r ≡ joined 0 (drop from (now (words .entry))) ⌝ }
+{
+    let mut all = 0;
+    let mut at = from;
+    while at < words.len() {
+        all |= words[at];
+        at += 1;
+    }
+    all
+}
+
+// The lowest event that the words from the one at `from` on mark; `PLACES` if they mark none.
+fn lowest_in(words: &[u64], from: usize) -> usize
+    requires { ⌜ 64 * length (now words) ≡ places ⌝ }
+    ensures { λ r. ⌜ r ≡ lowestFrom (now (words .entry)) (64 * from) ⌝ }
+{
+    let mut at = from;
+    while at < words.len() {
+        let low = u64::trailing_zeros(words[at]) as usize;
+        if low < 64 {
+            return 64 * at + low;
+        }
+        at += 1;
     }
     EventSet::PLACES
 }

@@ -1,12 +1,16 @@
 // An instant's passes, over the state's own bytes.
 ghost use mathlib.Core.Path.{_≡_};
+ghost use Prim.Native.Nat.{_<_};
+ghost use lib.ListN.{length};
 ghost use Rattle.events.specs.Members.{members};
+ghost use Rattle.steps.specs.Running.{ended};
+ghost use Rattle.steps.specs.Flags.{flagOf};
 ghost use Rattle.kernel.specs.Passes.{wordValues, Startable, RanFree, RanBehind, Reported, LeadsIfStill, WaitsAfter};
 use crate::Answer;
 use crate::Outcome;
 use events::EventSet;
 use runner::run_child;
-use steps::flags::STOP;
+use steps::flags::SUSP;
 use steps::flags::TERM;
 use steps::numbers::ATOMS;
 use steps::numbers::MOVED;
@@ -74,29 +78,29 @@ fn run_from(
     loop {
         passes += 1;
         let flag = run_child(&table, 0, state, &mut row, atoms, free);
-        if flag == STOP {
+        if flag != SUSP {
+            end_program(*state, flag);
             return report(
                 events_of(&row),
                 row[ATOMS] as usize,
                 row[PARKED] as usize,
-                false,
-                passes,
-                waits,
-            );
-        }
-        if flag == TERM {
-            state[0] = GONE;
-            return report(
-                events_of(&row),
-                row[ATOMS] as usize,
-                row[PARKED] as usize,
-                true,
+                flag == TERM,
                 passes,
                 waits,
             );
         }
         waits = waits_after(table, state, &row, waits);
         next_pass(&mut row);
+    }
+}
+
+// A program whose last pass has answered: if it has ended, its phase is 3.
+fn end_program(state: &mut [u8], flag: u8)
+    requires { ⌜ (flag < 3) × (0 < length (now state)) ⌝ }
+    ensures { λ r. ⌜ now (state .exit) ≡ ended (flagOf flag) 0 3 (now (state .entry)) ⌝ }
+{
+    if flag == TERM {
+        state[0] = GONE;
     }
 }
 

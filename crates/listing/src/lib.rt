@@ -25,8 +25,8 @@ pub const MORE: usize = EventSet::PLACES + 10;
 
 // What a line is read as: the events that it hands in if it is good, else none.
 pub struct LineRead {
-    pub good: bool,
     pub events: EventSet,
+    pub good: bool,
 }
 
 // Reads an input line, its newline left out.

@@ -3,7 +3,7 @@ use Rattle.kernel.proofs.passes.run_from.Statement.{statement}
 use Rattle.kernel.proofs.passes.run_from.Tie as tie
 use borrow.Author.Needs.{needs}
 use Prim.Native.Nat.{_+_, _-_}
-use mathlib.Core.Path.{_≡_, refl}
+use mathlib.Core.Path.{_≡_, refl, _∙_}
 use mathlib.Core.List.{List}
 use native.Mathlib.Omega.{arith}
 use lib.ListN.{length}
@@ -11,35 +11,34 @@ use mir.Val.{Val}
 use denote.Laws.{Is}
 use Rattle.events.specs.Members.{marks}
 use Rattle.junior.specs.Figures.{G}
-use Rattle.junior.proofs.Little.{STOP≢SUSP, TERM≢SUSP}
 use Rattle.table.specs.Spells.{treeOf}
 use Rattle.table.specs.Reading.{event-words}
 use Rattle.steps.specs.Running.{valuesIn, rooms-of}
 use Rattle.steps.specs.Numbers.{wordsOf, tallyOf, Numbers}
-use Rattle.steps.proofs.FlagNumbers.{is-stop, is-term}
+use Rattle.steps.proofs.FlagNumbers.{not-susp}
 use Rattle.kernel.specs.declared.passes.HandedIn.{HandedIn}
 use Rattle.kernel.specs.Passes.{Startable}
 use Rattle.kernel.proofs.passes.HandedIn as I
 use Rattle.kernel.proofs.Passing.{Underway, few-passes, handed-words, handed-values, begins-by, can-pass, ran-by, row-holds, can-look, goes-by, Names}
-use Rattle.kernel.proofs.Passing.{next-row-holds, marked-ended, some-bytes, run-of}
+use Rattle.kernel.proofs.Passing.{next-row-holds, some-flag, left-bytes, some-bytes, finished-by, run-of}
 
 -- the set of events that is handed in has words for all places
 handed-long : (h : HandedIn) (v : List Val) → Is I.the-row h v → length (h .events .words) ≡ event-words
 handed-long h v i = search needs
 
 abbrev Inv-loop : tie.InvT-loop
-Inv-loop t1 state₀ atoms₀ free₀ table nodes numbers₀ passes₀ waits₀ state atoms free numbers passes waits =
+Inv-loop t1 state₀ atoms₀ free₀ table nodes row₀ passes₀ waits₀ state atoms free row passes waits =
     (b : Startable t1 (state₀ .now) (atoms₀ .now) (free₀ .now))
-    × (u : Underway t1 (b .term) (marks (wordsOf numbers₀)) (valuesIn (tallyOf numbers₀)) (rooms-of (atoms₀ .now) (free₀ .now))
-    (state .now) (wordsOf numbers) (rooms-of (atoms .now) (free .now)) (tallyOf numbers) passes)
-    × Numbers t1 numbers
+    × (u : Underway t1 (b .term) (marks (wordsOf row₀)) (valuesIn (tallyOf row₀)) (rooms-of (atoms₀ .now) (free₀ .now))
+    (state .now) (wordsOf row) (rooms-of (atoms .now) (free .now)) (tallyOf row) passes)
+    × Numbers t1 row
     × (state .name ≡ state₀ .name)
     × (atoms .name ≡ atoms₀ .name)
     × (free .name ≡ free₀ .name)
     × Names waits (u .named)
 
 abbrev μ-loop : tie.MeasureT-loop
-μ-loop t1 state₀ atoms₀ free₀ table nodes numbers₀ passes₀ waits₀ state atoms free numbers passes waits = G (treeOf t1) + 2 - passes
+μ-loop t1 state₀ atoms₀ free₀ table nodes row₀ passes₀ waits₀ state atoms free row passes waits = G (treeOf t1) + 2 - passes
 
 -- let nodes = word_at(table, table.len() - 10);
 sub-word-at : tie.Need-sub-word-at Inv-loop μ-loop
@@ -83,95 +82,57 @@ run-child-requires c κs =
     let loop = c .before .before .before .before .before .loop in
     can-pass (loop .inv .1) (loop .inv .2)
 
--- return report(events_of(&row), row[ATOMS] as usize, row[PARKED] as usize, false, passes, waits);
-events-of-requires : tie.Need-events-of-requires Inv-loop μ-loop
-events-of-requires c κs =
+-- end_program(*state, flag);
+end-program-requires : tie.Need-end-program-requires Inv-loop μ-loop
+end-program-requires c κs =
     let loop = c .before .before .before .before .before .before .before .before .loop in
     let run-child = c .before .before .run-child in
+    let ran = ran-by (loop .inv .1) (loop .inv .2) (run-child .ensures .0) refl in
+    (some-flag (loop .inv .1) (loop .inv .2) (run-child .ensures .0), some-bytes (loop .inv .1) _ ran)
+
+-- return report(events_of(&row), row[ATOMS] as usize, row[PARKED] as usize, flag == TERM, passes, waits);
+events-of-requires : tie.Need-events-of-requires Inv-loop μ-loop
+events-of-requires c κs =
+    let loop = c .before .before .before .before .before .before .before .before .before .before .loop in
+    let run-child = c .before .before .before .before .run-child in
     row-holds (loop .inv .1) (loop .inv .2) (run-child .ensures .0) .long
 
 array-read-report : tie.Need-array-read-report Inv-loop μ-loop
 array-read-report c =
-    let loop = c .before .before .before .before .before .before .before .before .before .loop in
-    let run-child = c .before .before .before .run-child in
+    let loop = c .before .before .before .before .before .before .before .before .before .before .before .loop in
+    let run-child = c .before .before .before .before .before .run-child in
     let long = row-holds (loop .inv .1) (loop .inv .2) (run-child .ensures .0) .long in
     search needs
 
 array-read-report-2 : tie.Need-array-read-report-2 Inv-loop μ-loop
 array-read-report-2 c =
-    let loop = c .before .before .before .before .before .before .before .before .before .loop in
-    let run-child = c .before .before .before .run-child in
+    let loop = c .before .before .before .before .before .before .before .before .before .before .before .loop in
+    let run-child = c .before .before .before .before .before .run-child in
     let long = row-holds (loop .inv .1) (loop .inv .2) (run-child .ensures .0) .long in
     search needs
 
 returns : tie.Need-returns Inv-loop μ-loop
 returns c =
-    let start = c .before .before .before .before .before .before .before .before .before .before .before .before .before .before .before in
-    let first-numbers = c .before .before .before .before .before .before .before .before .before .before .before .before .first-numbers in
-    let loop = c .before .before .before .before .before .before .before .before .before .before .loop in
-    let run-child = c .before .before .before .before .run-child in
-    let if1 = c .before .before .before .if1 in
+    let start = c .before .before .before .before .before .before .before .before .before .before .before .before .before .before .before .before .before in
+    let first-numbers = c .before .before .before .before .before .before .before .before .before .before .before .before .before .before .first-numbers in
+    let loop = c .before .before .before .before .before .before .before .before .before .before .before .before .loop in
+    let run-child = c .before .before .before .before .before .before .run-child in
+    let if1 = c .before .before .before .before .before .if1 in
+    let end-program = c .before .before .before .end-program in
     let events-of = c .before .events-of in
     let report = c .report in
     let u = loop .inv .1 in
-    let ran = ran-by u (loop .inv .2) (run-child .ensures .0) (is-stop (if1 .taken)) in
+    let run = run-child .ensures .0 in
+    let below = some-flag u (loop .inv .2) run in
+    let ran = ran-by u (loop .inv .2) run refl in
     let long = handed-long (start .args .handed) _ (start .good .1 .1 .0) in
     let H = start .args .handed in
     let handed = handed-words (start .args .t1 .now) (H .events .words) long (H .low) (H .high) _ (first-numbers .ensures) in
     let asked = handed-values (start .args .t1 .now) (H .events .words) long (H .low) (H .high) _ (first-numbers .ensures) in
+    let told = rw (finished-by _ below) at (report .ensures) in
+    let left = end-program .ensures ∙ left-bytes u _ ran in
     record {
-      ran = rw (handed, asked) at (run-of (loop .inv .0) u ran STOP≢SUSP (ran .bytes) (events-of .ensures) (loop .inv .6) (report .ensures));
-      same-state = search needs;
-      same-row = search needs;
-      same-free = search needs;
-    }
-
--- state[0] = GONE;
-index-1-state : tie.Need-index-1-state Inv-loop μ-loop
-index-1-state c =
-    let loop = c .before .before .before .before .before .before .before .before .loop in
-    let run-child = c .before .before .run-child in
-    let if2 = c .if2 in
-    some-bytes (loop .inv .1) (ran-by (loop .inv .1) (loop .inv .2) (run-child .ensures .0) (is-term (if2 .taken)))
-
--- return report(events_of(&row), row[ATOMS] as usize, row[PARKED] as usize, true, passes, waits);
-events-of-requires-2 : tie.Need-events-of-requires-2 Inv-loop μ-loop
-events-of-requires-2 c κs =
-    let loop = c .before .before .before .before .before .before .before .before .before .loop in
-    let run-child = c .before .before .before .run-child in
-    row-holds (loop .inv .1) (loop .inv .2) (run-child .ensures .0) .long
-
-array-read-report-3 : tie.Need-array-read-report-3 Inv-loop μ-loop
-array-read-report-3 c =
-    let loop = c .before .before .before .before .before .before .before .before .before .before .loop in
-    let run-child = c .before .before .before .before .run-child in
-    let long = row-holds (loop .inv .1) (loop .inv .2) (run-child .ensures .0) .long in
-    search needs
-
-array-read-report-4 : tie.Need-array-read-report-4 Inv-loop μ-loop
-array-read-report-4 c =
-    let loop = c .before .before .before .before .before .before .before .before .before .before .loop in
-    let run-child = c .before .before .before .before .run-child in
-    let long = row-holds (loop .inv .1) (loop .inv .2) (run-child .ensures .0) .long in
-    search needs
-
-returns-2 : tie.Need-returns-2 Inv-loop μ-loop
-returns-2 c =
-    let start = c .before .before .before .before .before .before .before .before .before .before .before .before .before .before .before .before in
-    let first-numbers = c .before .before .before .before .before .before .before .before .before .before .before .before .before .first-numbers in
-    let loop = c .before .before .before .before .before .before .before .before .before .before .before .loop in
-    let run-child = c .before .before .before .before .before .run-child in
-    let if2 = c .before .before .before .if2 in
-    let events-of2 = c .before .events-of2 in
-    let report2 = c .report2 in
-    let u = loop .inv .1 in
-    let ran = ran-by u (loop .inv .2) (run-child .ensures .0) (is-term (if2 .taken)) in
-    let long = handed-long (start .args .handed) _ (start .good .1 .1 .0) in
-    let H = start .args .handed in
-    let handed = handed-words (start .args .t1 .now) (H .events .words) long (H .low) (H .high) _ (first-numbers .ensures) in
-    let asked = handed-values (start .args .t1 .now) (H .events .words) long (H .low) (H .high) _ (first-numbers .ensures) in
-    record {
-      ran = rw (handed, asked) at (run-of (loop .inv .0) u ran TERM≢SUSP (marked-ended u ran) (events-of2 .ensures) (loop .inv .6) (report2 .ensures));
+      ran = rw (handed, asked) at (run-of (loop .inv .0) u ran (not-susp below (if1 .taken)) left (events-of .ensures) (loop .inv .6) told);
       same-state = search needs;
       same-row = search needs;
       same-free = search needs;
@@ -180,36 +141,34 @@ returns-2 c =
 -- waits = waits_after(table, state, &row, waits);
 waits-after-requires : tie.Need-waits-after-requires Inv-loop μ-loop
 waits-after-requires c κs =
-    let loop = c .before .before .before .before .before .before .before .before .before .before .loop in
-    let run-child = c .before .before .before .before .run-child in
-    let if1 = c .before .before .before .if1 in
-    let if2 = c .before .before .if2 in
-    can-look (loop .inv .1) (loop .inv .2) (run-child .ensures .0) (if1 .left) (if2 .left)
+    let loop = c .before .before .before .before .before .before .before .before .before .loop in
+    let run-child = c .before .before .before .run-child in
+    let if1 = c .before .before .if1 in
+    can-look (loop .inv .1) (loop .inv .2) (run-child .ensures .0) (if1 .left)
 
 -- next_pass(&mut row);
 next-pass-requires : tie.Need-next-pass-requires Inv-loop μ-loop
 next-pass-requires c κs =
-    let loop = c .before .before .before .before .before .before .before .before .before .before .before .before .loop in
-    let run-child = c .before .before .before .before .before .before .run-child in
+    let loop = c .before .before .before .before .before .before .before .before .before .before .before .loop in
+    let run-child = c .before .before .before .before .before .run-child in
     row-holds (loop .inv .1) (loop .inv .2) (run-child .ensures .0) .long
 
 -- loop {
 loop-less : tie.Need-loop-less Inv-loop μ-loop
 loop-less c =
-    let loop = c .before .before .before .before .before .before .before .before .before .before .before .before .before .loop in
+    let loop = c .before .before .before .before .before .before .before .before .before .before .before .before .loop in
     let few = rw (loop .inv .0 .program) at (few-passes (loop .inv .1)) in
     omega arith
 
 loop-again : tie.Need-loop-again Inv-loop μ-loop
 loop-again c =
-    let loop = c .before .before .before .before .before .before .before .before .before .before .before .before .before .loop in
-    let run-child = c .before .before .before .before .before .before .before .run-child in
-    let if1 = c .before .before .before .before .before .before .if1 in
-    let if2 = c .before .before .before .before .before .if2 in
+    let loop = c .before .before .before .before .before .before .before .before .before .before .before .before .loop in
+    let run-child = c .before .before .before .before .before .before .run-child in
+    let if1 = c .before .before .before .before .before .if1 in
     let waits-after = c .before .before .waits-after in
     let next-pass = c .next-pass in
     let run = run-child .ensures .0 in
-    let (underway, names) = goes-by (loop .inv .1) (loop .inv .2) run (if1 .left) (if2 .left) in
+    let (underway, names) = goes-by (loop .inv .1) (loop .inv .2) run (if1 .left) in
     rw (next-pass .ensures, waits-after .ensures .0) (
       loop .inv .0,
       underway,
@@ -233,17 +192,13 @@ run-from-spec =
     loop-holds
     add-passes
     run-child-requires
+    (λ c. search needs)  -- slice-aggregate-end-program: end_program(*state, flag);
+    end-program-requires
     events-of-requires
     array-read-report
     array-read-report-2
     (λ c κs. search needs)  -- report-requires
     returns
-    index-1-state
-    events-of-requires-2
-    array-read-report-3
-    array-read-report-4
-    (λ c κs. search needs)  -- report-requires-2
-    returns-2
     (λ c. search needs)  -- slice-aggregate-waits-after: waits = waits_after(table, state, &row, waits);
     waits-after-requires
     next-pass-requires
