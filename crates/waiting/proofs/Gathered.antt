@@ -1,5 +1,5 @@
 -- The lowest absent event of a configuration's records, one after another, is the event that it lacks.
-use Prim.Native.Nat.{ℕ, zero, suc, _+_, _-_, _*_, _<_, min}
+use Prim.Native.Nat.{ℕ, zero, suc, _+_, _-_, _*_, _≤_, _<_, min}
 use mathlib.Core.Bool.{Bool, true, false, cond}
 use mathlib.Core.Path.{_≡_, refl, ap, sym, subst, _∙_}
 use mathlib.Core.List.{List}
@@ -39,6 +39,11 @@ lowered-lower low (some x) (some y) = go (leb x y) refl
 lowered-event : (low s : ℕ) (b : Bool) → cond b low (min s low) ≡ lowered low (cond b none (some s))
 lowered-event low s true = refl
 lowered-event low s false = refl
+
+-- an event that isn't lower than the lowest so far, marked or not
+pub not-lower : {s low : ℕ} (b : Bool) → low ≤ s → low ≡ cond b low (min s low)
+not-lower true h = refl
+not-lower false h = omega arith
 
 module _ (t words : List ℕ) where
   abbrev lacking : Config → Option ℕ

@@ -44,7 +44,7 @@ LeadsTo table state X r = (w : Wait) → Leads table state 0 X w → (r .node �
 
 -- an Await or a When in phase 0 and an Until* are tests that wait
 abbrev pub isTest : ℕ → ℕ → Bool
-isTest kind phase = cond (eqb phase 0) (eqb kind 8 || eqb kind 9) (cond (eqb phase 1) (eqb kind 10) false)
+isTest kind phase = cond (eqb kind 10) (eqb phase 1) ((eqb kind 8 || eqb kind 9) && eqb phase 0)
 
 -- a Control waits for its own event, and so does a pending Freezable (L8: "L1's tests and demand 3's include the pending form")
 abbrev pub waitsItself : ℕ → ℕ → Bool

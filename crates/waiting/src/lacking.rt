@@ -40,14 +40,15 @@ fn lowest_after(table: &[u8], at: usize, words: &[u64; WORDS], low: usize) -> us
     low
 }
 
+// The event if it is lower than the lowest so far, which is seldom and therefore asked first, and absent.
 fn lower_absent(words: &[u64; WORDS], event: usize, low: usize) -> usize
     ensures { λ r. ⌜ r ≡ cond (marks (now (words .entry)) event) low (min event low) ⌝ }
 {
+    if low <= event {
+        return low;
+    }
     if marked(words, event) {
         return low;
     }
-    if event < low {
-        return event;
-    }
-    low
+    event
 }

@@ -4,7 +4,7 @@ ghost use mathlib.Core.Path.{_≡_};
 ghost use Prim.Native.Nat.{_*_};
 ghost use lib.ListN.{length};
 ghost use Rattle.events.specs.Members.{places, marks, members};
-ghost use Rattle.waiting.specs.Down.{SomeStands, SomeLeads, LeadsTo, isTest, waitsItself, OwnWait, goesSecond, nextOf, insideOf};
+ghost use Rattle.waiting.specs.Down.{SomeStands, SomeLeads, LeadsTo, isTest, waitsItself, OwnWait, nextOf, insideOf};
 use events::EventSet;
 use events::WORDS;
 use events::mark;
@@ -79,17 +79,18 @@ fn own_wait(table: &[u8], state: &[u8], i: usize, words: &[u64; WORDS]) -> usize
     EventSet::PLACES
 }
 
+// An Await or a When in phase 0 and an Until* are tests that wait. The kind comes first: from it the compiler makes one jump for all questions to a node.
 fn is_test(kind: usize, phase: u8) -> bool
     ensures { λ r. ⌜ r ≡ isTest kind phase ⌝ }
 {
-    if phase == 0 {
-        if kind == kinds::AWAIT {
-            return true;
-        }
-        return kind == kinds::WHEN;
+    if kind == kinds::UNTIL {
+        return phase == STARRED;
     }
-    if phase == STARRED {
-        return kind == kinds::UNTIL;
+    if kind == kinds::AWAIT {
+        return phase == 0;
+    }
+    if kind == kinds::WHEN {
+        return phase == 0;
     }
     false
 }
@@ -117,22 +118,19 @@ fn enter(table: &[u8], state: &[u8], i: usize, words: &mut [u64])
     }
 }
 
-// The child of node i that waits.
+// The child of node i that waits: of a Par the second if the first isn't suspended, of another form the second in phase 2.
 fn next_node(table: &[u8], state: &[u8], i: usize) -> usize
     requires { ⌜ SomeStands (now table) (now state) i ⌝ }
     ensures { λ r. ⌜ r ≡ nextOf (now (table .entry)) (now (state .entry)) i ⌝ }
 {
-    if goes_second(kind_at(table, i), state[4 * i], state[4 * i + FLAGS]) {
+    if kind_at(table, i) == kinds::PAR {
+        if state[4 * i + FLAGS] % 4 == 0 {
+            return i + 1;
+        }
+        return second_at(table, i);
+    }
+    if state[4 * i] == SECOND {
         return second_at(table, i);
     }
     i + 1
-}
-
-fn goes_second(kind: usize, phase: u8, flags: u8) -> bool
-    ensures { λ r. ⌜ r ≡ goesSecond kind phase flags ⌝ }
-{
-    if kind == kinds::PAR {
-        return flags % 4 != 0;
-    }
-    phase == SECOND
 }
