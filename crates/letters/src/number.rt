@@ -43,8 +43,9 @@ fn put_short(room: &mut [u8], at: usize, n: u64) -> usize
         return at + 2;
     }
     if n < 1000 {
-        room[at] = 48 + (n / 100) as u8;
-        put_pair(room, at + 1, n % 100);
+        let hundreds = n / 100;
+        room[at] = 48 + hundreds as u8;
+        put_pair(room, at + 1, n - 100 * hundreds);
         return at + 3;
     }
     put_four(room, at, n);
@@ -72,8 +73,9 @@ fn put_four(room: &mut [u8], at: usize, n: u64)
     requires { ⌜ (n < 10000) × (at + 3 < length (now room)) ⌝ }
     ensures { λ r. ⌜ now (room .exit) ≡ sets (now (room .entry)) at (four n) ⌝ }
 {
-    put_pair(room, at, n / 100);
-    put_pair(room, at + 2, n % 100);
+    let hundreds = n / 100;
+    put_pair(room, at, hundreds);
+    put_pair(room, at + 2, n - 100 * hundreds);
 }
 
 // Puts two digits, a zero in front.

@@ -1,5 +1,6 @@
 -- The laws, each file named after its subject.
 pub mod Named
+pub mod LineEnds
 pub mod WaitLine
 pub mod StandsUnder
 pub mod Answering

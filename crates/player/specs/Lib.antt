@@ -4,3 +4,4 @@ pub mod Examples
 pub mod L1
 pub mod L8
 pub mod Inside
+pub mod Lines

@@ -13,12 +13,14 @@ use console::keep_rest;
 use console::read_some;
 use console::read_table;
 use console::write_out;
+use lines::line_end;
 use listing::LONGEST;
 use listing::MORE;
 use listing::write_table_refused;
 use under::ROOM_UNDER;
 
 mod answer;
+mod lines;
 mod under;
 
 // One byte more than the longest table, so that a longer file is seen to be longer.
@@ -156,7 +158,7 @@ fn list_block(
     let mut next = number;
     let mut from = 0;
     let mut filled = 0;
-    let mut end = bytes::scan::find(input, held, to, 10);
+    let mut end = line_end(input, held, to);
     while end < to {
         filled = room_for_line(output, filled);
         filled += answer_line(
@@ -171,7 +173,7 @@ fn list_block(
         );
         next += 1;
         from = end + 1;
-        end = bytes::scan::find(input, from, to, 10);
+        end = line_end(input, from, to);
     }
     write_out(&output[..filled]);
     Place {

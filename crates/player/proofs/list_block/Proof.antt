@@ -27,8 +27,8 @@ abbrev μ-loop : tie.MeasureT-loop
 -- while end < to {
 loop-holds : tie.Need-loop-holds Inv-loop μ-loop
 loop-holds c =
-    let find = c .find in
-    (refl, refl, refl, refl, omega (arith, find .ensures .0), find .ensures .1, omega arith, omega arith)
+    let line-end = c .line-end in
+    (refl, refl, refl, refl, omega arith, line-end .ensures .2, omega arith, omega arith)
 
 -- filled += answer_line(
 answer-line-requires : tie.Need-answer-line-requires Inv-loop μ-loop
@@ -75,9 +75,9 @@ add-from c =
     let loop-test = c16 .before .loop-test in
     omega (arith, loop .inv, start .pre, loop-test .taken)
 
--- end = bytes::scan::find(input, from, to, 10);
-find-requires-2 : tie.Need-find-requires-2 Inv-loop μ-loop
-find-requires-2 c κs =
+-- end = line_end(input, from, to);
+line-end-requires-2 : tie.Need-line-end-requires-2 Inv-loop μ-loop
+line-end-requires-2 c κs =
     let c8 = c .before .before .before .before .before .before .before .before in
     let c16 = c8 .before .before .before .before .before .before .before .before in
     let c24 = c16 .before .before .before .before .before .before .before .before in
@@ -93,8 +93,8 @@ loop-less c =
     let c16 = c8 .before .before .before .before .before .before .before .before in
     let loop = c16 .before .before .before .before .loop in
     let loop-test = c16 .before .before .before .loop-test in
-    let find2 = c .find2 in
-    omega (arith, find2 .ensures, loop .inv, loop-test .taken)
+    let line-end2 = c .line-end2 in
+    omega (arith, line-end2 .ensures, loop .inv, loop-test .taken)
 
 loop-again : tie.Need-loop-again Inv-loop μ-loop
 loop-again c =
@@ -103,7 +103,7 @@ loop-again c =
     let loop = c16 .before .before .before .before .loop in
     let room-for-line = c16 .before .room-for-line in
     let answer-line = c8 .before .before .answer-line in
-    let find2 = c .find2 in
+    let line-end2 = c .line-end2 in
     let long = mid-len (room-for-line .result) (length (loop .output)) (loop .output) (omega arith) in
     let kept = same-len-mid (room-for-line .result) (length (loop .output) - room-for-line .result) (loop .output)
     (answer-line .last .1 .1 .1 .1 .1 .1 .0) (answer-line .kept .1 .1 .1 .1 .1 .1 .0) in (
@@ -111,8 +111,8 @@ loop-again c =
       answer-line .kept .1 .1 .0 ∙ loop .inv .1,
       answer-line .kept .1 .1 .1 .0 ∙ loop .inv .2,
       kept ∙ loop .inv .3,
-      omega (arith, find2 .ensures .0),
-      find2 .ensures .1,
+      line-end2 .ensures .1,
+      line-end2 .ensures .2,
       omega (arith, long, answer-line .ensures .within, room-for-line .ensures, loop .inv .3),
       omega (arith, loop .inv),
     )
@@ -143,7 +143,7 @@ list-block-spec =
     tie.close (tie.spec
     Inv-loop
     μ-loop
-    (λ c κs. search needs)  -- find-requires: let mut end = bytes::scan::find(input, held, to, 10);
+    (λ c κs. search needs)  -- line-end-requires: let mut end = line_end(input, held, to);
     loop-holds
     (λ c κs. omega arith)  -- room-for-line-requires: filled = room_for_line(output, filled);
     (λ c. search needs)  -- sub-answer-line: &input[from..end],
@@ -156,7 +156,7 @@ list-block-spec =
     add-filled
     add-next
     add-from
-    find-requires-2
+    line-end-requires-2
     loop-less
     loop-again
     (λ c. omega (arith, c .before .loop .inv))  -- slice-reshare-prefix-write-out: write_out(&outp..

@@ -1,5 +1,6 @@
 -- `put_short` meets its contract: the digits by the number's size.
-use mathlib.Core.Path.{refl, ap, _∙_}
+use mathlib.Core.Path.{_≡_, refl, ap, _∙_}
+use Prim.Native.Nat.{_-_, _*_, _/_, _%_}
 use native.Mathlib.Omega.{arith}
 use native.Mathlib.Numerals.{add-one}
 use borrow.Author.Needs.{needs}
@@ -42,7 +43,7 @@ returns-2 c =
     let is = decimal-two (start .args .n) (if1 .left) (if2 .taken) in
     rw is (record { next = refl; room = put-pair .ensures })
 
--- room[at] = 48 + (n / 100) as u8;
+-- room[at] = 48 + hundreds as u8;
 slice-write-room-2 : tie.Need-slice-write-room-2
 slice-write-room-2 c =
     let start = c .before .before .before .before in
@@ -50,7 +51,7 @@ slice-write-room-2 c =
     let if3 = c .if3 in
     omega (arith, ap length (decimal-three (start .args .n) (if2 .left) (if3 .taken)))
 
--- put_pair(room, at + 1, n % 100);
+-- put_pair(room, at + 1, n - 100 * hundreds);
 put-pair-requires-2 : tie.Need-put-pair-requires-2
 put-pair-requires-2 c κs =
     let start = c .before .before .before .before .before in
@@ -70,8 +71,10 @@ returns-3 c =
     let if2 = c .before .before .before .before .before .if2 in
     let if3 = c .before .before .before .before .if3 in
     let put-pair2 = c .before .before .put-pair2 in
-    let is = decimal-three (start .args .n) (if2 .left) (if3 .taken) in
-    rw is (record { next = refl; room = rw (add-one (start .args .at)) at (put-pair2 .ensures) })
+    let n = start .args .n in
+    let is = decimal-three n (if2 .left) (if3 .taken) in
+    let low : n - 100 * (n / 100) ≡ n % 100 = omega arith in
+    rw is (record { next = refl; room = rw (add-one (start .args .at), low) at (put-pair2 .ensures) })
 
 -- put_four(room, at, n);
 put-four-requires : tie.Need-put-four-requires
@@ -102,10 +105,12 @@ put-short-spec =
     (λ c. search needs)  -- add-result-2: return at + 2;
     (λ c. search needs)  -- same-length-2
     returns-2
-    (λ c. search needs)  -- cast-room-2: room[at] = 48 + (n / 100) as u8;
+    (λ c. search needs)  -- cast-room-2: room[at] = 48 + hundreds as u8;
     (λ c. search needs)  -- add-room-2
     slice-write-room-2
-    (λ c. search needs)  -- add-put-pair: put_pair(room, at + 1, n % 100);
+    (λ c. search needs)  -- add-put-pair: put_pair(room, at + 1, n - 100 * hundreds);
+    (λ c. search needs)  -- mul-put-pair
+    (λ c. search needs)  -- sub-put-pair
     put-pair-requires-2
     (λ c. search needs)  -- add-result-3: return at + 3;
     same-length-3
