@@ -1,4 +1,5 @@
--- The way from the root down to a node: it meets every node above, and so tells whether one of them is a repetition of count or cap 0.
+-- The way from the root down to a node: it meets every node above, and so tells whether one of them is a repetition of count or cap 0. It is free if
+-- no node of the table is one.
 use Prim.Native.Nat.{ℕ, _+_, _≤_, _<_}
 use mathlib.Core.Bool.{Bool, true, false, _&&_, and-false, false≢true}
 use mathlib.Core.Path.{_≡_, sym, _∙_}
@@ -6,7 +7,7 @@ use mathlib.Core.List.{List}
 use native.Mathlib.Omega.{arith}
 use native.Mathlib.Decide.{ℕ-discrete, decLt}
 use lib.Dec.{eqb}
-use borrow.Author.Tests.{lt-ltb, le-ltb, eq-eqb, ne-eqb}
+use borrow.Author.Tests.{lt-ltb, le-ltb, eq-eqb, ne-eqb, eqb-true}
 use Rattle.events.specs.Events.{lowest}
 use Rattle.events.proofs.Events.{before-lowest, lowest-is}
 use Rattle.table.specs.Records.{nodes, sizeAt, secondAt}
@@ -15,7 +16,7 @@ use Rattle.table.specs.Inside.{Loaded}
 use Rattle.table.proofs.Laid.{Laid, none, one, two}
 use Rattle.table.proofs.Loaded.{root-size}
 use Rattle.table.proofs.Subtrees.{rooted, laid-at, nested}
-use Rattle.store.specs.Inside.{Under, Next}
+use Rattle.store.specs.Inside.{Under, Next, allRun}
 
 -- node k stands above node j and never runs
 abbrev pub stops-at : List ℕ → ℕ → ℕ → Bool
@@ -75,3 +76,32 @@ module _ (t : List ℕ) (j : ℕ) where
               under = record { loaded = u .loaded; among = u .among; from = b; ends = omega (arith, u .ends) };
               passed = λ k a c. let f = nested (rooted (u .loaded)) (i + 1) m k (omega arith) c in omega arith;
             }
+
+-- none of the first i nodes never runs
+abbrev pub Run : List ℕ → ℕ → Type 0
+Run t i = (k : ℕ) → k < i → neverRuns t k ≡ false
+
+module _ (t : List ℕ) where
+  pub run-more : (i : ℕ) → neverRuns t i ≡ false → Run t i → Run t (i + 1)
+  run-more i here o k h = go (ℕ-discrete k i)
+    where
+      go : Dec (k ≡ i) → neverRuns t k ≡ false
+      go (yes e) = rw e here
+      go (no e) = o k (omega arith)
+
+  pub all-seen : Run t (nodes t) → allRun t ≡ true
+  unfolding allRun
+  all-seen all = eq-eqb _ _ (sym (lowest-is (nodes t) (nodes t) (neverRuns t) (omega arith) all (λ h. absurd (omega arith))))
+
+  pub one-seen : (i : ℕ) → i < nodes t → neverRuns t i ≡ true → allRun t ≡ false
+  unfolding allRun
+  one-seen i h never =
+      ne-eqb (lowest (nodes t) (neverRuns t)) (nodes t) (λ e.
+      false≢true (sym (before-lowest (nodes t) (neverRuns t) i (omega arith)) ∙ never))
+
+  -- so each way is free
+  pub all-free : allRun t ≡ true → (j : ℕ) → j < nodes t → eqb (lowest j (stops-at t j)) j ≡ true
+  unfolding allRun
+  all-free all j h =
+      let e : lowest (nodes t) (neverRuns t) ≡ nodes t = eqb-true _ _ all in
+      free-way t j (λ k l. rw (before-lowest (nodes t) (neverRuns t) k (omega arith), and-false))

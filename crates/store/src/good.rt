@@ -10,7 +10,7 @@ ghost use Rattle.table.specs.Part.{partTable, above, neverRuns};
 ghost use Rattle.table.specs.Inside.{Loaded};
 ghost use Rattle.state.specs.Resting.{blamed};
 ghost use Rattle.store.specs.Store.{inUse, pieceLength, isBody, pieceGood, piecesGood, storeGood};
-ghost use Rattle.store.specs.Inside.{Under, Next};
+ghost use Rattle.store.specs.Inside.{Under, Next, allRun, Spared};
 use state::resting::first_blamed;
 use table::records::argument_at;
 use table::records::kind_at;
@@ -24,10 +24,9 @@ fn never_runs(table: &[u8], i: usize) -> bool
     ensures { λ r. ⌜ r ≡ neverRuns (now (table .entry)) i ⌝ }
 {
     let k = kind_at(table, i);
-    let a = argument_at(table, i);
     match k {
-        6 => a == 0,
-        15 => a / 16 == 0,
+        6 => argument_at(table, i) == 0,
+        15 => argument_at(table, i) / 16 == 0,
         _ => false,
     }
 }
@@ -59,9 +58,43 @@ fn runs_above(table: &[u8], j: usize) -> bool
     true
 }
 
-// Whether node j is the body of a Freezable of this event, with no such repetition above it.
-fn is_body(table: &[u8], event: usize, j: usize) -> bool
+// Whether no node of the table is one.
+fn all_run(table: &[u8]) -> bool
     requires { ⌜ Loaded (now table) ⌝ }
+    ensures { λ r. ⌜ r ≡ allRun (now (table .entry)) ⌝ }
+{
+    let n = word_at(table, table.len() - 10);
+    let mut i = 0;
+    while i < n {
+        if never_runs(table, i) {
+            return false;
+        }
+        i += 1;
+    }
+    true
+}
+
+// For how many pieces more the way down is gone: all nodes are looked at once there have been many, and if all run, for none. If one doesn't, for more
+// than there are.
+fn ways_left(table: &[u8], ways: usize) -> usize
+    requires { ⌜ Loaded (now table) × Spared (now table) ways ⌝ }
+    ensures { λ r. ⌜ Spared (now (table .entry)) r ⌝ }
+{
+    if ways == 0 {
+        return 0;
+    }
+    if 1 < ways {
+        return ways - 1;
+    }
+    if all_run(table) {
+        return 0;
+    }
+    65536
+}
+
+// Whether node j is the body of a Freezable of this event, with no such repetition above it.
+fn is_body(table: &[u8], ways: usize, event: usize, j: usize) -> bool
+    requires { ⌜ Loaded (now table) × Spared (now table) ways ⌝ }
     ensures { λ r. ⌜ r ≡ isBody (now (table .entry)) event j ⌝ }
 {
     if j == 0 {
@@ -76,6 +109,9 @@ fn is_body(table: &[u8], event: usize, j: usize) -> bool
     }
     if argument_at(table, j - 1) != event {
         return false;
+    }
+    if ways == 0 {
+        return true;
     }
     runs_above(table, j)
 }
@@ -94,15 +130,15 @@ fn body_good(table: &[u8], store: &[u8], end: usize, at: usize, j: usize) -> boo
 }
 
 // Whether the piece at byte `at` is good.
-fn piece_good(table: &[u8], store: &[u8], end: usize, at: usize) -> bool
-    requires { ⌜ Loaded (now table) × (at ≤ end) × (end ≤ length (now store)) ⌝ }
+fn piece_good(table: &[u8], ways: usize, store: &[u8], end: usize, at: usize) -> bool
+    requires { ⌜ Loaded (now table) × Spared (now table) ways × (at ≤ end) × (end ≤ length (now store)) ⌝ }
     ensures { λ r. ⌜ r ≡ pieceGood (now (table .entry)) (now (store .entry)) end at ⌝ }
 {
     if end - at < 4 {
         return false;
     }
     let j = word_at(store, at + 2);
-    if is_body(table, word_at(store, at), j) {
+    if is_body(table, ways, word_at(store, at), j) {
         return body_good(table, store, end, at + 4, j);
     }
     false
@@ -113,9 +149,11 @@ fn pieces_good(table: &[u8], store: &[u8], end: usize) -> bool
     requires { ⌜ Loaded (now table) × (2 ≤ end) × (end ≤ length (now store)) ⌝ }
     ensures { λ r. ⌜ r ≡ piecesGood (now (table .entry)) (now (store .entry)) end (end - 2) 2 ⌝ }
 {
+    let mut ways = 1 + word_at(table, table.len() - 10) / 16;
     let mut at = 2;
     while at < end {
-        if !piece_good(table, store, end, at) {
+        ways = ways_left(table, ways);
+        if !piece_good(table, ways, store, end, at) {
             return false;
         }
         at += 4 + 4 * size_at(table, word_at(store, at + 2));

@@ -12,8 +12,8 @@ returns : tie.Need-returns
 returns c =
     let start = c .before .before .before .before in
     let kind-at = c .before .before .kind-at in
-    let argument-at = c .before .argument-at in
-    let match = c .match in
+    let match = c .before .match in
+    let argument-at = c .argument-at in
     let k : kindAt (start .args .table .now) (start .args .i) ≡ 6 = sym (kind-at .ensures .0) ∙ match .keys1 in
     rw (k, argument-at .ensures .0, or-false)
 
@@ -22,16 +22,16 @@ returns-2 : tie.Need-returns-2
 returns-2 c =
     let start = c .before .before .before .before in
     let kind-at = c .before .before .kind-at in
-    let argument-at = c .before .argument-at in
-    let match = c .match in
+    let match = c .before .match in
+    let argument-at2 = c .argument-at2 in
     let k : kindAt (start .args .table .now) (start .args .i) ≡ 15 = sym (kind-at .ensures .0) ∙ match .keys2 in
-    rw (k, argument-at .ensures .0)
+    rw (k, argument-at2 .ensures .0)
 
 -- fn never_runs
 returns-3 : tie.Need-returns-3
 returns-3 c =
-    let start = c .before .before .before .before in
-    let kind-at = c .before .before .kind-at in
+    let start = c .before .before .before in
+    let kind-at = c .before .kind-at in
     let match = c .match in
     let K = kindAt (start .args .table .now) (start .args .i) in
     let a : K ≡ 6 → ⊥ = λ e. match .rest .0 .1 (kind-at .ensures .0 ∙ e) in
@@ -42,7 +42,8 @@ pub never-runs-spec : {M : Type 1} → statement M
 never-runs-spec =
     tie.close (tie.spec
     (λ c κs. search needs)  -- kind-at-requires: let k = kind_at(table, i);
-    (λ c κs. search needs)  -- argument-at-requires: let a = argument_at(table, i);
+    (λ c κs. search needs)  -- argument-at-requires: 6 => argument_at(table, i) == 0,
+    (λ c κs. search needs)  -- argument-at-requires-2: 15 => argument_at(table, i) / 16 == 0,
     returns
     returns-2
     returns-3)

@@ -19,7 +19,7 @@ body-good-requires c κs =
     let start = c .before .before .before .before .before .before .before in
     let is-body = c .before .is-body in
     let if2 = c .if2 in
-    (start .pre .0, body-is (sym (is-body .ensures) ∙ if2 .taken) .among, omega arith, start .pre .2)
+    (start .pre .0, body-is (sym (is-body .ensures) ∙ if2 .taken) .among, omega arith, start .pre .3)
 
 -- return body_good(table, store, end, at + 4, j);
 returns-2 : tie.Need-returns-2
@@ -53,9 +53,9 @@ piece-good-spec =
     (λ c. search needs)  -- sub-if1: if end - at < 4 {
     returns
     (λ c. search needs)  -- add-word-at: let j = word_at(store, at + 2);
-    (λ c κs. search needs)  -- word-at-requires: let j = word_at(store, at + 2);
-    (λ c κs. search needs)  -- word-at-requires-2: if is_body(table, word_at(store, at), j) {
-    (λ c κs. search needs)  -- is-body-requires: if is_body(table, word_at(store, at), j) {
+    (λ c κs. search needs)  -- word-at-requires
+    (λ c κs. search needs)  -- word-at-requires-2: if is_body(table, ways, word_at(store, at), j) {
+    (λ c κs. search needs)  -- is-body-requires
     (λ c. search needs)  -- add-body-good: return body_good(table, store, end, at + 4, j);
     body-good-requires
     returns-2
