@@ -87,5 +87,5 @@ module _ {t s : List ℕ} {i near : ℕ} (j : Judged t s i near) (at : ℕ) (a :
       (hold-join (rests t s) i at (at + sizeAt t at) r
       (zero-rests s (j .rooted) at at-in at (omega arith) (λ k c d. j .nearest .before k (omega arith) (omega arith))))
 
-  pub at-rests : (k : ℕ) → k ≡ kindAt t at → rests t s at ≡ phaseRests t s at k 0
-  at-rests k e = rw e (fresh-rests t s at (j .nearest .before at a b))
+  pub at-rests : rests t s at ≡ phaseRests t s at (kindAt t at) 0
+  at-rests = fresh-rests t s at (j .nearest .before at a b)

@@ -10,6 +10,9 @@ pub mod Zeros
 pub mod Firsts
 pub mod Near
 pub mod Fresh
+pub mod Phases
+pub mod Around
+pub mod Owned
 pub mod NodeBytes
 pub mod Standing
 pub mod Blameless

@@ -10,12 +10,9 @@ use borrow.Author.Tests.{eqb-true}
 use Rattle.table.proofs.Laid.{both}
 use Rattle.state.specs.StateBytes.{Own, in-phase}
 use Rattle.state.specs.Resting.{phaseAt, flagsAt, countAt, zeroNode, zeroNodes}
+use Rattle.state.specs.Inside.{own}
 
--- a node's own bytes as one number
-abbrev pub own : List ℕ → ℕ → ℕ
-own s i = phaseAt s i * 16777216 + flagsAt s i * 65536 + countAt s i
-
--- they are o
+-- a node's own bytes are o
 abbrev pub Owns : List ℕ → ℕ → Own → Type 0
 Owns s i o = (phaseAt s i ≡ o .phase) × (flagsAt s i ≡ o .flags) × (countAt s i ≡ o .count)
 
@@ -39,6 +36,16 @@ own-not-zero s i e = go (zeroNode s i) refl
     go : (b : Bool) → zeroNode s i ≡ b → b ≡ false
     go true z = let (a, b, c) = zero-owns s i z in absurd (e (rw (a, b, c)))
     go false z = refl
+
+-- two nodes' own bytes as one number
+module _ (s : List ℕ) (i r : ℕ) (two : r ≡ own s i * 4294967296 + own s (i + 1)) where
+  pub two-zero : r ≡ 0 → (zeroNode s i ≡ true) × (zeroNode s (i + 1) ≡ true)
+  two-zero e = (own-zero s i (omega arith), own-zero s (i + 1) (omega arith))
+
+  pub two-not-zero : (r ≡ 0 → ⊥) → zeroNode s (i + 1) ≡ true → zeroNode s i ≡ false
+  two-not-zero e z =
+      let (a, b, c) = zero-owns s (i + 1) z in
+      own-not-zero s i (λ f. e (two ∙ rw (f, a, b, c)))
 
 -- the first of some nodes, and the rest
 pub zero-rest : (s : List ℕ) (a m : ℕ) → 0 < m → zeroNodes s a m ≡ (zeroNode s a && zeroNodes s (a + 1) (m - 1))

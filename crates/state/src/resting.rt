@@ -1,17 +1,15 @@
 // Refusal 10: a state that isn't at rest (specs/Resting.antt). The nodes with a byte other than zero are met from the last to the first.
 // The last one met is the nearest such node, `near`, behind all nodes that are still to judge, and so tells which subtrees are all zero.
 ghost use mathlib.Core.Path.{_≡_};
-ghost use mathlib.Core.Bool.{cond, not, _&&_, _||_};
+ghost use mathlib.Core.Bool.{false, not, _&&_};
 ghost use Prim.Native.Nat.{_+_, _*_, _<_, _≤_};
-ghost use lib.Dec.{eqb, leb};
 ghost use lib.ListN.{length};
 ghost use Rattle.events.specs.Events.{lowest};
-ghost use Rattle.table.specs.Records.{kindAt, sizeAt, secondAt};
+ghost use Rattle.table.specs.Records.{kindAt, argumentAt, sizeAt};
 ghost use Rattle.table.specs.Good.{children};
 ghost use Rattle.table.specs.Inside.{Rooted};
-ghost use Rattle.state.specs.Resting.{phaseAt, flagsAt, countAt, zeroNodes, firstZero, secondZero};
-ghost use Rattle.state.specs.Resting.{branchRests, phaseRests, flagsRest, countRests, rests};
-ghost use Rattle.state.specs.Inside.{ZeroFrom, Tells, Judged, Judging, Blamed};
+ghost use Rattle.state.specs.Resting.{zeroNode, zeroNodes, secondZero, repeats, mostRuns, phaseRests, countRests, rests};
+ghost use Rattle.state.specs.Inside.{own, Number, hasSecond, oneEnded, countedBelow, TwosFrom, ZeroFrom, Tells, Judged, Judging, Blamed};
 use table::records::argument_at;
 use table::records::kind_at;
 use table::records::second_at;
@@ -22,9 +20,17 @@ use table::records::word_at;
 // Node i's own bytes as one number.
 fn own_at(state: &[u8], i: usize) -> usize
     requires { ⌜ 4 * i + 3 < length (now state) ⌝ }
-    ensures { λ r. ⌜ r ≡ phaseAt (now (state .entry)) i * 16777216 + flagsAt (now (state .entry)) i * 65536 + countAt (now (state .entry)) i ⌝ }
+    ensures { λ r. ⌜ Number (now (state .entry)) i r ⌝ }
 {
     wide(state[4 * i]) * 16777216 + wide(state[4 * i + 1]) * 65536 + word_at(state, 4 * i + 2)
+}
+
+// Those of nodes i and i + 1.
+fn two_at(state: &[u8], i: usize) -> usize
+    requires { ⌜ 4 * i + 7 < length (now state) ⌝ }
+    ensures { λ r. ⌜ r ≡ own (now (state .entry)) i * 4294967296 + own (now (state .entry)) (i + 1) ⌝ }
+{
+    own_at(state, i) * 4294967296 + own_at(state, i + 1)
 }
 
 // Whether the m nodes from a on have no byte but zeros.
@@ -72,117 +78,102 @@ fn second_zero(table: &[u8], state: &[u8], i: usize, near: usize) -> bool
     zero_part(state, near, second, end - second)
 }
 
-// Whether a Seq or Until rests, in its first part or in its second.
-fn part_rests(table: &[u8], state: &[u8], i: usize, near: usize, phase: usize) -> bool
-    requires { ⌜ Judging (now table) (now state) i near ⌝ }
-    requires { ⌜ children (kindAt (now table) i) ≡ 2 ⌝ }
-    ensures { λ r. ⌜ r ≡ ((eqb phase 0 && secondZero (now (table .entry)) (now (state .entry)) i)
-        || (eqb phase 2 && firstZero (now (table .entry)) (now (state .entry)) i)) ⌝ }
-{
-    match phase {
-        0 => second_zero(table, state, i, near),
-        2 => second_at(table, i) <= near,
-        _ => false,
-    }
-}
-
-// Whether a When or an If rests, before it chose or in a branch.
-fn branch_rests(table: &[u8], state: &[u8], i: usize, near: usize, phase: usize) -> bool
-    requires { ⌜ Judging (now table) (now state) i near ⌝ }
-    requires { ⌜ children (kindAt (now table) i) ≡ 2 ⌝ }
-    ensures { λ r. ⌜ r ≡ branchRests (now (table .entry)) (now (state .entry)) i phase ⌝ }
-{
-    match phase {
-        0 => i + size_at(table, i) <= near,
-        1 => second_zero(table, state, i, near),
-        2 => second_at(table, i) <= near,
-        _ => false,
-    }
-}
-
-// Whether a Loop, Repeat or RepeatExt rests, not begun or begun.
-fn body_rests(table: &[u8], i: usize, near: usize, phase: usize) -> bool
-    requires { ⌜ 6 * i + 11 < length (now table) ⌝ }
-    ensures { λ r. ⌜ r ≡ ((eqb phase 0 && leb (secondAt (now (table .entry)) i) near) || eqb phase 1) ⌝ }
-{
-    match phase {
-        0 => second_at(table, i) <= near,
-        1 => true,
-        _ => false,
-    }
-}
-
-// Whether node i, of kind k, rests in a phase other than 3.
-fn phase_rests(table: &[u8], state: &[u8], i: usize, near: usize, k: usize, phase: usize) -> bool
-    requires { ⌜ Judging (now table) (now state) i near ⌝ }
-    requires { ⌜ k ≡ kindAt (now table) i ⌝ }
-    ensures { λ r. ⌜ r ≡ phaseRests (now (table .entry)) (now (state .entry)) i k phase ⌝ }
+// Whether a kind has a second part or branch: a Seq, When, Until or If.
+fn has_second(k: usize) -> bool
+    ensures { λ r. ⌜ r ≡ hasSecond k ⌝ }
 {
     match k {
-        3 | 10 => part_rests(table, state, i, near, phase),
-        5 => body_rests(table, i, near, phase),
-        6 | 15 => body_rests(table, i, near, phase),
-        9 | 14 => branch_rests(table, state, i, near, phase),
-        _ => phase == 0,
+        3 | 14 => true,
+        _ => 8 < k && k < 11,
     }
 }
 
-// Whether the flags of node i, of kind k, rest.
-fn flags_rest(table: &[u8], state: &[u8], i: usize, k: usize, flags: usize) -> bool
-    requires { ⌜ Rooted (now table) (sizeAt (now table) 0) ⌝ }
-    requires { ⌜ 4 * sizeAt (now table) 0 ≤ length (now state) ⌝ }
-    requires { ⌜ (i < sizeAt (now table) 0) × (k ≡ kindAt (now table) i) ⌝ }
-    ensures { λ r. ⌜ r ≡ cond (eqb k 4) (flagsRest (now (table .entry)) (now (state .entry)) i flags) (eqb flags 0) ⌝ }
+// Whether node i, of kind k, rests in phase 2.
+fn second_rests(table: &[u8], state: &[u8], i: usize, near: usize, k: usize) -> bool
+    requires { ⌜ Judging (now table) (now state) i near × (k ≡ kindAt (now table) i) ⌝ }
+    ensures { λ r. ⌜ r ≡ phaseRests (now (table .entry)) (now (state .entry)) i k 2 ⌝ }
 {
-    if flags == 0 {
-        return true;
+    if has_second(k) {
+        return second_at(table, i) <= near;
     }
-    if k != 4 {
-        return false;
-    }
-    match flags {
-        2 => state[4 * (i + 1)] == 3,
-        8 => state[4 * second_at(table, i)] == 3,
+    false
+}
+
+// Whether it rests in phase 1, its count 0.
+fn begun_rests(table: &[u8], state: &[u8], i: usize, near: usize, k: usize) -> bool
+    requires { ⌜ Judging (now table) (now state) i near × (k ≡ kindAt (now table) i) ⌝ }
+    ensures { λ r. ⌜ r ≡ (phaseRests (now (table .entry)) (now (state .entry)) i k 1 && countRests (now (table .entry)) i k 1 0) ⌝ }
+{
+    match k {
+        5 => true,
+        6 => 0 < argument_at(table, i),
+        15 => 0 < argument_at(table, i) / 16,
+        9 | 14 => second_zero(table, state, i, near),
         _ => false,
     }
 }
 
-// Whether the count of node i, of kind k, rests.
-fn count_rests(table: &[u8], i: usize, k: usize, phase: usize, count: usize) -> bool
-    requires { ⌜ 6 * i + 3 < length (now table) ⌝ }
-    ensures { λ r. ⌜ r ≡ countRests (now (table .entry)) i k phase count ⌝ }
+// Whether node i, a Par, rests with one of its flags TERM: that branch is in phase 3.
+fn flag_rests(table: &[u8], state: &[u8], i: usize, own: usize) -> bool
+    requires { ⌜ Rooted (now table) (sizeAt (now table) 0) ⌝ }
+    requires { ⌜ 4 * sizeAt (now table) 0 ≤ length (now state) ⌝ }
+    requires { ⌜ (i < sizeAt (now table) 0) × (kindAt (now table) i ≡ 4) ⌝ }
+    ensures { λ r. ⌜ r ≡ oneEnded (now (table .entry)) (now (state .entry)) i own ⌝ }
 {
-    if phase != 1 {
-        return count == 0;
+    if own == 2 * 65536 {
+        return state[4 * (i + 1)] == 3;
     }
-    if k == 6 {
-        return count < argument_at(table, i);
+    if own == 8 * 65536 {
+        return state[4 * second_at(table, i)] == 3;
     }
-    if k == 15 {
-        return count < argument_at(table, i) / 16;
-    }
-    count == 0
+    false
 }
 
-// Whether node i rests.
+// Whether own bytes are phase 1 and a count above 0 and below `most`.
+fn counted(own: usize, most: usize) -> bool
+    requires { ⌜ most < 65536 ⌝ }
+    ensures { λ r. ⌜ r ≡ countedBelow own most ⌝ }
+{
+    16777216 < own && own < 16777216 + most
+}
+
+// Whether node i, of kind k, rests with such a count.
+fn count_rests(table: &[u8], i: usize, k: usize, own: usize) -> bool
+    requires { ⌜ 6 * i + 3 < length (now table) ⌝ }
+    ensures { λ r. ⌜ r ≡ (repeats k && countedBelow own (mostRuns k (argumentAt (now (table .entry)) i))) ⌝ }
+{
+    match k {
+        6 => counted(own, argument_at(table, i)),
+        15 => counted(own, argument_at(table, i) / 16),
+        _ => false,
+    }
+}
+
+// Whether node i, which has a byte other than zero, rests. Its own bytes are compared as one number: most have a phase alone.
 fn rests_at(table: &[u8], state: &[u8], i: usize, near: usize) -> bool
-    requires { ⌜ Judging (now table) (now state) i near ⌝ }
+    requires { ⌜ Judging (now table) (now state) i near × (zeroNode (now state) i ≡ false) ⌝ }
     ensures { λ r. ⌜ r ≡ rests (now (table .entry)) (now (state .entry)) i ⌝ }
 {
-    let phase = wide(state[4 * i]);
-    let flags = wide(state[4 * i + 1]);
-    let count = word_at(state, 4 * i + 2);
-    if phase == 3 {
-        return flags == 0 && (count == 0 && i + size_at(table, i) <= near);
+    let own = own_at(state, i);
+    if own == 3 * 16777216 {
+        return i + size_at(table, i) <= near;
     }
     let k = kind_at(table, i);
-    phase_rests(table, state, i, near, k, phase)
-        && (flags_rest(table, state, i, k, flags) && count_rests(table, i, k, phase, count))
+    if own == 2 * 16777216 {
+        return second_rests(table, state, i, near, k);
+    }
+    if own == 16777216 {
+        return begun_rests(table, state, i, near, k);
+    }
+    if k == 4 {
+        return flag_rests(table, state, i, own);
+    }
+    count_rests(table, i, k, own)
 }
 
-// The lowest blamed node from i on, `low` being that of those behind i.
+// The lowest blamed node from i on, which has a byte other than zero, `low` being that of those behind i.
 fn begun_low(table: &[u8], state: &[u8], i: usize, near: usize, low: usize) -> usize
-    requires { ⌜ Judging (now table) (now state) i near ⌝ }
+    requires { ⌜ Judging (now table) (now state) i near × (zeroNode (now state) i ≡ false) ⌝ }
     requires { ⌜ Blamed (now table) (now state) (i + 1) low ⌝ }
     ensures { λ r. ⌜ Blamed (now (table .entry)) (now (state .entry)) i r ⌝ }
 {
@@ -190,6 +181,22 @@ fn begun_low(table: &[u8], state: &[u8], i: usize, near: usize, low: usize) -> u
         return low;
     }
     i
+}
+
+// Whether node i, which has no byte but zeros, rests around `near`.
+fn fresh_rests(table: &[u8], state: &[u8], i: usize, near: usize) -> bool
+    requires { ⌜ Judging (now table) (now state) i near × (near < i + sizeAt (now table) i) ⌝ }
+    ensures { λ r. ⌜ r ≡ phaseRests (now (table .entry)) (now (state .entry)) i (kindAt (now (table .entry)) i) 0 ⌝ }
+{
+    let k = kind_at(table, i);
+    if 10 < k {
+        return k < 14;
+    }
+    match k {
+        4 => true,
+        3 | 10 => second_zero(table, state, i, near),
+        _ => false,
+    }
 }
 
 // The same for all nodes from i up to `near`, which have no byte but zeros. A subtree that is all zero rests as a whole.
@@ -205,7 +212,7 @@ fn fresh_low(table: &[u8], state: &[u8], i: usize, near: usize, low: usize) -> u
             at = end;
             continue;
         }
-        if phase_rests(table, state, at, near, kind_at(table, at), 0) {
+        if fresh_rests(table, state, at, near) {
             at += 1;
             continue;
         }
@@ -214,19 +221,34 @@ fn fresh_low(table: &[u8], state: &[u8], i: usize, near: usize, low: usize) -> u
     low
 }
 
-// Where the nodes before `near` that have no byte but zeros begin.
+// Two by two, where the nodes before `near` that have no byte but zeros begin.
+fn zero_twos(state: &[u8], near: usize) -> usize
+    requires { ⌜ 4 * near ≤ length (now state) ⌝ }
+    ensures { λ r. ⌜ TwosFrom (now (state .entry)) near r ⌝ }
+{
+    let mut i = near;
+    while 1 < i {
+        if two_at(state, i - 2) != 0 {
+            return i;
+        }
+        i -= 2;
+    }
+    i
+}
+
+// Where they begin.
 fn zero_from(state: &[u8], near: usize) -> usize
     requires { ⌜ 4 * near ≤ length (now state) ⌝ }
     ensures { λ r. ⌜ ZeroFrom (now (state .entry)) near r ⌝ }
 {
-    let mut i = near;
-    while 0 < i {
-        if own_at(state, i - 1) != 0 {
-            return i;
-        }
-        i -= 1;
+    let i = zero_twos(state, near);
+    if i == 0 {
+        return 0;
     }
-    0
+    if own_at(state, i - 1) != 0 {
+        return i;
+    }
+    i - 1
 }
 
 // The lowest node to blame for a state that isn't at rest; n if none is. The table's first n records are a subtree: all of a table's, or those of a

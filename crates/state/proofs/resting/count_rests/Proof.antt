@@ -1,48 +1,38 @@
--- The count's test, case by case.
-use mathlib.Core.Bool.{and-false}
-use borrow.Author.Needs.{needs}
+-- A count below a Repeat's argument, below a RepeatExt's cap.
 use borrow.Author.Tests.{ne-eqb}
-use Rattle.state.specs.Resting.{countRests}
+use borrow.Author.Needs.{needs}
 use Rattle.state.proofs.resting.count_rests.Statement.{statement}
 use Rattle.state.proofs.resting.count_rests.Tie as tie
 
--- return count == 0;
+-- 6 => counted(own, argument_at(table, i)),
 returns : tie.Need-returns
-unfolding countRests
-returns c = let if1 = c .if1 in simp (ne-eqb _ _ (if1 .taken), and-false)
+returns c =
+    let match = c .before .before .match in
+    let argument-at = c .before .argument-at in
+    let counted = c .counted in
+    rw (match .keys1, ← argument-at .ensures .0) (counted .ensures)
 
--- return count < argument_at(table, i);
+-- 15 => counted(own, argument_at(table, i) / 16),
 returns-2 : tie.Need-returns-2
-unfolding countRests
 returns-2 c =
-    let if1 = c .before .before .if1 in
-    let if2 = c .before .if2 in
-    let argument-at = c .argument-at in
-    rw (if2 .taken, if1 .left, argument-at .ensures .0)
+    let match = c .before .before .match in
+    let argument-at2 = c .before .argument-at2 in
+    let counted2 = c .counted2 in
+    rw (match .keys2, ← argument-at2 .ensures .0) (counted2 .ensures)
 
--- return count < argument_at(table, i) / 16;
+-- _ => false,
 returns-3 : tie.Need-returns-3
-unfolding countRests
 returns-3 c =
-    let if1 = c .before .before .before .if1 in
-    let if3 = c .before .if3 in
-    let argument-at2 = c .argument-at2 in
-    rw (if3 .taken, if1 .left, argument-at2 .ensures .0)
-
--- count == 0
-returns-4 : tie.Need-returns-4
-unfolding countRests
-returns-4 c =
-    let if2 = c .before .if2 in
-    let if3 = c .if3 in
-    simp (ne-eqb _ _ (if2 .left), ne-eqb _ _ (if3 .left))
+    let match = c .match in
+    simp (ne-eqb _ _ (match .rest .0 .1), ne-eqb _ _ (match .rest .1))
 
 pub count-rests-spec : {M : Type 1} → statement M
 count-rests-spec =
     tie.close (tie.spec
+    (λ c κs. search needs)  -- argument-at-requires: 6 => counted(own, argument_at(table, i)),
+    (λ c κs. search needs)  -- counted-requires: 6 => counted(own, argument_at(table, i)),
+    (λ c κs. search needs)  -- argument-at-requires-2: 15 => counted(own, argument_at(table, i) / 16),
+    (λ c κs. search needs)  -- counted-requires-2: 15 => counted(own, argument_at(table, i) / 16),
     returns
-    (λ c κs. search needs)  -- argument-at-requires: return count < argument_at(table, i);
     returns-2
-    (λ c κs. search needs)  -- argument-at-requires-2: return count < argument_at(table, i) / 16;
-    returns-3
-    returns-4)
+    returns-3)

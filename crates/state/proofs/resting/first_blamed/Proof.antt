@@ -54,7 +54,7 @@ begun-low-requires c κs =
     let z = zero-from .ensures in
     let e : zero-from .result - 1 + 1 ≡ zero-from .result = omega arith in
     let j = judged (start .args .state .now) (own-size (start .pre .0)) (rw (← start .pre .0 .whole) at (start .pre .1)) (loop .inv .0) z in
-    (record { inside = omega (arith, z .within); behind = rw e j }, rw e (fresh-low .ensures))
+    ((record { inside = omega (arith, z .within); behind = rw e j }, z .first (omega arith)), rw e (fresh-low .ensures))
 
 -- while 0 < near {
 loop-again : tie.Need-loop-again Inv-loop μ-loop

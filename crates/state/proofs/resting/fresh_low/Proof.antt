@@ -34,37 +34,36 @@ loop-again c =
     let if1 = c .if1 in
     (search needs, if1 .taken, on-past (start .pre .0) (loop .at) (loop .inv .0) (search needs) _ (size-at .ensures .0) (if1 .taken) (loop .inv .2))
 
--- if phase_rests(table, state, at, near, kind_at(table, at), 0) {
-phase-rests-requires : tie.Need-phase-rests-requires Inv-loop μ-loop
-phase-rests-requires c κs =
-    let start = c .before .before .before .before .before .before .before in
-    let loop = c .before .before .before .before .loop in
-    let kind-at = c .kind-at in
-    (judging (start .pre .0) (loop .at) (loop .inv .0) (search needs), kind-at .ensures .0)
+-- if fresh_rests(table, state, at, near) {
+fresh-rests-requires : tie.Need-fresh-rests-requires Inv-loop μ-loop
+fresh-rests-requires c κs =
+    let start = c .before .before .before .before .before .before in
+    let loop = c .before .before .before .loop in
+    let size-at = c .before .size-at in
+    let if1 = c .if1 in
+    (judging (start .pre .0) (loop .at) (loop .inv .0) (search needs), rw (size-at .ensures .0) at (if1 .left))
 
 -- while at < near {
 loop-again-2 : tie.Need-loop-again-2 Inv-loop μ-loop
 loop-again-2 c =
-    let start = c .before .before .before .before .before .before .before .before .before in
-    let loop = c .before .before .before .before .before .before .loop in
-    let kind-at = c .before .before .kind-at in
-    let phase-rests = c .before .phase-rests in
+    let start = c .before .before .before .before .before .before .before .before in
+    let loop = c .before .before .before .before .before .loop in
+    let fresh-rests = c .before .fresh-rests in
     let if2 = c .if2 in
     let R = rests (start .args .table .now) (start .args .state .now) in
-    let e = at-rests (start .pre .0) (loop .at) (loop .inv .0) (search needs) _ (kind-at .ensures .0) in
-    (search needs, search needs, hold-join R _ (loop .at) _ (loop .inv .2) (hold-one R (loop .at) (e ∙ sym (phase-rests .ensures) ∙ if2 .taken)))
+    let e = at-rests (start .pre .0) (loop .at) (loop .inv .0) (search needs) in
+    (search needs, search needs, hold-join R _ (loop .at) _ (loop .inv .2) (hold-one R (loop .at) (e ∙ sym (fresh-rests .ensures) ∙ if2 .taken)))
 
 -- return at;
 returns : tie.Need-returns Inv-loop μ-loop
 returns c =
-    let start = c .before .before .before .before .before .before .before .before .before in
-    let loop = c .before .before .before .before .before .before .loop in
-    let kind-at = c .before .before .kind-at in
-    let phase-rests = c .before .phase-rests in
+    let start = c .before .before .before .before .before .before .before .before in
+    let loop = c .before .before .before .before .before .loop in
+    let fresh-rests = c .before .fresh-rests in
     let if2 = c .if2 in
     let j = start .pre .0 in
-    let e = at-rests j (loop .at) (loop .inv .0) (search needs) _ (kind-at .ensures .0) in
-    record { from = loop .inv .0; within = omega arith; before = loop .inv .2; there = λ z. e ∙ sym (phase-rests .ensures) ∙ if2 .left }
+    let e = at-rests j (loop .at) (loop .inv .0) (search needs) in
+    record { from = loop .inv .0; within = omega arith; before = loop .inv .2; there = λ z. e ∙ sym (fresh-rests .ensures) ∙ if2 .left }
 
 -- low
 returns-2 : tie.Need-returns-2 Inv-loop μ-loop
@@ -85,8 +84,7 @@ fresh-low-spec =
     (λ c. search needs)  -- add-end
     loop-less
     loop-again
-    (λ c κs. search needs)  -- kind-at-requires: if phase_rests(table, state, at, near, kind_at(ta..
-    phase-rests-requires
+    fresh-rests-requires
     (λ c. search needs)  -- add-at: at += 1;
     (λ c. search needs)  -- loop-less-2: while at < near {
     loop-again-2

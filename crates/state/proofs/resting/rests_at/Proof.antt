@@ -1,124 +1,99 @@
--- The whole test of a node, part by part.
+-- The whole test of a node, number by number.
+use Prim.Native.Nat.{ℕ, _+_, _*_, _<_}
 use mathlib.Core.Path.{sym, _∙_}
-use borrow.Author.Tests.{ne-eqb}
-use Rattle.state.specs.Resting.{rests}
+use native.Mathlib.Omega.{arith}
+use Rattle.table.specs.Records.{byte, argumentAt}
 use Rattle.state.proofs.Near.{below-near}
+use Rattle.state.proofs.Phases.{most-fits}
+use Rattle.state.proofs.Owned.{phase-alone, gone-so, second-so, begun-so, flag-so, count-so}
+use borrow.Author.Needs.{needs}
 use Rattle.state.proofs.resting.rests_at.Statement.{statement}
 use Rattle.state.proofs.resting.rests_at.Tie as tie
-use borrow.Author.Needs.{needs}
 
--- return flags == 0 && (count == 0 && i + size_at(table, i) <= near);
+-- return i + size_at(table, i) <= near;
 returns : tie.Need-returns
-unfolding rests
 returns c =
-    let start = c .before .before .before .before .before .before .before .before .before .before .before in
-    let wide = c .before .before .before .before .before .before .before .wide in
-    let wide2 = c .before .before .before .before .before .wide2 in
-    let word-at = c .before .before .before .before .word-at in
-    let if1 = c .before .before .before .if1 in
-    let if2 = c .before .before .if2 in
-    let if3 = c .before .if3 in
-    let size-at = c .size-at in
-    let no-count = sym (word-at .ensures .0) ∙ if3 .taken in
-    rw
-    (sym (wide .ensures .0) ∙ if1 .taken, sym (wide2 .ensures .0) ∙ if2 .taken, no-count, size-at .ensures .0)
-    (sym (below-near (start .pre)))
-
-returns-2 : tie.Need-returns-2
-unfolding rests
-returns-2 c =
-    let wide = c .before .before .before .before .before .before .wide in
-    let wide2 = c .before .before .before .before .wide2 in
-    let word-at = c .before .before .before .word-at in
-    let if1 = c .before .before .if1 in
-    let if2 = c .before .if2 in
-    let if3 = c .if3 in
-    rw (sym (wide .ensures .0) ∙ if1 .taken, sym (wide2 .ensures .0) ∙ if2 .taken, ← word-at .ensures .0, ne-eqb _ _ (if3 .left))
-
-returns-3 : tie.Need-returns-3
-unfolding rests
-returns-3 c =
-    let wide = c .before .before .before .before .before .wide in
-    let wide2 = c .before .before .before .wide2 in
+    let start = c .before .before .before .before .before in
+    let own-at = c .before .before .own-at in
     let if1 = c .before .if1 in
-    let if2 = c .if2 in
-    rw (sym (wide .ensures .0) ∙ if1 .taken, ← wide2 .ensures .0, ne-eqb _ _ (if2 .left))
+    let size-at = c .size-at in
+    let alone = phase-alone (own-at .ensures) 3 (if1 .taken) in
+    rw (size-at .ensures .0) (sym (gone-so _ _ _ alone ∙ below-near (start .pre .0)))
 
--- fn rests_at
+-- return second_rests(table, state, i, near, k);
+returns-2 : tie.Need-returns-2
+returns-2 c =
+    let own-at = c .before .before .before .before .own-at in
+    let kind-at = c .before .before .kind-at in
+    let if2 = c .before .if2 in
+    let second-rests = c .second-rests in
+    second-rests .ensures ∙ rw (kind-at .ensures .0) (sym (second-so _ _ _ (phase-alone (own-at .ensures) 2 (if2 .taken))))
+
+-- return begun_rests(table, state, i, near, k);
+returns-3 : tie.Need-returns-3
+returns-3 c =
+    let own-at = c .before .before .before .before .before .own-at in
+    let kind-at = c .before .before .before .kind-at in
+    let if3 = c .before .if3 in
+    let begun-rests = c .begun-rests in
+    begun-rests .ensures ∙ rw (kind-at .ensures .0) (sym (begun-so _ _ _ (phase-alone (own-at .ensures) 1 (if3 .taken))))
+
+-- return flag_rests(table, state, i, own);
+flag-rests-requires : tie.Need-flag-rests-requires
+flag-rests-requires c κs =
+    let start = c .before .before .before .before .before .before .before .before in
+    let kind-at = c .before .before .before .kind-at in
+    let if4 = c .if4 in
+    let j = start .pre .0 in
+    (j .behind .rooted, (j .behind .room, (j .inside, sym (kind-at .ensures .0) ∙ if4 .taken)))
+
+-- return flag_rests(table, state, i, own);
 returns-4 : tie.Need-returns-4
-unfolding rests
 returns-4 c =
-    let wide = c .before .before .before .before .before .before .before .before .before .before .wide in
-    let wide2 = c .before .before .before .before .before .before .before .before .wide2 in
-    let word-at = c .before .before .before .before .before .before .before .word-at in
-    let if1 = c .before .before .before .before .before .before .if1 in
-    let kind-at = c .before .before .before .before .before .kind-at in
-    let phase-rests = c .before .before .before .before .phase-rests in
-    let if4 = c .before .before .before .if4 in
-    let flags-rest = c .before .before .flags-rest in
-    let if5 = c .before .if5 in
-    let count-rests = c .count-rests in
-    let phase-ok = sym (phase-rests .ensures) ∙ if4 .taken in
-    let flags-ok = sym (flags-rest .ensures) ∙ if5 .taken in
-    rw
-    (← wide .ensures .0, ← wide2 .ensures .0, ← word-at .ensures .0, ← kind-at .ensures .0, ne-eqb _ _ (if1 .left), phase-ok, flags-ok)
-    (count-rests .ensures)
-
-returns-5 : tie.Need-returns-5
-unfolding rests
-returns-5 c =
-    let wide = c .before .before .before .before .before .before .before .before .before .wide in
-    let wide2 = c .before .before .before .before .before .before .before .wide2 in
-    let word-at = c .before .before .before .before .before .before .word-at in
+    let start = c .before .before .before .before .before .before .before .before .before in
+    let own-at = c .before .before .before .before .before .before .own-at in
     let if1 = c .before .before .before .before .before .if1 in
     let kind-at = c .before .before .before .before .kind-at in
-    let phase-rests = c .before .before .before .phase-rests in
-    let if4 = c .before .before .if4 in
-    let flags-rest = c .before .flags-rest in
-    let if5 = c .if5 in
-    let phase-ok = sym (phase-rests .ensures) ∙ if4 .taken in
-    let flags-bad = sym (flags-rest .ensures) ∙ if5 .left in
-    rw
-    (← wide .ensures .0, ← wide2 .ensures .0, ← word-at .ensures .0, ← kind-at .ensures .0, ne-eqb _ _ (if1 .left), phase-ok, flags-bad)
-    (if5 .left)
+    let if4 = c .before .if4 in
+    let flag-rests = c .flag-rests in
+    flag-rests .ensures
+    ∙ sym (flag-so _ _ _ (own-at .ensures) (start .pre .1) (if1 .left) (sym (kind-at .ensures .0) ∙ if4 .taken))
 
-returns-6 : tie.Need-returns-6
-unfolding rests
-returns-6 c =
-    let wide = c .before .before .before .before .before .before .before .wide in
-    let wide2 = c .before .before .before .before .before .wide2 in
-    let word-at = c .before .before .before .before .word-at in
-    let if1 = c .before .before .before .if1 in
-    let kind-at = c .before .before .kind-at in
-    let phase-rests = c .before .phase-rests in
-    let if4 = c .if4 in
-    let phase-bad = sym (phase-rests .ensures) ∙ if4 .left in
-    rw
-    (← wide .ensures .0, ← wide2 .ensures .0, ← word-at .ensures .0, ← kind-at .ensures .0, ne-eqb _ _ (if1 .left), phase-bad)
-    (if4 .left)
+-- count_rests(table, i, k, own)
+returns-5 : tie.Need-returns-5
+returns-5 c =
+    let start = c .before .before .before .before .before .before .before .before .before in
+    let shared-slice-known = c .before .before .before .before .before .before .before .before .shared-slice-known in
+    let own-at = c .before .before .before .before .before .before .own-at in
+    let if1 = c .before .before .before .before .before .if1 in
+    let kind-at = c .before .before .before .before .kind-at in
+    let if2 = c .before .before .before .if2 in
+    let if3 = c .before .before .if3 in
+    let if4 = c .before .if4 in
+    let count-rests = c .count-rests in
+    let t = start .args .table .now in
+    let i = start .args .i in
+    let small : (q : ℕ) → byte t q < 256 = λ q. omega (arith, shared-slice-known .given q) in
+    let fits : argumentAt t i < 65536 = omega (arith, small (6 * i + 2), small (6 * i + 2 + 1)) in
+    count-rests .ensures
+    ∙ sym (count-so _ _ _ (own-at .ensures) (start .pre .1) (if1 .left) (sym (kind-at .ensures .0)) (if4 .left) (if2 .left) (if3 .left)
+    (most-fits (kind-at .result) (argumentAt t i) fits))
 
 pub rests-at-spec : {M : Type 1} → statement M
 rests-at-spec =
     tie.close (tie.spec
-    (λ c. search needs)  -- mul-wide: let phase = wide(state[4 * i]);
-    (λ c. search needs)  -- shared-slice-read-wide
-    (λ c κs. search needs)  -- wide-requires
-    (λ c. search needs)  -- mul-wide-2: let flags = wide(state[4 * i + 1]);
-    (λ c. search needs)  -- add-wide
-    (λ c. search needs)  -- shared-slice-read-wide-2
-    (λ c κs. search needs)  -- wide-requires-2
-    (λ c. search needs)  -- mul-word-at: let count = word_at(state, 4 * i + 2);
-    (λ c. search needs)  -- add-word-at
-    (λ c κs. search needs)  -- word-at-requires
-    (λ c κs. search needs)  -- size-at-requires: return flags == 0 && (count == 0 && i + size_at(t..
-    (λ c. search needs)  -- add-result
+    (λ c κs. search needs)  -- own-at-requires: let own = own_at(state, i);
+    (λ c. search needs)  -- mul-if1: if own == 3 * 16777216 {
+    (λ c κs. search needs)  -- size-at-requires: return i + size_at(table, i) <= near;
+    (λ c. search needs)  -- add-result: return i + size_at(table, i) <= near;
     returns
-    returns-2
-    returns-3
     (λ c κs. search needs)  -- kind-at-requires: let k = kind_at(table, i);
-    (λ c κs. search needs)  -- phase-rests-requires: phase_rests(table, state, i, near, k, phase)..
-    (λ c κs. search needs)  -- flags-rest-requires
-    (λ c κs. search needs)  -- count-rests-requires
+    (λ c. search needs)  -- mul-if2: if own == 2 * 16777216 {
+    (λ c κs. search needs)  -- second-rests-requires: return second_rests(table, state, i, near, k);
+    returns-2
+    (λ c κs. search needs)  -- begun-rests-requires: return begun_rests(table, state, i, near, k);
+    returns-3
+    flag-rests-requires
     returns-4
-    returns-5
-    returns-6)
+    (λ c κs. search needs)  -- count-rests-requires: count_rests(table, i, k, own)
+    returns-5)

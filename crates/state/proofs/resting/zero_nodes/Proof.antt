@@ -23,7 +23,7 @@ returns c =
     let own-at = c .before .own-at in
     let if1 = c .if1 in
     let one-more = zero-rest (start .args .state .now) (loop .at) (loop .left) (search needs) in
-    sym (loop .inv .1 ∙ rw (one-more, own-not-zero _ _ (λ e. if1 .taken (own-at .ensures ∙ e))))
+    sym (loop .inv .1 ∙ rw (one-more, own-not-zero _ _ (λ e. if1 .taken (own-at .ensures .is ∙ e))))
 
 -- while 0 < left {
 loop-again : tie.Need-loop-again Inv-loop μ-loop
@@ -33,7 +33,7 @@ loop-again c =
     let own-at = c .before .own-at in
     let if1 = c .if1 in
     let one-more = zero-rest (start .args .state .now) (loop .at) (loop .left) (search needs) in
-    (omega arith, loop .inv .1 ∙ rw (one-more, own-zero _ _ (sym (own-at .ensures) ∙ if1 .left)))
+    (omega arith, loop .inv .1 ∙ rw (one-more, own-zero _ _ (sym (own-at .ensures .is) ∙ if1 .left)))
 
 -- fn zero_nodes
 returns-2 : tie.Need-returns-2 Inv-loop μ-loop
