@@ -1,15 +1,16 @@
 -- What is left to judge of a record whose kind is known: its zero byte, its argument and its layout.
-use Prim.Native.Nat.{ℕ, zero, suc, _+_, _≤_, _<_}
+use Prim.Native.Nat.{ℕ, zero, suc, _+_, _*_, _≤_, _<_}
 use mathlib.Core.Bool.{true, false, _&&_, _||_, and-true, and-false}
 use mathlib.Core.Path.{_≡_, refl, ap₂, sym, _∙_}
 use mathlib.Core.List.{List, [], _∷_}
 use native.Mathlib.Omega.{arith}
 use lib.Dec.{eqb, ltb}
 use lib.ListN.{getD, List·getD-eq-default}
-use borrow.Author.Tests.{lt-ltb, le-ltb, le-leb, lt-leb, eq-eqb, ne-eqb}
+use borrow.Author.Tests.{lt-ltb, le-ltb, le-leb, lt-leb, eq-eqb, ne-eqb, leb-true, eqb-true}
 use Rattle.table.specs.Records.{nodes, configurations, events, kindAt, zeroAt, argumentAt, sizeAt}
 use Rattle.table.specs.Good.{known, childCounts, children, argumentLimits, argumentLimit, laidOut, goodNode}
-use Rattle.table.specs.Inside.Weighing.{SizedWhole, Within, OfKind}
+use Rattle.table.proofs.Laid.{both}
+use Rattle.table.specs.Inside.Weighing.{SizedWhole, Within, OfKind, Headed}
 
 root-fine : (t : List ℕ) (n i : ℕ) → sizeAt t 0 ≡ n → n ≡ nodes t → (ltb 0 i || eqb (sizeAt t i) (nodes t)) ≡ true
 root-fine t n zero e f = rw (eq-eqb _ _ (e ∙ f))
@@ -18,6 +19,13 @@ root-fine t n (suc i) e f = rw (lt-ltb 0 (suc i) (omega arith))
 pub bad-kind : (t : List ℕ) (i : ℕ) → known (kindAt t i) ≡ false → false ≡ goodNode t i
 unfolding goodNode
 bad-kind t i h = rw h
+
+pub good-head : (t : List ℕ) (i : ℕ) → goodNode t i ≡ true → (kindAt t i ≤ 15) × (zeroAt t i ≡ 0)
+unfolding goodNode
+good-head t i g =
+    let h = both g in
+    let z = both {a = eqb (zeroAt t i) 0} (h .1) in
+    (leb-true _ _ (h .0), eqb-true _ _ (z .0))
 
 -- the kinds that there aren't, and those that there are
 pub above-all : (k : ℕ) → 15 < k → known k ≡ false
@@ -72,9 +80,13 @@ within-of P i l =
     let F = P .framed in
     record { long = omega arith; n-is = F .n-is; n-most = F .n-most; whole = P .whole; here = l }
 
-pub as-kind : {t : List ℕ} {i r : ℕ} → r ≡ kindAt t i → (k : ℕ) → r ≡ k → known k ≡ true → {limit count : ℕ}
-    → argumentLimit t k ≡ limit → children k ≡ count → OfKind t i k limit count
-as-kind e k f h l c = record { kind-is = sym e ∙ f; known-kind = h; limit-is = l; count-is = c }
+pub as-head : {t : List ℕ} {i r : ℕ} → r ≡ kindAt t i + 256 * zeroAt t i → kindAt t i < 256 → (k : ℕ) → r ≡ k → k ≤ 15 → {limit count : ℕ}
+    → argumentLimit t k ≡ limit → children k ≡ count → Headed t i k limit count
+as-head e l k f h limited counted =
+    record {
+      of-kind = record { kind-is = omega arith; known-kind = known-so k h; limit-is = limited; count-is = counted };
+      zero-is = omega arith;
+    }
 
 -- all of a list are at most b
 abbrev pub Most : ℕ → List ℕ → Type 0
@@ -105,6 +117,9 @@ own-kind K =
     rw
     (K .kind-is)
     (record { kind-is = K .kind-is; known-kind = K .known-kind; limit-is = K .limit-is; count-is = K .count-is })
+
+pub own-head : {t : List ℕ} {i k limit count : ℕ} → Headed t i k limit count → Headed t i (kindAt t i) limit count
+own-head K = record { of-kind = own-kind (K .of-kind); zero-is = K .zero-is }
 
 module _ {t : List ℕ} {n i limit count : ℕ} (w : Within t n i) (k : OfKind t i (kindAt t i) limit count) where
   judged : goodNode t i ≡ (eqb (zeroAt t i) 0 && (ltb (argumentAt t i) limit && laidOut (sizeAt t) n i count))

@@ -21,6 +21,7 @@ pub mod Order
 pub mod Rows
 pub mod Weighed
 pub mod Judged
+pub mod Standing
 pub mod Deep
 pub mod Waits
 pub mod Placing

@@ -1,5 +1,5 @@
 -- Placing a good node: what it needs of the row, and what the row is afterwards.
-use Prim.Native.Nat.{ℕ, _+_, _-_, _≤_, _<_}
+use Prim.Native.Nat.{ℕ, _+_, _-_, _*_, _≤_, _<_}
 use mathlib.Core.Bool.{Bool, true, false, cond, not, _&&_}
 use mathlib.Core.Path.{_≡_, refl, sym, ap, _∙_}
 use mathlib.Core.List.{List}
@@ -19,19 +19,23 @@ use Rattle.table.proofs.Here.{Here, no-part, one-part, two-parts, here,
 use Rattle.table.proofs.Little.{below-or}
 use Rattle.table.proofs.Parts.{limitOf, by-kind, of-none, of-one, of-two}
 use Rattle.table.proofs.Rows.{height-most, row-more}
-use Rattle.table.proofs.Waits.{Topmost, topmost, waits-more, waiting-row, waiting-kept, length-put, put-last}
-use Rattle.table.proofs.Waits.{last-apart, last-here}
+use Rattle.table.proofs.Waits.{Topmost, topmost, waits-more, waiting-row, waiting-kept, length-put, put-first}
+use Rattle.table.proofs.Waits.{first-apart, first-here}
 
 -- the row with the lowest endless Loop kept in it, if b
 record Kept (w w′ : List ℕ) (b : Bool) (i : ℕ) : Type 0 where
-  long : length w′ ≡ 385
-  below : (j : ℕ) → j < 64 → weightAt w′ j ≡ weightAt w j
-  last : getD w′ 384 0 ≡ cond b i (getD w 384 0)
+  long : length w′ ≡ length w
+  below : (j : ℕ) → weightAt w′ j ≡ weightAt w j
+  first : getD w′ 0 0 ≡ cond b i (getD w 0 0)
 
-kept : (w w′ : List ℕ) (b : Bool) (i : ℕ) → length w ≡ 385 → w′ ≡ cond b (set w 384 i) w → Kept w w′ b i
+kept : (w w′ : List ℕ) (b : Bool) (i : ℕ) → 0 < length w → w′ ≡ cond b (set w 0 i) w → Kept w w′ b i
 kept w w′ true i l e =
-    rw e (record { long = length-set w 384 i ∙ l; below = last-apart w i; last = last-here w i l })
-kept w w′ false i l e = rw e (record { long = l; below = λ j h. refl; last = refl })
+    rw e (record { long = length-set w 0 i; below = first-apart w i; first = first-here w i l })
+kept w w′ false i l e = rw e (record { long = refl; below = λ j. refl; first = refl })
+
+-- the row is long enough for place k
+pub place-fits : {t w : List ℕ} {n i top : ℕ} → ToPlace t w n i top → (k : ℕ) → k < n → k < 64 → 6 * k + 6 < length w
+place-fits R k a b = omega (arith, R .long-row)
 
 bit-none : (b : Bool) → eqb (bit b) 0 ≡ not b
 bit-none true = refl
@@ -68,6 +72,12 @@ module _ {t w : List ℕ} {n i k limit count top : ℕ} (R : ToPlace t w n i top
   pub few-nodes : sizeAt t i ≤ 4096
   few-nodes =
       omega (arith, size-is, spells-from t (R .configurations-good) i good-from i (omega arith) here-below .ends, R .within .n-most)
+
+  -- the number of its test, where its argument is one
+  pub argument-fits : limit ≡ configurations t → argumentAt t i < configurations t
+  argument-fits e =
+      let same : argumentLimit t (kindAt t i) ≡ configurations t = rw (K .kind-is) (K .limit-is ∙ e) in
+      rw same at (fine t i (kindAt t i) refl good .argument-below)
 
   -- when its test, if it has one, can be decided early
   early-here : (e : ℕ) → TestsAt t i k e → Tests e (treeAt t i)
@@ -108,10 +118,11 @@ module _ {t w : List ℕ} {n i k limit count top : ℕ} (R : ToPlace t w n i top
       go (no-part s v) =
           record {
             good = good;
-            long-row = length-put w top x ∙ R .long-row;
-            waits = waits-more t w top i x (R .long-row) h here-below (f _ v kind-is (early-here e d)) (rw s (R .waits));
+            long-row = length-put w top x;
+            waits = waits-more t w top i x (place-fits R top (omega (arith, R .few)) h) here-below (f _ v kind-is (early-here e d)) (rw s (R .waits));
             room = omega arith;
-            endless = put-last w top x h ∙ rw (of-none v .endless-is);
+            few = omega (arith, R .few, n-is);
+            endless = put-first w top x ∙ rw (of-none v .endless-is);
           }
 
   first-below : (count ≡ 0 → ⊥) → i + 1 < nodes t
@@ -164,19 +175,23 @@ module _ {t w : List ℕ} {n i k limit count top : ℕ} (R : ToPlace t w n i top
           let a = first-taken (λ e. omega arith) in
           let b = second-taken c in
           let g : secondAt t i + sizeAt t (secondAt t i) ≡ i + sizeAt t i = omega arith in
+          let two = two-wait c in
+          let o = R .room in
+          let few = R .few in
           record {
             good = good;
-            long-row = length-put w (top - 2) z ∙ R .long-row;
+            long-row = length-put w (top - 2) z;
             waits =
-                waits-more t w (top - 2) i z (R .long-row) (omega arith) here-below
+                waits-more t w (top - 2) i z (place-fits R (top - 2) (omega arith) (omega arith)) here-below
                 (f _ _ _ v kind-is (early-here e d) (rw (first-place c) at (a .weighs)) (rw second-place at (b .weighs)))
                 (rw (g, second-place) at (b .rest));
             room = omega arith;
-            endless = put-last w (top - 2) z (omega arith) ∙ rw (of-two v .endless-is);
+            few = omega arith;
+            endless = put-first w (top - 2) z ∙ rw (of-two v .endless-is);
           }
 
   pub body-placed : count ≡ 1 → (w′ : List ℕ)
-      → w′ ≡ cond (eqb k 5 && eqb (weightAt w (top - 1) .stops) 0) (set w 384 i) w → (z : Weight)
+      → w′ ≡ cond (eqb k 5 && eqb (weightAt w (top - 1) .stops) 0) (set w 0 i) w → (z : Weight)
       → ((p q : Program) → One p q → Counts (argumentAt t i) p → k ≡ kind p → sizeAt t i ≡ size p → Weighs (weightAt w (top - 1)) q
       → Weighs z p)
       → NowPlaced t w (put w′ (top - 1) z) i top
@@ -185,7 +200,9 @@ module _ {t w : List ℕ} {n i k limit count top : ℕ} (R : ToPlace t w n i top
       go : Here t i 1 → NowPlaced t w (put w′ (top - 1) z) i top
       go (one-part m s v) =
           let a = first-taken (λ e. omega arith) in
-          let y = kept w w′ (eqb k 5 && eqb (weightAt w (top - 1) .stops) 0) i (R .long-row) d in
+          let y = kept w w′ (eqb k 5 && eqb (weightAt w (top - 1) .stops) 0) i (omega (arith, R .long-row)) d in
+          let few = R .few in
+          let fits = place-fits R (top - 1) (omega arith) (omega arith) in
           let o = R .room in
           let e : top - 1 + 1 ≡ top = omega arith in
           let g : i + 1 + sizeAt t (i + 1) ≡ i + sizeAt t i = omega arith in
@@ -193,12 +210,13 @@ module _ {t w : List ℕ} {n i k limit count top : ℕ} (R : ToPlace t w n i top
             good = good;
             long-row = length-put w′ (top - 1) z ∙ y .long;
             waits =
-                rw e at (waits-more t w′ (top - 1) i z (y .long) (omega arith) here-below
+                rw e at (waits-more t w′ (top - 1) i z (rw (y .long) fits) here-below
                 (f _ _ v count-is kind-is size-is (a .weighs))
-                (waiting-kept t w w′ (top - 1) (i + sizeAt t i) (λ j h. y .below j (omega arith)) (rw g at (a .rest))));
+                (waiting-kept t w w′ (top - 1) (i + sizeAt t i) (λ j h. y .below j) (rw g at (a .rest))));
             room = o;
+            few = omega arith;
             endless =
-                put-last w′ (top - 1) z (omega arith)
-                ∙ (y .last
+                put-first w′ (top - 1) z
+                ∙ (y .first
                 ∙ rw (kind-is, a .weighs .stops-is, bit-none (stops (treeAt t (i + 1))), of-one v .endless-is));
           }

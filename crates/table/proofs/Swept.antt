@@ -4,17 +4,17 @@ use mathlib.Core.Bool.{Bool, true, false, cond}
 use mathlib.Core.Path.{_≡_, refl}
 use mathlib.Core.List.{List}
 use native.Mathlib.Omega.{arith}
-use lib.ListN.{length, getD}
+use lib.ListN.{getD, set, length-set}
 use Rattle.table.specs.Records.{nodes, sizeAt}
 use Rattle.table.specs.Good.{goodNode}
 use Rattle.table.specs.Verdict.{endlessLoop}
-use Rattle.table.specs.Inside.Weighing.{Weighs, weightAt, Waiting, treeAt, SizedWhole, AllGood}
+use Rattle.table.specs.Inside.Weighing.{Weighs, weightAt, Roomy, Waiting, treeAt, SizedWhole, AllGood}
 use Rattle.table.specs.Inside.Weighing.{ToPlace, NowPlaced}
 use Rattle.table.proofs.Answers.{all-good}
 use Rattle.table.proofs.Judged.{within-of}
 use Rattle.table.proofs.Little.{below-or}
 use Rattle.table.proofs.Order.{Lowest}
-use Rattle.table.proofs.Waits.{topmost}
+use Rattle.table.proofs.Waits.{first-here, topmost}
 
 -- e is the lowest endless Loop from node i on; n if there is none
 pub record Least (t : List ℕ) (n i e : ℕ) : Type 0 where
@@ -39,20 +39,23 @@ least-more {i = i} s h false e =
 pub record Swept (t w : List ℕ) (n i top : ℕ) : Type 0 where
   pub within : i ≤ n
   pub good : (j : ℕ) → i ≤ j → j < n → goodNode t j ≡ true
-  pub long-row : length w ≡ 385
+  pub long-row : Roomy w n
   pub waits : Waiting t w top i
   pub room : top ≤ 64
-  pub endless : Least t n i (getD w 384 0)
+  pub few : i + top ≤ n
+  pub endless : Least t n i (getD w 0 0)
 
-pub swept-none : (t w : List ℕ) (n : ℕ) → n ≡ nodes t → length w ≡ 385 → getD w 384 0 ≡ n → Swept t w n n 0
+pub swept-none : (t w : List ℕ) (n : ℕ) → n ≡ nodes t → Roomy w n → Swept t (set w 0 n) n n 0
 unfolding Waiting
-swept-none t w n e l k =
+swept-none t w n e l =
+    let k = first-here w n (omega arith) in
     record {
       within = omega arith;
       good = λ j h m. absurd (omega arith);
-      long-row = l;
+      long-row = rw (length-set w 0 n) l;
       waits = e;
       room = omega arith;
+      few = omega arith;
       endless =
           record {
             from-i = omega arith;
@@ -75,16 +78,18 @@ module _ {t w : List ℕ} {n i top : ℕ} (s : Swept t w n i top) (h : 0 < i) wh
         long-row = s .long-row;
         waits = rw one-on (s .waits);
         room = s .room;
+        few = omega (arith, s .few);
       }
 
-  pub swept-more : {w′ : List ℕ} {r : ℕ} → NowPlaced t w w′ (i - 1) r → Swept t w′ n (i - 1) r
-  swept-more p =
+  pub swept-more : {w′ : List ℕ} {r : ℕ} → n ≡ nodes t → NowPlaced t w w′ (i - 1) r → Swept t w′ n (i - 1) r
+  swept-more e p =
       record {
         within = omega arith;
         good = λ j f g. below-or j i (λ k. let d : j ≡ i - 1 = omega arith in rw d (p .good)) (λ k. s .good j k g);
-        long-row = p .long-row;
+        long-row = rw (p .long-row) (s .long-row);
         waits = p .waits;
         room = p .room;
+        few = omega (arith, p .few);
         endless = rw (p .endless) (least-more (s .endless) h (endlessLoop (treeAt t (i - 1))) refl);
       }
 
@@ -112,7 +117,7 @@ module _ {t w : List ℕ} {n m v i top : ℕ} (P : SizedWhole t n m v) (s : Swep
       let k-is = none-behind t w (top - 1) (0 + sizeAt t 0) (omega arith) (a .rest) in
       rw k-is at (a .weighs)
 
-  pub lowest-endless : Lowest (λ k. endlessLoop (treeAt t k)) (nodes t) (getD w 384 0)
+  pub lowest-endless : Lowest (λ k. endlessLoop (treeAt t k)) (nodes t) (getD w 0 0)
   lowest-endless =
       record {
         within = omega arith;

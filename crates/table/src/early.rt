@@ -41,14 +41,10 @@ fn early_at(table: &[u8], c: usize, j: usize, early: &[u8]) -> usize
     joined_rank(kind, first, second)
 }
 
-// Of the configuration that node i tests; 0 if the row has none of that number.
+// Of the configuration that node i tests.
 pub fn early_of(table: &[u8], i: usize, early: &[u8]) -> usize
-    requires { ⌜ 6 * i + 3 < length (now table) ⌝ }
+    requires { ⌜ (6 * i + 3 < length (now table)) × (argumentAt (now table) i < length (now early)) ⌝ }
     ensures { λ r. ⌜ r ≡ getD (now (early .entry)) (argumentAt (now (table .entry)) i) 0 ⌝ }
 {
-    let at = argument_at(table, i);
-    if at < early.len() {
-        return wide(early[at]);
-    }
-    0
+    wide(early[argument_at(table, i)])
 }

@@ -1,23 +1,25 @@
 // Refusals 5 to 8. One loop from the last node to the first judges each record and weighs the program that stands there. What a
-// program weighs waits in a row until its parent, which comes later, takes it up: 64 places, and the program that begins first on
+// program weighs waits in a row until its parent, which comes later, takes it up: at most 64 places, and the program that begins first on
 // top, so a node finds its parts there. A table that is refused is looked at again from its first node on.
 ghost use mathlib.Core.Path.{_≡_};
 ghost use mathlib.Core.Bool.{cond, not, _&&_};
 ghost use mathlib.Core.List.{List};
 ghost use Prim.Native.Nat.{ℕ, _+_, _≤_, _<_};
 ghost use lib.Dec.{eqb, leb};
-ghost use lib.ListN.{set};
+ghost use lib.ListN.{length, set};
 ghost use Rattle.events.specs.Events.{lowest};
 ghost use Rattle.table.specs.Records.{nodes, configurations, events, kindAt, sizeAt};
 ghost use Rattle.table.specs.Good.{children, argumentLimit, laidOut, goodNode};
 ghost use Rattle.table.specs.Verdict.{nodesVerdict, preorder, firstSuch, deep};
 ghost use Rattle.table.specs.Inside.{Framed, ConfigurationsGood};
-ghost use Rattle.table.specs.Inside.Early.{KnownFrom, TestsAt};
-ghost use Rattle.table.specs.Inside.Weighing.{treeAt, height, SizedWhole, Within, OfKind, AllGood, ToPlace, Places};
+ghost use Rattle.table.specs.Inside.Early.{AllKnown, Untested};
+ghost use Rattle.table.specs.Inside.Weighing.{treeAt, height, SizedWhole, Within, OfKind, Headed, AllGood};
+ghost use Rattle.table.specs.Inside.Weighing.{Row, Roomy, ToPlace, Places};
 use super::Checked;
 use super::early::early_of;
 use super::early::find_early;
 use super::records::argument_at;
+use super::records::head_at;
 use super::records::kind_at;
 use super::records::second_at;
 use super::records::size_at;
@@ -40,7 +42,7 @@ pub fn check_nodes(table: &[u8], n: usize, m: usize, v: usize) -> Checked
     Checked::BadNode(0)
 }
 
-// Record 0 has size N. A row for few configurations is cleared in less time than one for all that a table can have.
+// Record 0 has size N. Rows for few configurations and few nodes are cleared in less time than those for all that a table can have.
 fn check_whole(table: &[u8], n: usize, m: usize, v: usize) -> Checked
     requires { ⌜ SizedWhole (now table) n m v ⌝ }
     ensures { λ r. ⌜ r ≡ nodesVerdict (now (table .entry)) ⌝ }
@@ -48,35 +50,48 @@ fn check_whole(table: &[u8], n: usize, m: usize, v: usize) -> Checked
     if m <= 64 {
         let mut few = [0u8; 64];
         find_early(table, n, m, &mut few);
-        return check_tests_known(table, n, m, v, &few);
+        if n <= 8 {
+            let mut short = [0u32; 49];
+            return check_tests_known(table, n, m, v, &few, &mut short);
+        }
+        let mut long = [0u32; 385];
+        return check_tests_known(table, n, m, v, &few, &mut long);
     }
     let mut many = [0u8; 2048];
     find_early(table, n, m, &mut many);
-    check_tests_known(table, n, m, v, &many)
+    let mut long = [0u32; 385];
+    check_tests_known(table, n, m, v, &many, &mut long)
 }
 
-// The row has when each configuration can be decided early.
-fn check_tests_known(table: &[u8], n: usize, m: usize, v: usize, early: &[u8]) -> Checked
+// One row has when each configuration can be decided early, the other has room for weights.
+fn check_tests_known(
+    table: &[u8],
+    n: usize,
+    m: usize,
+    v: usize,
+    early: &[u8],
+    waiting: &mut [u32],
+) -> Checked
     requires { ⌜ SizedWhole (now table) n m v ⌝ }
-    requires { ⌜ KnownFrom (now table) (now early) 0 ⌝ }
+    requires { ⌜ AllKnown (now table) (now early) ⌝ }
+    requires { ⌜ Roomy (now waiting) n ⌝ }
     ensures { λ r. ⌜ r ≡ nodesVerdict (now (table .entry)) ⌝ }
 {
-    let mut waiting = [0u32; 385];
-    waiting[384] = n as u32;
+    waiting[0] = n as u32;
     let mut i = n;
     let mut top = 0;
     while i > 0 {
         i -= 1;
-        top = place(table, n, m, v, i, early, &mut waiting, top);
+        top = place(table, m, v, i, early, waiting, top);
         if top == 0 {
             return refused(table, n, m, v);
         }
     }
-    let x = weight_at(&waiting, 0);
+    let x = weight_at(waiting, 0);
     if x.height > 64 {
         return refused(table, n, m, v);
     }
-    let endless = waiting[384] as usize;
+    let endless = waiting[0] as usize;
     if endless < n {
         return Checked::EndlessLoop(endless);
     }
@@ -108,85 +123,93 @@ fn weighed(x: Weight) -> Checked
     }
 }
 
-// Node i takes up its parts and waits. The answer is how many wait now; 0 if the record isn't good, or all places are taken.
+// Node i takes up its parts and waits. The answer is how many wait now; 0 if the record isn't good, or all places are taken. A zero byte that
+// isn't zero makes its head none of these.
 fn place(
     table: &[u8],
-    n: usize,
     m: usize,
     v: usize,
     i: usize,
     early: &[u8],
-    waiting: &mut [u32; 385],
+    waiting: &mut [u32],
     top: usize,
 ) -> usize
-    requires { ⌜ Framed (now table) n m v ⌝ }
-    requires { ⌜ ToPlace (now table) (now waiting) n i top ⌝ }
-    requires { ⌜ KnownFrom (now table) (now early) 0 ⌝ }
+    requires { ⌜ Framed (now table) (nodes (now table)) m v ⌝ }
+    requires { ⌜ ToPlace (now table) (now waiting) (nodes (now table)) i top ⌝ }
+    requires { ⌜ AllKnown (now table) (now early) ⌝ }
     ensures { λ r. ⌜ Places (now (table .entry)) (now (waiting .entry)) (now (waiting .exit)) i r ⌝ }
 {
-    let k = kind_at(table, i);
-    match k {
-        0 => leaf(table, n, i, 0, 1, 0, waiting, top),
-        1 => leaf(table, n, i, 1, 1, 0, waiting, top),
-        2 => leaf(table, n, i, 2, 65536, 0, waiting, top),
-        3 => pair(table, n, i, 3, 1, 0, waiting, top),
-        4 => pair(table, n, i, 4, 1, 0, waiting, top),
-        5 => body(table, n, i, 5, 1, waiting, top),
-        6 => body(table, n, i, 6, 65536, waiting, top),
-        7 => leaf(table, n, i, 7, v, 0, waiting, top),
-        8 => leaf(table, n, i, 8, m, early_of(table, i, early), waiting, top),
-        9 => pair(table, n, i, 9, m, early_of(table, i, early), waiting, top),
-        10 => pair(table, n, i, 10, m, early_of(table, i, early), waiting, top),
-        11 => body(table, n, i, 11, v, waiting, top),
-        12 => body(table, n, i, 12, v, waiting, top),
-        13 => body(table, n, i, 13, v, waiting, top),
-        14 => pair(table, n, i, 14, 16, 0, waiting, top),
-        15 => body(table, n, i, 15, 4096, waiting, top),
+    match head_at(table, i) {
+        0 => leaf(table, i, 0, 1, waiting, top),
+        1 => leaf(table, i, 1, 1, waiting, top),
+        2 => leaf(table, i, 2, 65536, waiting, top),
+        3 => pair(table, i, 3, 1, waiting, top),
+        4 => pair(table, i, 4, 1, waiting, top),
+        5 => body(table, i, 5, 1, waiting, top),
+        6 => body(table, i, 6, 65536, waiting, top),
+        7 => leaf(table, i, 7, v, waiting, top),
+        8 => tested_leaf(table, i, 8, m, early, waiting, top),
+        9 => tested_pair(table, i, 9, m, early, waiting, top),
+        10 => tested_pair(table, i, 10, m, early, waiting, top),
+        11 => body(table, i, 11, v, waiting, top),
+        12 => body(table, i, 12, v, waiting, top),
+        13 => body(table, i, 13, v, waiting, top),
+        14 => pair(table, i, 14, 16, waiting, top),
+        15 => body(table, i, 15, 4096, waiting, top),
         _ => 0,
     }
 }
 
-// A node of kind k without parts, its argument below the limit; its test, if it has one, is decided early as e says.
-fn leaf(
-    table: &[u8],
-    n: usize,
-    i: usize,
-    k: usize,
-    limit: usize,
-    e: usize,
-    waiting: &mut [u32; 385],
-    top: usize,
-) -> usize
-    requires { ⌜ ToPlace (now table) (now waiting) n i top ⌝ }
-    requires { ⌜ OfKind (now table) i k limit 0 ⌝ }
-    requires { ⌜ TestsAt (now table) i k e ⌝ }
+// A node of kind k without parts, its argument below the limit.
+fn leaf(table: &[u8], i: usize, k: usize, limit: usize, waiting: &mut [u32], top: usize) -> usize
+    requires { ⌜ ToPlace (now table) (now waiting) (nodes (now table)) i top ⌝ }
+    requires { ⌜ Headed (now table) i k limit 0 ⌝ }
+    requires { ⌜ Untested k ⌝ }
     ensures { λ r. ⌜ Places (now (table .entry)) (now (waiting .entry)) (now (waiting .exit)) i r ⌝ }
 {
-    if good_as(table, n, i, limit, 0) {
+    if good_leaf(table, i, limit) {
         if top == 64 {
             return 0;
         }
-        put_weight(waiting, top, single(k, e));
+        put_weight(waiting, top, single(k, 0));
         return top + 1;
     }
     0
 }
 
-// With one.
-fn body(
+// With a test.
+fn tested_leaf(
     table: &[u8],
-    n: usize,
     i: usize,
     k: usize,
     limit: usize,
-    waiting: &mut [u32; 385],
+    early: &[u8],
+    waiting: &mut [u32],
     top: usize,
 ) -> usize
-    requires { ⌜ ToPlace (now table) (now waiting) n i top ⌝ }
-    requires { ⌜ OfKind (now table) i k limit 1 ⌝ }
+    requires { ⌜ ToPlace (now table) (now waiting) (nodes (now table)) i top ⌝ }
+    requires { ⌜ Headed (now table) i k limit 0 ⌝ }
+    requires { ⌜ limit ≡ configurations (now table) ⌝ }
+    requires { ⌜ AllKnown (now table) (now early) ⌝ }
     ensures { λ r. ⌜ Places (now (table .entry)) (now (waiting .entry)) (now (waiting .exit)) i r ⌝ }
 {
-    if good_as(table, n, i, limit, 1) {
+    if good_leaf(table, i, limit) {
+        if top == 64 {
+            return 0;
+        }
+        put_weight(waiting, top, single(k, early_of(table, i, early)));
+        return top + 1;
+    }
+    0
+}
+
+// A node with one part.
+fn body(table: &[u8], i: usize, k: usize, limit: usize, waiting: &mut [u32], top: usize) -> usize
+    requires { ⌜ ToPlace (now table) (now waiting) (nodes (now table)) i top ⌝ }
+    requires { ⌜ Headed (now table) i k limit 1 ⌝ }
+    ensures { λ r. ⌜ Places (now (table .entry)) (now (waiting .entry)) (now (waiting .exit)) i r ⌝ }
+{
+    if good_body(table, i, limit, top) {
         let at = top - 1;
         let x = weight_at(waiting, at);
         keep_endless(waiting, i, k, x.stops);
@@ -201,40 +224,103 @@ fn body(
 }
 
 // With two.
-fn pair(
-    table: &[u8],
-    n: usize,
-    i: usize,
-    k: usize,
-    limit: usize,
-    e: usize,
-    waiting: &mut [u32; 385],
-    top: usize,
-) -> usize
-    requires { ⌜ ToPlace (now table) (now waiting) n i top ⌝ }
-    requires { ⌜ OfKind (now table) i k limit 2 ⌝ }
-    requires { ⌜ TestsAt (now table) i k e ⌝ }
+fn pair(table: &[u8], i: usize, k: usize, limit: usize, waiting: &mut [u32], top: usize) -> usize
+    requires { ⌜ ToPlace (now table) (now waiting) (nodes (now table)) i top ⌝ }
+    requires { ⌜ Headed (now table) i k limit 2 ⌝ }
+    requires { ⌜ Untested k ⌝ }
     ensures { λ r. ⌜ Places (now (table .entry)) (now (waiting .entry)) (now (waiting .exit)) i r ⌝ }
 {
-    if good_as(table, n, i, limit, 2) {
+    if good_pair(table, i, limit, top) {
         let at = top - 2;
         let x = weight_at(waiting, at + 1);
         let y = weight_at(waiting, at);
+        put_weight(waiting, at, joined(k, 0, x, y));
+        return at + 1;
+    }
+    0
+}
+
+// With two and a test.
+fn tested_pair(
+    table: &[u8],
+    i: usize,
+    k: usize,
+    limit: usize,
+    early: &[u8],
+    waiting: &mut [u32],
+    top: usize,
+) -> usize
+    requires { ⌜ ToPlace (now table) (now waiting) (nodes (now table)) i top ⌝ }
+    requires { ⌜ Headed (now table) i k limit 2 ⌝ }
+    requires { ⌜ limit ≡ configurations (now table) ⌝ }
+    requires { ⌜ AllKnown (now table) (now early) ⌝ }
+    ensures { λ r. ⌜ Places (now (table .entry)) (now (waiting .entry)) (now (waiting .exit)) i r ⌝ }
+{
+    if good_pair(table, i, limit, top) {
+        let at = top - 2;
+        let x = weight_at(waiting, at + 1);
+        let y = weight_at(waiting, at);
+        let e = early_of(table, i, early);
         put_weight(waiting, at, joined(k, e, x, y));
         return at + 1;
     }
     0
 }
 
+// Node i, whose head is a kind without children, is good.
+fn good_leaf(table: &[u8], i: usize, limit: usize) -> bool
+    requires { ⌜ Within (now table) (nodes (now table)) i ⌝ }
+    requires { ⌜ Headed (now table) i (kindAt (now table) i) limit 0 ⌝ }
+    ensures { λ r. ⌜ r ≡ goodNode (now (table .entry)) i ⌝ }
+{
+    if limit <= argument_at(table, i) {
+        return false;
+    }
+    size_at(table, i) == 1
+}
+
+// With one, so many programs standing behind node i.
+fn good_body(table: &[u8], i: usize, limit: usize, top: usize) -> bool
+    requires { ⌜ Within (now table) (nodes (now table)) i ⌝ }
+    requires { ⌜ Headed (now table) i (kindAt (now table) i) limit 1 ⌝ }
+    requires { ⌜ Row (now table) top (i + 1) ⌝ }
+    ensures { λ r. ⌜ r ≡ goodNode (now (table .entry)) i ⌝ }
+{
+    if limit <= argument_at(table, i) {
+        return false;
+    }
+    if top == 0 {
+        return false;
+    }
+    size_at(table, i) == 1 + size_at(table, i + 1)
+}
+
+// With two.
+fn good_pair(table: &[u8], i: usize, limit: usize, top: usize) -> bool
+    requires { ⌜ Within (now table) (nodes (now table)) i ⌝ }
+    requires { ⌜ Headed (now table) i (kindAt (now table) i) limit 2 ⌝ }
+    requires { ⌜ Row (now table) top (i + 1) ⌝ }
+    ensures { λ r. ⌜ r ≡ goodNode (now (table .entry)) i ⌝ }
+{
+    if limit <= argument_at(table, i) {
+        return false;
+    }
+    if top < 2 {
+        return false;
+    }
+    let first = 1 + size_at(table, i + 1);
+    size_at(table, i) == first + size_at(table, i + first)
+}
+
 // Keeps the lowest Loop whose body doesn't stop: node i, of kind k, if it is one.
-fn keep_endless(waiting: &mut [u32; 385], i: usize, k: usize, stops: u32)
-    requires { ⌜ i < 4096 ⌝ }
+fn keep_endless(waiting: &mut [u32], i: usize, k: usize, stops: u32)
+    requires { ⌜ (i < 4096) × (0 < length (now waiting)) ⌝ }
     ensures { λ r. ⌜ now (waiting .exit) ≡
-        cond (eqb k 5 && eqb stops 0) (set (now (waiting .entry)) 384 i) (now (waiting .entry)) ⌝ }
+        cond (eqb k 5 && eqb stops 0) (set (now (waiting .entry)) 0 i) (now (waiting .entry)) ⌝ }
 {
     if k == 5 {
         if stops == 0 {
-            waiting[384] = i as u32;
+            waiting[0] = i as u32;
         }
     }
 }

@@ -36,6 +36,14 @@ pub fn zero_at(t: &[u8], i: usize) -> usize
     wide(t[6 * i + 1])
 }
 
+// Node i's first two bytes as a number: its kind, if its zero byte is zero.
+pub fn head_at(t: &[u8], i: usize) -> usize
+    requires { ⌜ 6 * i + 1 < length (now t) ⌝ }
+    ensures { λ r. ⌜ (r ≡ kindAt (now (t .entry)) i + 256 * zeroAt (now (t .entry)) i) × (kindAt (now (t .entry)) i < 256) ⌝ }
+{
+    kind_at(t, i) + 256 * zero_at(t, i)
+}
+
 // Node i's argument.
 pub fn argument_at(t: &[u8], i: usize) -> usize
     requires { ⌜ 6 * i + 3 < length (now t) ⌝ }

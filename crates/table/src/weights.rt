@@ -1,8 +1,9 @@
 // What programs weigh, by what their parts weigh, and the row in which weights wait.
 ghost use mathlib.Core.Path.{_≡_};
 ghost use mathlib.Core.Bool.{cond};
-ghost use Prim.Native.Nat.{_≤_, _<_, min, max};
+ghost use Prim.Native.Nat.{_+_, _*_, _≤_, _<_, min, max};
 ghost use lib.Dec.{eqb};
+ghost use lib.ListN.{length};
 ghost use Rattle.junior.specs.Program.{Program, kind, Leaf, One, Two, size};
 ghost use Rattle.junior.specs.Figures.{stops, times};
 ghost use Rattle.table.specs.Inside.Early.{Tests};
@@ -120,13 +121,28 @@ fn once(x: Weight, own: u32, stops: u32) -> Weight
     }
 }
 
+// What counts x twice: a sum of two is small enough not to be capped before.
+fn twice(x: Weight) -> Weight
+    requires { ⌜ Small x ⌝ }
+    ensures { λ r. ⌜ r ≡ repeatedly 2 x 1 ⌝ }
+{
+    Weight {
+        generations: capped(2 * x.generations),
+        atoms: capped(2 * x.atoms),
+        nodes: capped(2 * x.nodes) + 1,
+        parked: capped(2 * x.parked),
+        height: x.height + 1,
+        stops: 1,
+    }
+}
+
 // What a program of kind k and n nodes weighs whose part weighs x. A Freezable parks 4 bytes for each of its nodes (L8).
 pub fn wrapped(k: usize, count: usize, n: usize, x: Weight) -> Weight
     requires { ⌜ (count < 65536) × (n ≤ 4096) × Small x ⌝ }
     ensures { λ r. ⌜ ((p q : Program) → One p q → Counts count p → k ≡ kind p → n ≡ size p → Weighs x q → Weighs r p) ⌝ }
 {
     if k == 5 {
-        return repeated(2, x, 1);
+        return twice(x);
     }
     if k == 6 {
         if count == 0 {
@@ -188,28 +204,28 @@ pub fn joined(k: usize, e: usize, x: Weight, y: Weight) -> Weight
     sum(x, y, x.stops | y.stops)
 }
 
-pub fn weight_at(waiting: &[u32; 385], at: usize) -> Weight
-    requires { ⌜ at < 64 ⌝ }
+pub fn weight_at(waiting: &[u32], at: usize) -> Weight
+    requires { ⌜ 6 * at + 6 < length (now waiting) ⌝ }
     ensures { λ r. ⌜ r ≡ weightAt (now (waiting .entry)) at ⌝ }
 {
     Weight {
-        generations: waiting[at],
-        atoms: waiting[64 + at],
-        nodes: waiting[128 + at],
-        parked: waiting[192 + at],
-        height: waiting[256 + at],
-        stops: waiting[320 + at],
+        generations: waiting[6 * at + 1],
+        atoms: waiting[6 * at + 2],
+        nodes: waiting[6 * at + 3],
+        parked: waiting[6 * at + 4],
+        height: waiting[6 * at + 5],
+        stops: waiting[6 * at + 6],
     }
 }
 
-pub fn put_weight(waiting: &mut [u32; 385], at: usize, x: Weight)
-    requires { ⌜ at < 64 ⌝ }
+pub fn put_weight(waiting: &mut [u32], at: usize, x: Weight)
+    requires { ⌜ 6 * at + 6 < length (now waiting) ⌝ }
     ensures { λ r. ⌜ now (waiting .exit) ≡ put (now (waiting .entry)) at x ⌝ }
 {
-    waiting[at] = x.generations;
-    waiting[64 + at] = x.atoms;
-    waiting[128 + at] = x.nodes;
-    waiting[192 + at] = x.parked;
-    waiting[256 + at] = x.height;
-    waiting[320 + at] = x.stops;
+    waiting[6 * at + 1] = x.generations;
+    waiting[6 * at + 2] = x.atoms;
+    waiting[6 * at + 3] = x.nodes;
+    waiting[6 * at + 4] = x.parked;
+    waiting[6 * at + 5] = x.height;
+    waiting[6 * at + 6] = x.stops;
 }

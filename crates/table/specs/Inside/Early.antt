@@ -25,6 +25,11 @@ EarlyAt t c e = (d : Config) → Configured t c d → Earliness e d
 abbrev pub KnownFrom : List ℕ → List ℕ → ℕ → Type 0
 KnownFrom t row j = (k : ℕ) → j ≤ k → k < configurations t → EarlyAt t (configurationAt t k) (getD row k 0)
 
+-- and of all, none being behind it
+pub record AllKnown (t row : List ℕ) : Type 0 where
+  pub room : configurations t ≤ length row
+  pub known : KnownFrom t row 0
+
 -- past 4, whatever V is
 abbrev pub SomeFramed : List ℕ → ℕ → ℕ → Type 0
 SomeFramed t n m = (v : ℕ) × Framed t n m v × ConfigurationsGood t
@@ -39,6 +44,10 @@ pub record Behind (t row : List ℕ) (c j : ℕ) : Type 0 where
 -- e says it of the test of p, or of that of node i, of kind k, if it is an Await, a When or an Until
 pub record Tests (e : ℕ) (p : Program) : Type 0 where
   pub early : 8 ≤ kind p → kind p ≤ 10 → (d : Config) → argument p ≡ configuration d → Earliness e d
+
+-- kind k is none of these
+abbrev pub Untested : ℕ → Type 0
+Untested k = 8 ≤ k → k ≤ 10 → ⊥
 
 pub record TestsAt (t : List ℕ) (i k e : ℕ) : Type 0 where
   pub early : 8 ≤ k → k ≤ 10 → argumentAt t i < configurations t → EarlyAt t (tested t i) e

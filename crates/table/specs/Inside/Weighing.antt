@@ -7,7 +7,7 @@ use lib.ListN.{length, getD, set}
 use Rattle.junior.specs.Program.{Program, number, capped, argument, Parts, no-part, one-part, two-parts, parts, size}
 use Rattle.junior.specs.Figures.{stops, figure, per, every, parking}
 use Rattle.table.specs.declared.weights.Weight.{Weight}
-use Rattle.table.specs.Records.{nodes, kindAt, sizeAt}
+use Rattle.table.specs.Records.{nodes, kindAt, zeroAt, sizeAt}
 use Rattle.table.specs.Good.{known, children, argumentLimit, goodNode}
 use Rattle.table.specs.Spells.{capIn, programOf}
 use Rattle.table.specs.Verdict.{endlessLoop}
@@ -106,28 +106,35 @@ pub record Small (x : Weight) : Type 0 where
   pub parked-small : x .parked ≤ 268439552
   pub height-small : x .height ≤ 4096
 
--- `waiting`, a row of 64 places for each field of a weight, and behind them the lowest endless Loop so far: what is in place `at`,
--- and the row with x there
+-- `waiting`, a row that has the lowest endless Loop so far and, behind it, places for six numbers each: what is in place `at`, and the row
+-- with x there
 abbrev pub weightAt : List ℕ → ℕ → Weight
 weightAt w at =
     record {
-      generations = getD w at 0;
-      atoms = getD w (64 + at) 0;
-      nodes = getD w (128 + at) 0;
-      parked = getD w (192 + at) 0;
-      height = getD w (256 + at) 0;
-      stops = getD w (320 + at) 0;
+      generations = getD w (6 * at + 1) 0;
+      atoms = getD w (6 * at + 2) 0;
+      nodes = getD w (6 * at + 3) 0;
+      parked = getD w (6 * at + 4) 0;
+      height = getD w (6 * at + 5) 0;
+      stops = getD w (6 * at + 6) 0;
     }
 
 unfoldable pub put : List ℕ → ℕ → Weight → List ℕ
 put w at x =
     set
     (set
-    (set (set (set (set w at (x .generations)) (64 + at) (x .atoms)) (128 + at) (x .nodes)) (192 + at) (x .parked))
-    (256 + at)
+    (set
+    (set (set (set w (6 * at + 1) (x .generations)) (6 * at + 2) (x .atoms)) (6 * at + 3) (x .nodes))
+    (6 * at + 4)
+    (x .parked))
+    (6 * at + 5)
     (x .height))
-    (320 + at)
+    (6 * at + 6)
     (x .stops)
+
+-- it has a place for each of n nodes, or 64
+abbrev pub Roomy : List ℕ → ℕ → Type 0
+Roomy w n = 6 * min n 64 < length w
 
 -- from node i on that many programs stand one behind another, up to the end
 unfoldable pub Row : List ℕ → ℕ → ℕ → Type 0
@@ -160,6 +167,11 @@ pub record OfKind (t : List ℕ) (i k limit count : ℕ) : Type 0 where
   pub limit-is : argumentLimit t k ≡ limit
   pub count-is : children k ≡ count
 
+-- and its zero byte is zero
+pub record Headed (t : List ℕ) (i k limit count : ℕ) : Type 0 where
+  pub of-kind : OfKind t i k limit count
+  pub zero-is : zeroAt t i ≡ 0
+
 -- past 5
 pub record AllGood (t : List ℕ) : Type 0 where
   pub long : 6 * nodes t + 10 ≤ length t
@@ -172,17 +184,19 @@ pub record ToPlace (t w : List ℕ) (n i top : ℕ) : Type 0 where
   pub within : Within t n i
   pub configurations-good : ConfigurationsGood t
   pub good-behind : (j : ℕ) → i < j → j < n → goodNode t j ≡ true
-  pub long-row : length w ≡ 385
+  pub long-row : Roomy w n
   pub waits : Waiting t w top (i + 1)
   pub room : top ≤ 64
+  pub few : i + 1 + top ≤ n
 
 -- node i is placed, and r programs wait
 pub record NowPlaced (t w w′ : List ℕ) (i r : ℕ) : Type 0 where
   pub good : goodNode t i ≡ true
-  pub long-row : length w′ ≡ 385
+  pub long-row : length w′ ≡ length w
   pub waits : Waiting t w′ r i
   pub room : r ≤ 64
-  pub endless : getD w′ 384 0 ≡ cond (endlessLoop (treeAt t i)) i (getD w 384 0)
+  pub few : i + r ≤ nodes t
+  pub endless : getD w′ 0 0 ≡ cond (endlessLoop (treeAt t i)) i (getD w 0 0)
 
 -- r is 0 where node i isn't good, or would be the 65th to wait
 abbrev pub Places : List ℕ → List ℕ → List ℕ → ℕ → ℕ → Type 0

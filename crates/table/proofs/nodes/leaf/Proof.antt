@@ -5,49 +5,59 @@ use borrow.Author.Needs.{needs}
 use mathlib.Core.Bool.{false≢true}
 use mathlib.Core.Path.{refl, sym, _∙_}
 use native.Mathlib.Omega.{arith}
-use Rattle.table.proofs.Judged.{own-kind}
-use Rattle.table.proofs.Placing.{leaf-full, leaf-placed}
+use Rattle.table.proofs.Judged.{own-head}
+use Rattle.table.proofs.KnownEarly.{no-test}
+use Rattle.table.proofs.Placing.{place-fits, leaf-full, leaf-placed}
 
--- if good_as(table, n, i, limit, 0) {
-good-as-requires : tie.Need-good-as-requires
-good-as-requires c κs =
-    let start = c .before in
-    (start .pre .0 .within, own-kind (start .pre .1 .0))
+-- if good_leaf(table, i, limit) {
+good-leaf-requires : tie.Need-good-leaf-requires
+good-leaf-requires c κs =
+    let start = c .before .before in
+    (start .pre .0 .within, own-head (start .pre .1 .0))
 
 -- return 0;
 returns : tie.Need-returns
 returns c =
-    let start = c .before .before .before .before in
+    let start = c .before .before .before .before .before in
     let if2 = c .if2 in
-    (λ z. absurd (omega arith), λ z g. leaf-full (start .pre .0) (start .pre .1 .0) g refl (if2 .taken))
+    (λ z. absurd (omega arith), λ z g. leaf-full (start .pre .0) (start .pre .1 .0 .of-kind) g refl (if2 .taken))
+
+-- put_weight(waiting, top, single(k, 0));
+put-weight-requires : tie.Need-put-weight-requires
+put-weight-requires c κs =
+    let start = c .before .before .before .before .before .before .before in
+    let if2 = c .before .before .if2 in
+    place-fits (start .pre .0) _ (omega (arith, start .pre .0 .few)) (omega (arith, start .pre .0 .room, if2 .left))
 
 -- return top + 1;
 returns-2 : tie.Need-returns-2
 returns-2 c =
-    let start = c .before .before .before .before .before .before .before in
-    let good-as = c .before .before .before .before .before .good-as in
-    let if1 = c .before .before .before .before .if1 in
-    let single = c .before .single in
-    let put-weight = c .put-weight in
+    let start = c .before .before .before .before .before .before .before .before .before .before in
+    let good-leaf = c .before .before .before .before .before .before .before .good-leaf in
+    let if1 = c .before .before .before .before .before .before .if1 in
+    let single = c .before .before .before .single in
+    let put-weight = c .before .before .put-weight in
     let R = start .pre .0 in
-    let good = sym (good-as .ensures) ∙ if1 .taken in
-    let placed = leaf-placed R (start .pre .1 .0) good refl (omega arith) _ (start .pre .1 .1) _ (single .ensures) in
+    let good = sym (good-leaf .ensures) ∙ if1 .taken in
+    let tests = no-test (start .pre .1 .1) in
+    let placed = leaf-placed R (start .pre .1 .0 .of-kind) good refl (omega arith) _ tests _ (single .ensures) in
     (λ z. rw (put-weight .ensures) placed, λ z g. absurd (omega arith))
 
 -- fn leaf
 returns-3 : tie.Need-returns-3
 returns-3 c =
-    let good-as = c .before .good-as in
+    let good-leaf = c .before .good-leaf in
     let if1 = c .if1 in
-    (λ z. absurd (omega arith), λ z g. absurd (false≢true (sym (if1 .left) ∙ (good-as .ensures ∙ g))))
+    (λ z. absurd (omega arith), λ z g. absurd (false≢true (sym (if1 .left) ∙ (good-leaf .ensures ∙ g))))
 
 pub leaf-spec : {M : Type 1} → statement M
 leaf-spec =
     tie.close (tie.spec
-    good-as-requires
+    good-leaf-requires
     returns
-    (λ c κs. search needs)  -- single-requires: put_weight(waiting, top, single(k, e));
-    (λ c κs. search needs)  -- put-weight-requires
+    (λ c κs. search needs)  -- single-requires
+    put-weight-requires
     (λ c. search needs)  -- add-result: return top + 1;
+    (λ c. search needs)  -- same-length
     returns-2
     returns-3)

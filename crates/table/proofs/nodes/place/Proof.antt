@@ -1,131 +1,217 @@
 -- `table::nodes::place` meets its contract, kind by kind: a good record takes up its parts and waits, any other answers 0.
-use mathlib.Core.Bool.{false≢true}
-use mathlib.Core.Path.{refl, sym, _∙_}
+use mathlib.Core.Path.{refl, sym}
 use native.Mathlib.Omega.{arith}
 use borrow.Author.Needs.{needs}
 use Rattle.table.specs.Good.{children, argumentLimit}
-use Rattle.table.proofs.Judged.{as-kind, above-all, bad-kind}
-use Rattle.table.proofs.KnownEarly.{no-test, test-here}
+use Rattle.table.proofs.Judged.{as-head, good-head}
 use Rattle.table.proofs.Little.{none-of}
 use Rattle.table.proofs.nodes.place.Statement.{statement}
 use Rattle.table.proofs.nodes.place.Tie as tie
 
+-- 0 => leaf(table, i, 0, 1, waiting, top),
+leaf-requires : tie.Need-leaf-requires
+unfolding children argumentLimit
+leaf-requires c κs =
+    let start = c .before .before .before .before .before .before in
+    let head-at = c .before .before .head-at in
+    let match = c .before .match in
+    (start .pre .1 .0, (as-head (head-at .ensures .0) (head-at .ensures .1) 0 (match .keys1) (omega arith) refl refl, λ a b. omega arith))
+
+-- 1 => leaf(table, i, 1, 1, waiting, top),
+leaf-requires-2 : tie.Need-leaf-requires-2
+unfolding children argumentLimit
+leaf-requires-2 c κs =
+    let start = c .before .before .before .before .before .before in
+    let head-at = c .before .before .head-at in
+    let match = c .before .match in
+    (start .pre .1 .0, (as-head (head-at .ensures .0) (head-at .ensures .1) 1 (match .keys2) (omega arith) refl refl, λ a b. omega arith))
+
+-- 2 => leaf(table, i, 2, 65536, waiting, top),
+leaf-requires-3 : tie.Need-leaf-requires-3
+unfolding children argumentLimit
+leaf-requires-3 c κs =
+    let start = c .before .before .before .before .before .before in
+    let head-at = c .before .before .head-at in
+    let match = c .before .match in
+    (start .pre .1 .0, (as-head (head-at .ensures .0) (head-at .ensures .1) 2 (match .keys3) (omega arith) refl refl, λ a b. omega arith))
+
+-- 3 => pair(table, i, 3, 1, waiting, top),
+pair-requires : tie.Need-pair-requires
+unfolding children argumentLimit
+pair-requires c κs =
+    let start = c .before .before .before .before .before .before in
+    let head-at = c .before .before .head-at in
+    let match = c .before .match in
+    (start .pre .1 .0, (as-head (head-at .ensures .0) (head-at .ensures .1) 3 (match .keys4) (omega arith) refl refl, λ a b. omega arith))
+
+-- 4 => pair(table, i, 4, 1, waiting, top),
+pair-requires-2 : tie.Need-pair-requires-2
+unfolding children argumentLimit
+pair-requires-2 c κs =
+    let start = c .before .before .before .before .before .before in
+    let head-at = c .before .before .head-at in
+    let match = c .before .match in
+    (start .pre .1 .0, (as-head (head-at .ensures .0) (head-at .ensures .1) 4 (match .keys5) (omega arith) refl refl, λ a b. omega arith))
+
+-- 5 => body(table, i, 5, 1, waiting, top),
+body-requires : tie.Need-body-requires
+unfolding children argumentLimit
+body-requires c κs =
+    let start = c .before .before .before .before .before .before in
+    let head-at = c .before .before .head-at in
+    let match = c .before .match in
+    (start .pre .1 .0, as-head (head-at .ensures .0) (head-at .ensures .1) 5 (match .keys6) (omega arith) refl refl)
+
+-- 6 => body(table, i, 6, 65536, waiting, top),
+body-requires-2 : tie.Need-body-requires-2
+unfolding children argumentLimit
+body-requires-2 c κs =
+    let start = c .before .before .before .before .before .before in
+    let head-at = c .before .before .head-at in
+    let match = c .before .match in
+    (start .pre .1 .0, as-head (head-at .ensures .0) (head-at .ensures .1) 6 (match .keys7) (omega arith) refl refl)
+
+-- 7 => leaf(table, i, 7, v, waiting, top),
+leaf-requires-4 : tie.Need-leaf-requires-4
+unfolding children argumentLimit
+leaf-requires-4 c κs =
+    let start = c .before .before .before .before .before .before in
+    let head-at = c .before .before .head-at in
+    let match = c .before .match in
+    (start .pre .1 .0, (as-head (head-at .ensures .0) (head-at .ensures .1) 7 (match .keys8) (omega arith) (sym (start .pre .0 .v-is)) refl, λ a b. omega arith))
+
+-- 8 => tested_leaf(table, i, 8, m, early, waiting, top),
+tested-leaf-requires : tie.Need-tested-leaf-requires
+unfolding children argumentLimit
+tested-leaf-requires c κs =
+    let start = c .before .before .before .before .before .before in
+    let head-at = c .before .before .head-at in
+    let match = c .before .match in
+    (start .pre .1 .0, (as-head (head-at .ensures .0) (head-at .ensures .1) 8 (match .keys9) (omega arith) (sym (start .pre .0 .m-is)) refl, (start .pre .0 .m-is, start .pre .1 .1)))
+
+-- 9 => tested_pair(table, i, 9, m, early, waiting, top),
+tested-pair-requires : tie.Need-tested-pair-requires
+unfolding children argumentLimit
+tested-pair-requires c κs =
+    let start = c .before .before .before .before .before .before in
+    let head-at = c .before .before .head-at in
+    let match = c .before .match in
+    (start .pre .1 .0, (as-head (head-at .ensures .0) (head-at .ensures .1) 9 (match .keys10) (omega arith) (sym (start .pre .0 .m-is)) refl, (start .pre .0 .m-is, start .pre .1 .1)))
+
+-- 10 => tested_pair(table, i, 10, m, early, waiting, top),
+tested-pair-requires-2 : tie.Need-tested-pair-requires-2
+unfolding children argumentLimit
+tested-pair-requires-2 c κs =
+    let start = c .before .before .before .before .before .before in
+    let head-at = c .before .before .head-at in
+    let match = c .before .match in
+    (start .pre .1 .0, (as-head (head-at .ensures .0) (head-at .ensures .1) 10 (match .keys11) (omega arith) (sym (start .pre .0 .m-is)) refl, (start .pre .0 .m-is, start .pre .1 .1)))
+
+-- 11 => body(table, i, 11, v, waiting, top),
+body-requires-3 : tie.Need-body-requires-3
+unfolding children argumentLimit
+body-requires-3 c κs =
+    let start = c .before .before .before .before .before .before in
+    let head-at = c .before .before .head-at in
+    let match = c .before .match in
+    (start .pre .1 .0, as-head (head-at .ensures .0) (head-at .ensures .1) 11 (match .keys12) (omega arith) (sym (start .pre .0 .v-is)) refl)
+
+-- 12 => body(table, i, 12, v, waiting, top),
+body-requires-4 : tie.Need-body-requires-4
+unfolding children argumentLimit
+body-requires-4 c κs =
+    let start = c .before .before .before .before .before .before in
+    let head-at = c .before .before .head-at in
+    let match = c .before .match in
+    (start .pre .1 .0, as-head (head-at .ensures .0) (head-at .ensures .1) 12 (match .keys13) (omega arith) (sym (start .pre .0 .v-is)) refl)
+
+-- 13 => body(table, i, 13, v, waiting, top),
+body-requires-5 : tie.Need-body-requires-5
+unfolding children argumentLimit
+body-requires-5 c κs =
+    let start = c .before .before .before .before .before .before in
+    let head-at = c .before .before .head-at in
+    let match = c .before .match in
+    (start .pre .1 .0, as-head (head-at .ensures .0) (head-at .ensures .1) 13 (match .keys14) (omega arith) (sym (start .pre .0 .v-is)) refl)
+
+-- 14 => pair(table, i, 14, 16, waiting, top),
+pair-requires-3 : tie.Need-pair-requires-3
+unfolding children argumentLimit
+pair-requires-3 c κs =
+    let start = c .before .before .before .before .before .before in
+    let head-at = c .before .before .head-at in
+    let match = c .before .match in
+    (start .pre .1 .0, (as-head (head-at .ensures .0) (head-at .ensures .1) 14 (match .keys15) (omega arith) refl refl, λ a b. omega arith))
+
+-- 15 => body(table, i, 15, 4096, waiting, top),
+body-requires-6 : tie.Need-body-requires-6
+unfolding children argumentLimit
+body-requires-6 c κs =
+    let start = c .before .before .before .before .before .before in
+    let head-at = c .before .before .head-at in
+    let match = c .before .match in
+    (start .pre .1 .0, as-head (head-at .ensures .0) (head-at .ensures .1) 15 (match .keys16) (omega arith) refl refl)
+
 -- _ => 0,
 returns-17 : tie.Need-returns-17
 returns-17 c =
-    let kind-at = c .before .kind-at in
-    let unknown = rw (kind-at .ensures .0) at (above-all _ (none-of 16 _ (c .match .rest))) in
-    (λ z. absurd (omega arith), λ z g. absurd (false≢true (bad-kind _ _ unknown ∙ g)))
+    let start = c .before .before .before .before .before in
+    let head-at = c .before .head-at in
+    let match = c .match in
+    let above = none-of 16 _ (match .rest) in
+    (λ z. absurd (omega arith), λ z g. let h = good-head _ _ g in absurd (omega (arith, head-at .ensures .0, h .0, h .1)))
 
 pub place-spec : {M : Type 1} → statement M
-unfolding children argumentLimit
 place-spec =
     tie.close
     (tie.spec
-    (λ c κs. search needs)  -- kind-at-requires: let k = kind_at(table, i);
-    -- leaf-requires: 0 => leaf(table, n, i, 0, 1, 0, waiting, top),
-    (λ c κs.
-    let start = c .before .before .before .before .before in
-    let kind-at = c .before .before .kind-at in
-    (start .pre .1 .0, (as-kind (kind-at .ensures .0) 0 (c .before .match .keys1) refl refl refl, no-test (λ a b. omega arith))))
-    -- leaf-requires-2: 1 => leaf(table, n, i, 1, 1, 0, waiting, top),
-    (λ c κs.
-    let start = c .before .before .before .before .before in
-    let kind-at = c .before .before .kind-at in
-    (start .pre .1 .0, (as-kind (kind-at .ensures .0) 1 (c .before .match .keys2) refl refl refl, no-test (λ a b. omega arith))))
-    -- leaf-requires-3: 2 => leaf(table, n, i, 2, 65536, 0, waiting, top),
-    (λ c κs.
-    let start = c .before .before .before .before .before in
-    let kind-at = c .before .before .kind-at in
-    (start .pre .1 .0, (as-kind (kind-at .ensures .0) 2 (c .before .match .keys3) refl refl refl, no-test (λ a b. omega arith))))
-    -- pair-requires: 3 => pair(table, n, i, 3, 1, 0, waiting, top),
-    (λ c κs.
-    let start = c .before .before .before .before .before in
-    let kind-at = c .before .before .kind-at in
-    (start .pre .1 .0, (as-kind (kind-at .ensures .0) 3 (c .before .match .keys4) refl refl refl, no-test (λ a b. omega arith))))
-    -- pair-requires-2: 4 => pair(table, n, i, 4, 1, 0, waiting, top),
-    (λ c κs.
-    let start = c .before .before .before .before .before in
-    let kind-at = c .before .before .kind-at in
-    (start .pre .1 .0, (as-kind (kind-at .ensures .0) 4 (c .before .match .keys5) refl refl refl, no-test (λ a b. omega arith))))
-    -- body-requires: 5 => body(table, n, i, 5, 1, waiting, top),
-    (λ c κs.
-    let start = c .before .before .before .before .before in
-    let kind-at = c .before .before .kind-at in
-    (start .pre .1 .0, as-kind (kind-at .ensures .0) 5 (c .before .match .keys6) refl refl refl))
-    -- body-requires-2: 6 => body(table, n, i, 6, 65536, waiting, top),
-    (λ c κs.
-    let start = c .before .before .before .before .before in
-    let kind-at = c .before .before .kind-at in
-    (start .pre .1 .0, as-kind (kind-at .ensures .0) 6 (c .before .match .keys7) refl refl refl))
-    -- leaf-requires-4: 7 => leaf(table, n, i, 7, v, 0, waiting, top),
-    (λ c κs.
-    let start = c .before .before .before .before .before in
-    let kind-at = c .before .before .kind-at in
-    (start .pre .1 .0, (as-kind (kind-at .ensures .0) 7 (c .before .match .keys8) refl (sym (start .pre .0 .v-is)) refl, no-test (λ a b. omega arith))))
-    (λ c κs. search needs)  -- early-of-requires
-    -- leaf-requires-5: 8 => leaf(table, n, i, 8, m, early_of(table, i, early), waiting, top),
-    (λ c κs.
-    let start = c .before .before .before .before .before .before in
-    let kind-at = c .before .before .before .kind-at in
-    let early-of = c .before .early-of in
-    let kind-is = as-kind (kind-at .ensures .0) 8 (c .before .before .match .keys9) refl (sym (start .pre .0 .m-is)) refl in
-    (start .pre .1 .0, (kind-is, test-here (start .args .early .now) (start .pre .1 .1) (early-of .ensures))))
-    (λ c κs. search needs)  -- early-of-requires-2
-    -- pair-requires-3: 9 => pair(table, n, i, 9, m, early_of(table, i, early), waiting, top),
-    (λ c κs.
-    let start = c .before .before .before .before .before .before in
-    let kind-at = c .before .before .before .kind-at in
-    let early-of2 = c .before .early-of2 in
-    let kind-is = as-kind (kind-at .ensures .0) 9 (c .before .before .match .keys10) refl (sym (start .pre .0 .m-is)) refl in
-    (start .pre .1 .0, (kind-is, test-here (start .args .early .now) (start .pre .1 .1) (early-of2 .ensures))))
-    (λ c κs. search needs)  -- early-of-requires-3
-    -- pair-requires-4: 10 => pair(table, n, i, 10, m, early_of(table, i, early), waiting, top),
-    (λ c κs.
-    let start = c .before .before .before .before .before .before in
-    let kind-at = c .before .before .before .kind-at in
-    let early-of3 = c .before .early-of3 in
-    let kind-is = as-kind (kind-at .ensures .0) 10 (c .before .before .match .keys11) refl (sym (start .pre .0 .m-is)) refl in
-    (start .pre .1 .0, (kind-is, test-here (start .args .early .now) (start .pre .1 .1) (early-of3 .ensures))))
-    -- body-requires-3: 11 => body(table, n, i, 11, v, waiting, top),
-    (λ c κs.
-    let start = c .before .before .before .before .before in
-    let kind-at = c .before .before .kind-at in
-    (start .pre .1 .0, as-kind (kind-at .ensures .0) 11 (c .before .match .keys12) refl (sym (start .pre .0 .v-is)) refl))
-    -- body-requires-4: 12 => body(table, n, i, 12, v, waiting, top),
-    (λ c κs.
-    let start = c .before .before .before .before .before in
-    let kind-at = c .before .before .kind-at in
-    (start .pre .1 .0, as-kind (kind-at .ensures .0) 12 (c .before .match .keys13) refl (sym (start .pre .0 .v-is)) refl))
-    -- body-requires-5: 13 => body(table, n, i, 13, v, waiting, top),
-    (λ c κs.
-    let start = c .before .before .before .before .before in
-    let kind-at = c .before .before .kind-at in
-    (start .pre .1 .0, as-kind (kind-at .ensures .0) 13 (c .before .match .keys14) refl (sym (start .pre .0 .v-is)) refl))
-    -- pair-requires-5: 14 => pair(table, n, i, 14, 16, 0, waiting, top),
-    (λ c κs.
-    let start = c .before .before .before .before .before in
-    let kind-at = c .before .before .kind-at in
-    (start .pre .1 .0, (as-kind (kind-at .ensures .0) 14 (c .before .match .keys15) refl refl refl, no-test (λ a b. omega arith))))
-    -- body-requires-6: 15 => body(table, n, i, 15, 4096, waiting, top),
-    (λ c κs.
-    let start = c .before .before .before .before .before in
-    let kind-at = c .before .before .kind-at in
-    (start .pre .1 .0, as-kind (kind-at .ensures .0) 15 (c .before .match .keys16) refl refl refl))
-    (λ c. c .leaf .ensures)  -- returns
-    (λ c. c .leaf2 .ensures)  -- returns-2
-    (λ c. c .leaf3 .ensures)  -- returns-3
-    (λ c. c .pair .ensures)  -- returns-4
-    (λ c. c .pair2 .ensures)  -- returns-5
-    (λ c. c .body .ensures)  -- returns-6
-    (λ c. c .body2 .ensures)  -- returns-7
-    (λ c. c .leaf4 .ensures)  -- returns-8
-    (λ c. c .leaf5 .ensures)  -- returns-9
-    (λ c. c .pair3 .ensures)  -- returns-10
-    (λ c. c .pair4 .ensures)  -- returns-11
-    (λ c. c .body3 .ensures)  -- returns-12
-    (λ c. c .body4 .ensures)  -- returns-13
-    (λ c. c .body5 .ensures)  -- returns-14
-    (λ c. c .pair5 .ensures)  -- returns-15
-    (λ c. c .body6 .ensures)  -- returns-16
+    (λ c κs. search needs)  -- head-at-requires: match head_at(table, i) {
+    leaf-requires
+    leaf-requires-2
+    leaf-requires-3
+    pair-requires
+    pair-requires-2
+    body-requires
+    body-requires-2
+    leaf-requires-4
+    tested-leaf-requires
+    tested-pair-requires
+    tested-pair-requires-2
+    body-requires-3
+    body-requires-4
+    body-requires-5
+    pair-requires-3
+    body-requires-6
+    (λ c. search needs)  -- same-length
+    (λ c. c .before .before .leaf .ensures)  -- returns
+    (λ c. search needs)  -- same-length-2
+    (λ c. c .before .before .leaf2 .ensures)  -- returns-2
+    (λ c. search needs)  -- same-length-3
+    (λ c. c .before .before .leaf3 .ensures)  -- returns-3
+    (λ c. search needs)  -- same-length-4
+    (λ c. c .before .before .pair .ensures)  -- returns-4
+    (λ c. search needs)  -- same-length-5
+    (λ c. c .before .before .pair2 .ensures)  -- returns-5
+    (λ c. search needs)  -- same-length-6
+    (λ c. c .before .before .body .ensures)  -- returns-6
+    (λ c. search needs)  -- same-length-7
+    (λ c. c .before .before .body2 .ensures)  -- returns-7
+    (λ c. search needs)  -- same-length-8
+    (λ c. c .before .before .leaf4 .ensures)  -- returns-8
+    (λ c. search needs)  -- same-length-9
+    (λ c. c .before .before .tested-leaf .ensures)  -- returns-9
+    (λ c. search needs)  -- same-length-10
+    (λ c. c .before .before .tested-pair .ensures)  -- returns-10
+    (λ c. search needs)  -- same-length-11
+    (λ c. c .before .before .tested-pair2 .ensures)  -- returns-11
+    (λ c. search needs)  -- same-length-12
+    (λ c. c .before .before .body3 .ensures)  -- returns-12
+    (λ c. search needs)  -- same-length-13
+    (λ c. c .before .before .body4 .ensures)  -- returns-13
+    (λ c. search needs)  -- same-length-14
+    (λ c. c .before .before .body5 .ensures)  -- returns-14
+    (λ c. search needs)  -- same-length-15
+    (λ c. c .before .before .pair3 .ensures)  -- returns-15
+    (λ c. search needs)  -- same-length-16
+    (λ c. c .before .before .body6 .ensures)  -- returns-16
     returns-17)
