@@ -192,5 +192,6 @@ module _ {t : List ℕ} {n m : ℕ} (f : SomeFramed t n m) (row : List ℕ) (roo
 pub no-test : {t : List ℕ} {i k e : ℕ} → (8 ≤ k → k ≤ 10 → ⊥) → TestsAt t i k e
 no-test h = record { early = λ a b. absurd (h a b) }
 
-pub test-here : {t : List ℕ} {i k e : ℕ} (row : List ℕ) → KnownFrom t row 0 → e ≡ getD row (argumentAt t i) 0 → TestsAt t i k e
-test-here row known same = record { early = λ a b l. rw same (known _ (omega arith) l) }
+pub test-here : {t : List ℕ} {i k e : ℕ} (row : List ℕ) → KnownFrom t row 0
+    → (argumentAt t i < configurations t → e ≡ getD row (argumentAt t i) 0) → TestsAt t i k e
+test-here row known same = record { early = λ a b l. rw (same l) (known _ (omega arith) l) }

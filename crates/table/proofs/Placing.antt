@@ -73,12 +73,6 @@ module _ {t w : List ℕ} {n i k limit count top : ℕ} (R : ToPlace t w n i top
   few-nodes =
       omega (arith, size-is, spells-from t (R .configurations-good) i good-from i (omega arith) here-below .ends, R .within .n-most)
 
-  -- the number of its test, where its argument is one
-  pub argument-fits : limit ≡ configurations t → argumentAt t i < configurations t
-  argument-fits e =
-      let same : argumentLimit t (kindAt t i) ≡ configurations t = rw (K .kind-is) (K .limit-is ∙ e) in
-      rw same at (fine t i (kindAt t i) refl good .argument-below)
-
   -- when its test, if it has one, can be decided early
   early-here : (e : ℕ) → TestsAt t i k e → Tests e (treeAt t i)
   early-here e d =

@@ -41,10 +41,14 @@ fn early_at(table: &[u8], c: usize, j: usize, early: &[u8]) -> usize
     joined_rank(kind, first, second)
 }
 
-// Of the configuration that node i tests.
-pub fn early_of(table: &[u8], i: usize, early: &[u8]) -> usize
-    requires { ⌜ (6 * i + 3 < length (now table)) × (argumentAt (now table) i < length (now early)) ⌝ }
-    ensures { λ r. ⌜ r ≡ getD (now (early .entry)) (argumentAt (now (table .entry)) i) 0 ⌝ }
+// Of the configuration that node i tests, if that is one of m.
+pub fn early_of(table: &[u8], i: usize, m: usize, early: &[u8]) -> usize
+    requires { ⌜ (6 * i + 3 < length (now table)) × (m ≤ length (now early)) ⌝ }
+    ensures { λ r. ⌜ (argumentAt (now (table .entry)) i < m → r ≡ getD (now (early .entry)) (argumentAt (now (table .entry)) i) 0) ⌝ }
 {
-    wide(early[argument_at(table, i)])
+    let at = argument_at(table, i);
+    if at < m {
+        return wide(early[at]);
+    }
+    0
 }

@@ -12,7 +12,7 @@ ghost use Rattle.table.specs.Records.{nodes, configurations, events, kin
 ghost use Rattle.table.specs.Good.{children, argumentLimit, laidOut, goodNode};
 ghost use Rattle.table.specs.Verdict.{nodesVerdict, preorder, firstSuch, deep};
 ghost use Rattle.table.specs.Inside.{Framed, ConfigurationsGood};
-ghost use Rattle.table.specs.Inside.Early.{AllKnown, Untested};
+ghost use Rattle.table.specs.Inside.Early.{AllKnown, TestsAt};
 ghost use Rattle.table.specs.Inside.Weighing.{treeAt, height, SizedWhole, Within, OfKind, Headed, AllGood};
 ghost use Rattle.table.specs.Inside.Weighing.{Row, Roomy, ToPlace, Places};
 use super::Checked;
@@ -140,70 +140,52 @@ fn place(
     ensures { λ r. ⌜ Places (now (table .entry)) (now (waiting .entry)) (now (waiting .exit)) i r ⌝ }
 {
     match head_at(table, i) {
-        0 => leaf(table, i, 0, 1, waiting, top),
-        1 => leaf(table, i, 1, 1, waiting, top),
-        2 => leaf(table, i, 2, 65536, waiting, top),
-        3 => pair(table, i, 3, 1, waiting, top),
-        4 => pair(table, i, 4, 1, waiting, top),
+        0 => leaf(table, i, 0, 1, 0, waiting, top),
+        1 => leaf(table, i, 1, 1, 0, waiting, top),
+        2 => leaf(table, i, 2, 65536, 0, waiting, top),
+        3 => pair(table, i, 3, 1, 0, waiting, top),
+        4 => pair(table, i, 4, 1, 0, waiting, top),
         5 => body(table, i, 5, 1, waiting, top),
         6 => body(table, i, 6, 65536, waiting, top),
-        7 => leaf(table, i, 7, v, waiting, top),
-        8 => tested_leaf(table, i, 8, m, early, waiting, top),
-        9 => tested_pair(table, i, 9, m, early, waiting, top),
-        10 => tested_pair(table, i, 10, m, early, waiting, top),
+        7 => leaf(table, i, 7, v, 0, waiting, top),
+        8 => leaf(table, i, 8, m, early_of(table, i, m, early), waiting, top),
+        9 => pair(table, i, 9, m, early_of(table, i, m, early), waiting, top),
+        10 => pair(table, i, 10, m, early_of(table, i, m, early), waiting, top),
         11 => body(table, i, 11, v, waiting, top),
         12 => body(table, i, 12, v, waiting, top),
         13 => body(table, i, 13, v, waiting, top),
-        14 => pair(table, i, 14, 16, waiting, top),
+        14 => pair(table, i, 14, 16, 0, waiting, top),
         15 => body(table, i, 15, 4096, waiting, top),
         _ => 0,
     }
 }
 
-// A node of kind k without parts, its argument below the limit.
-fn leaf(table: &[u8], i: usize, k: usize, limit: usize, waiting: &mut [u32], top: usize) -> usize
-    requires { ⌜ ToPlace (now table) (now waiting) (nodes (now table)) i top ⌝ }
-    requires { ⌜ Headed (now table) i k limit 0 ⌝ }
-    requires { ⌜ Untested k ⌝ }
-    ensures { λ r. ⌜ Places (now (table .entry)) (now (waiting .entry)) (now (waiting .exit)) i r ⌝ }
-{
-    if good_leaf(table, i, limit) {
-        if top == 64 {
-            return 0;
-        }
-        put_weight(waiting, top, single(k, 0));
-        return top + 1;
-    }
-    0
-}
-
-// With a test.
-fn tested_leaf(
+// A node of kind k without parts, its argument below the limit; its test, if it has one, is decided early as e says.
+fn leaf(
     table: &[u8],
     i: usize,
     k: usize,
     limit: usize,
-    early: &[u8],
+    e: usize,
     waiting: &mut [u32],
     top: usize,
 ) -> usize
     requires { ⌜ ToPlace (now table) (now waiting) (nodes (now table)) i top ⌝ }
     requires { ⌜ Headed (now table) i k limit 0 ⌝ }
-    requires { ⌜ limit ≡ configurations (now table) ⌝ }
-    requires { ⌜ AllKnown (now table) (now early) ⌝ }
+    requires { ⌜ TestsAt (now table) i k e ⌝ }
     ensures { λ r. ⌜ Places (now (table .entry)) (now (waiting .entry)) (now (waiting .exit)) i r ⌝ }
 {
     if good_leaf(table, i, limit) {
         if top == 64 {
             return 0;
         }
-        put_weight(waiting, top, single(k, early_of(table, i, early)));
+        put_weight(waiting, top, single(k, e));
         return top + 1;
     }
     0
 }
 
-// A node with one part.
+// With one.
 fn body(table: &[u8], i: usize, k: usize, limit: usize, waiting: &mut [u32], top: usize) -> usize
     requires { ⌜ ToPlace (now table) (now waiting) (nodes (now table)) i top ⌝ }
     requires { ⌜ Headed (now table) i k limit 1 ⌝ }
@@ -224,43 +206,24 @@ fn body(table: &[u8], i: usize, k: usize, limit: usize, waiting: &mut [u32], top
 }
 
 // With two.
-fn pair(table: &[u8], i: usize, k: usize, limit: usize, waiting: &mut [u32], top: usize) -> usize
-    requires { ⌜ ToPlace (now table) (now waiting) (nodes (now table)) i top ⌝ }
-    requires { ⌜ Headed (now table) i k limit 2 ⌝ }
-    requires { ⌜ Untested k ⌝ }
-    ensures { λ r. ⌜ Places (now (table .entry)) (now (waiting .entry)) (now (waiting .exit)) i r ⌝ }
-{
-    if good_pair(table, i, limit, top) {
-        let at = top - 2;
-        let x = weight_at(waiting, at + 1);
-        let y = weight_at(waiting, at);
-        put_weight(waiting, at, joined(k, 0, x, y));
-        return at + 1;
-    }
-    0
-}
-
-// With two and a test.
-fn tested_pair(
+fn pair(
     table: &[u8],
     i: usize,
     k: usize,
     limit: usize,
-    early: &[u8],
+    e: usize,
     waiting: &mut [u32],
     top: usize,
 ) -> usize
     requires { ⌜ ToPlace (now table) (now waiting) (nodes (now table)) i top ⌝ }
     requires { ⌜ Headed (now table) i k limit 2 ⌝ }
-    requires { ⌜ limit ≡ configurations (now table) ⌝ }
-    requires { ⌜ AllKnown (now table) (now early) ⌝ }
+    requires { ⌜ TestsAt (now table) i k e ⌝ }
     ensures { λ r. ⌜ Places (now (table .entry)) (now (waiting .entry)) (now (waiting .exit)) i r ⌝ }
 {
     if good_pair(table, i, limit, top) {
         let at = top - 2;
         let x = weight_at(waiting, at + 1);
         let y = weight_at(waiting, at);
-        let e = early_of(table, i, early);
         put_weight(waiting, at, joined(k, e, x, y));
         return at + 1;
     }

@@ -45,9 +45,5 @@ pub record Behind (t row : List ℕ) (c j : ℕ) : Type 0 where
 pub record Tests (e : ℕ) (p : Program) : Type 0 where
   pub early : 8 ≤ kind p → kind p ≤ 10 → (d : Config) → argument p ≡ configuration d → Earliness e d
 
--- kind k is none of these
-abbrev pub Untested : ℕ → Type 0
-Untested k = 8 ≤ k → k ≤ 10 → ⊥
-
 pub record TestsAt (t : List ℕ) (i k e : ℕ) : Type 0 where
   pub early : 8 ≤ k → k ≤ 10 → argumentAt t i < configurations t → EarlyAt t (tested t i) e

@@ -6,7 +6,6 @@ use mathlib.Core.Bool.{false≢true}
 use mathlib.Core.Path.{refl, sym, _∙_}
 use native.Mathlib.Omega.{arith}
 use Rattle.table.proofs.Judged.{own-head}
-use Rattle.table.proofs.KnownEarly.{no-test}
 use Rattle.table.proofs.Placing.{place-fits, leaf-full, leaf-placed}
 
 -- if good_leaf(table, i, limit) {
@@ -22,7 +21,7 @@ returns c =
     let if2 = c .if2 in
     (λ z. absurd (omega arith), λ z g. leaf-full (start .pre .0) (start .pre .1 .0 .of-kind) g refl (if2 .taken))
 
--- put_weight(waiting, top, single(k, 0));
+-- put_weight(waiting, top, single(k, e));
 put-weight-requires : tie.Need-put-weight-requires
 put-weight-requires c κs =
     let start = c .before .before .before .before .before .before .before in
@@ -39,8 +38,7 @@ returns-2 c =
     let put-weight = c .before .before .put-weight in
     let R = start .pre .0 in
     let good = sym (good-leaf .ensures) ∙ if1 .taken in
-    let tests = no-test (start .pre .1 .1) in
-    let placed = leaf-placed R (start .pre .1 .0 .of-kind) good refl (omega arith) _ tests _ (single .ensures) in
+    let placed = leaf-placed R (start .pre .1 .0 .of-kind) good refl (omega arith) _ (start .pre .1 .1) _ (single .ensures) in
     (λ z. rw (put-weight .ensures) placed, λ z g. absurd (omega arith))
 
 -- fn leaf

@@ -6,7 +6,6 @@ use mathlib.Core.Bool.{false≢true}
 use mathlib.Core.Path.{refl, sym, _∙_}
 use native.Mathlib.Omega.{arith}
 use Rattle.table.proofs.Judged.{own-head}
-use Rattle.table.proofs.KnownEarly.{no-test}
 use Rattle.table.proofs.Placing.{place-fits, two-wait, both-small, pair-placed}
 use Rattle.table.proofs.Waits.{waiting-row}
 
@@ -45,7 +44,7 @@ weight-at-requires-2 c κs =
     let two = two-wait R (start .pre .1 .0 .of-kind) (sym (good-pair .ensures) ∙ if1 .taken) refl in
     place-fits R _ (omega (arith, R .few)) (omega (arith, R .room))
 
--- put_weight(waiting, at, joined(k, 0, x, y));
+-- put_weight(waiting, at, joined(k, e, x, y));
 joined-requires : tie.Need-joined-requires
 joined-requires c κs =
     let start = c .before .before .before .before .before .before .before .before .before in
@@ -85,9 +84,8 @@ returns c =
     let joined = c .before .before .before .joined in
     let put-weight = c .before .before .put-weight in
     let good = sym (good-pair .ensures) ∙ if1 .taken in
-    let tests = no-test (start .pre .1 .1) in
     let weighs = rw (weight-at .ensures, weight-at2 .ensures) at (joined .ensures) in
-    let placed = pair-placed (start .pre .0) (start .pre .1 .0 .of-kind) good refl _ tests _ weighs in
+    let placed = pair-placed (start .pre .0) (start .pre .1 .0 .of-kind) good refl _ (start .pre .1 .1) _ weighs in
     (λ z. rw (put-weight .ensures) placed, λ z g. absurd (omega arith))
 
 -- fn pair
