@@ -15,7 +15,7 @@ use Rattle.table.specs.Inside.{Framed, ConfigurationsGood, Begins}
 use Rattle.table.specs.Inside.Ways.{Way, outward, numbered}
 use Rattle.table.proofs.Laid.{both, Laid, none, one, two, fine, sizeOf, kindOf}
 use Rattle.table.proofs.Heights.{height-good, taller-by, few-parts}
-use Rattle.table.proofs.WayNumbers.{numbered-short, outward-less, outward-none}
+use Rattle.table.proofs.WayNumbers.{numbered-short, outward-less}
 
 -- the way to the record that stands behind one with that many parts
 abbrev pub onward : ℕ → Way → Way
@@ -140,10 +140,6 @@ module _ {t : List ℕ} {n m v : ℕ} (f : Framed t n m v) where
         let k = both {a = eqb (partKind t c) 0} g in
         let lone : parts (kindOf t j) ≡ 0 = ap parts (rw (r .at) at (eqb-true (partKind t c) 0 (k .0))) in
         reach 0 u (k .1) lone h (omega (arith, outward-less w))
-
-    pub reach-outermost : (eqb (partKind t c) 0 && goodButHeight t j) ≡ true → way ≤ 1
-        → Reached t (c + 4) way (j + 1) (outward w)
-    reach-outermost g h = let a = r .number in reach-lone way g (a ∙ sym (outward-none w (omega arith)))
 
     pub reach-parts : (p : ℕ) → p ≡ cond (goodButHeight t j) (parts (partKind t c)) 0 → (p ≡ 0 → ⊥)
         → 2 * way + (p - 1) < 65536 → Reached t (c + 4) (2 * way + (p - 1)) (j + 1) (onward p w)

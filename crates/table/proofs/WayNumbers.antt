@@ -72,10 +72,3 @@ unfolding numbered outward
 outward-less [] = omega arith
 outward-less (false ∷ w) = omega (arith, outward-less w)
 outward-less (true ∷ w) = omega arith
-
--- behind a lone event that is no part there is no way either
-pub outward-none : (w : Way) → numbered w ≤ 1 → numbered (outward w) ≡ numbered w
-unfolding numbered outward
-outward-none [] h = refl
-outward-none (false ∷ w) h = absurd (omega (arith, numbered-pos w))
-outward-none (true ∷ w) h = absurd (omega (arith, numbered-pos w))

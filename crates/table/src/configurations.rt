@@ -37,9 +37,7 @@ fn all_good(table: &[u8], n: usize, m: usize, v: usize) -> bool
     while c < end {
         let next = c + 4;
         if lone(table, v, c) {
-            if way > 1 {
-                way = closed(way);
-            }
+            way = closed(way);
         } else {
             let parts = parts_good(table, c);
             if parts == 0 {
@@ -55,7 +53,7 @@ fn all_good(table: &[u8], n: usize, m: usize, v: usize) -> bool
     true
 }
 
-// The way behind a lone event: digits 0 at the end are parts with nothing to come behind them.
+// The way behind a lone event: digits 0 at the end are parts with nothing to come behind them. Behind a whole configuration it is 1 again.
 fn closed(way: u32) -> u32
     requires { ⌜ 1 ≤ way ⌝ }
     ensures { λ r. ⌜ ((w : Way) → way ≡ numbered w → r ≡ numbered (outward w)) ⌝ }

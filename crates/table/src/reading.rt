@@ -4,7 +4,7 @@ ghost use mathlib.Core.Path.{_≡_};
 ghost use mathlib.Core.Bool.{cond};
 ghost use mathlib.Core.List.{List};
 ghost use Prim.Native.Nat.{ℕ, _/_, _≤_, _<_};
-ghost use lib.ListN.{take};
+ghost use lib.ListN.{length, take};
 ghost use Rattle.events.specs.Members.{places, marks};
 ghost use Rattle.table.specs.Reading.{ConfigurationAt, ReadAs, event-words};
 ghost use Rattle.table.specs.Inside.Levels.{Level, levelled, SomeLevels, Open, SomeOpen, Decided, ClosesOne, ClosesDecided, Closes, unsettled};
@@ -21,15 +21,16 @@ pub const ROW: usize = WORDS + 7;
 
 // What the configuration at byte c is read as, the events being those of the row's first words. Before the end is declared a lone event costs
 // no call.
-pub fn read_configuration(table: &[u8], c: usize, numbers: &[u64; ROW], ended: bool) -> Verdict
-    requires { ⌜ ConfigurationAt (now table) c ⌝ }
-    ensures { λ r. ⌜ ReadAs (now (table .entry)) c (now (numbers .entry)) ended r ⌝ }
+pub fn read_configuration(table: &&[u8], c: usize, numbers: &[u64; ROW], ended: bool) -> Verdict
+    requires { ⌜ ConfigurationAt (now (now table)) c ⌝ }
+    requires { ⌜ length (now (now table)) < 65536 ⌝ }
+    ensures { λ r. ⌜ ReadAs (now (now (table .entry))) c (now (numbers .entry)) ended r ⌝ }
 {
     if ended {
         return verdict_of(rank_at(table, c, numbers, 0));
     }
-    if part_kind(table, c) == 0 {
-        return verdict_of(event_rank(numbers, part_event(table, c), 1));
+    if part_kind(*table, c) == 0 {
+        return verdict_of(event_rank(numbers, part_event(*table, c), 1));
     }
     verdict_of(rank_at(table, c, numbers, 1))
 }
@@ -44,25 +45,26 @@ pub struct Place {
 }
 
 // The rank of the configuration at byte c, by its records one after another. Levels open are kept in one word: a height of 16 leaves at most 15.
-fn rank_at(table: &[u8], c: usize, numbers: &[u64; ROW], absent: usize) -> usize
-    requires { ⌜ ConfigurationAt (now table) c ⌝ }
+fn rank_at(table: &&[u8], c: usize, numbers: &[u64; ROW], absent: usize) -> usize
+    requires { ⌜ ConfigurationAt (now (now table)) c ⌝ }
     requires { ⌜ IsAbsentRank absent ⌝ }
-    ensures { λ r. ⌜ RanksAs (now (table .entry)) c (now (numbers .entry)) absent r ⌝ }
+    requires { ⌜ length (now (now table)) < 65536 ⌝ }
+    ensures { λ r. ⌜ RanksAs (now (now (table .entry))) c (now (numbers .entry)) absent r ⌝ }
 {
-    let top = part_kind(table, c);
+    let top = part_kind(*table, c);
     if top == 0 {
-        return event_rank(numbers, part_event(table, c), absent);
+        return event_rank(numbers, part_event(*table, c), absent);
     }
     let mut levels: u64 = 32 + top as u64;
     let mut at = c + 4;
     loop {
-        let kind = part_kind(table, at);
+        let kind = part_kind(*table, at);
         if kind == 0 {
             let next = after_part(
-                table,
+                *table,
                 at + 4,
                 levels,
-                event_rank(numbers, part_event(table, at), absent),
+                event_rank(numbers, part_event(*table, at), absent),
             );
             if next.rank != 3 {
                 return next.rank;

@@ -8,8 +8,8 @@ use mathlib.Core.Bool.{false≢true}
 use mathlib.Core.Path.{sym, _∙_}
 use native.Mathlib.Omega.{arith}
 use Rattle.table.proofs.Heights.{few-parts}
-use Rattle.table.proofs.Passing.{SomeReached, reached-first, reached-last, begins, reach-lone, reach-outermost}
-use Rattle.table.proofs.Passing.{reach-parts}
+use Rattle.table.proofs.WayNumbers.{numbered-pos}
+use Rattle.table.proofs.Passing.{SomeReached, reached-first, reached-last, begins, reach-lone, reach-parts}
 
 abbrev Inv-loop : tie.InvT-loop
 Inv-loop table n m v end way₀ c₀ way c = SomeReached table c way
@@ -24,6 +24,12 @@ lone-requires c κs =
     let loop = c .before .loop in
     let loop-test = c .loop-test in
     ((_, begins (start .pre) (loop .inv .2) (loop-test .taken)), (start .pre .v-is, start .pre .v-most))
+
+-- way = closed(way);
+closed-requires : tie.Need-closed-requires Inv-loop μ-loop
+closed-requires c κs =
+    let loop = c .before .before .before .loop in
+    omega (arith, loop .inv .2 .number, numbered-pos (loop .inv .1))
 
 -- let parts = parts_good(table, c);
 parts-good-requires : tie.Need-parts-good-requires Inv-loop μ-loop
@@ -51,11 +57,11 @@ add-way c =
 -- while c < end {
 loop-again : tie.Need-loop-again Inv-loop μ-loop
 loop-again c =
-    let start = c .before .before .before .before .before .before .before in
-    let loop = c .before .before .before .before .before .loop in
-    let loop-test = c .before .before .before .before .loop-test in
-    let lone = c .before .before .before .lone in
-    let if1 = c .before .before .if1 in
+    let start = c .before .before .before .before .before .before in
+    let loop = c .before .before .before .before .loop in
+    let loop-test = c .before .before .before .loop-test in
+    let lone = c .before .before .lone in
+    let if1 = c .before .if1 in
     let closed = c .closed in
     let f = start .pre in
     let r = loop .inv .2 in
@@ -64,28 +70,15 @@ loop-again c =
 
 loop-again-2 : tie.Need-loop-again-2 Inv-loop μ-loop
 loop-again-2 c =
-    let start = c .before .before .before .before .before .before in
-    let loop = c .before .before .before .before .loop in
-    let loop-test = c .before .before .before .loop-test in
-    let lone = c .before .before .lone in
-    let if1 = c .before .if1 in
-    let if2 = c .if2 in
-    let f = start .pre in
-    let r = loop .inv .2 in
-    let l = loop-test .taken in
-    (_, _, reach-outermost f r l (sym (lone .ensures _ (begins f r l)) ∙ if1 .taken) (if2 .left))
-
-loop-again-3 : tie.Need-loop-again-3 Inv-loop μ-loop
-loop-again-3 c =
     let start = c .before .before .before .before .before .before .before .before in
     let loop = c .before .before .before .before .before .before .loop in
     let loop-test = c .before .before .before .before .before .loop-test in
     let parts-good = c .before .before .parts-good in
-    let if3 = c .before .if3 in
+    let if2 = c .before .if2 in
     let f = start .pre in
     let r = loop .inv .2 in
     let l = loop-test .taken in
-    (_, _, reach-parts f r l _ (parts-good .ensures _ (begins f r l)) (if3 .left) (omega arith))
+    (_, _, reach-parts f r l _ (parts-good .ensures _ (begins f r l)) (if2 .left) (omega arith))
 
 -- fn all_good
 returns-3 : tie.Need-returns-3 Inv-loop μ-loop
@@ -107,7 +100,7 @@ all-good-spec =
     (λ c. (0, [], reached-first (c .before .pre)))  -- loop-holds: while c < end {
     (λ c. search needs)  -- add-next: let next = c + 4;
     lone-requires
-    (λ c κs. search needs)  -- closed-requires: way = closed(way);
+    closed-requires
     parts-good-requires
     (λ c e. absurd (false≢true e))  -- returns: return false;
     mul-way
@@ -118,6 +111,4 @@ all-good-spec =
     loop-again
     (λ c. omega arith)  -- loop-less-2
     loop-again-2
-    (λ c. omega arith)  -- loop-less-3
-    loop-again-3
     returns-3)

@@ -1,4 +1,4 @@
--- `table::nodes::good_node` meets its contract: no kind above 15 and no kind 13 is known, and the others are asked by their row.
+-- `table::nodes::good_node` meets its contract: no kind above 15 is known, and the others are asked by their row.
 use Rattle.table.proofs.nodes.good_node.Statement.{statement}
 use Rattle.table.proofs.nodes.good_node.Tie as tie
 use borrow.Author.Needs.{needs}
