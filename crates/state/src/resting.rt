@@ -171,19 +171,7 @@ fn rests_at(table: &[u8], state: &[u8], i: usize, near: usize) -> bool
     count_rests(table, i, k, own)
 }
 
-// The lowest blamed node from i on, which has a byte other than zero, `low` being that of those behind i.
-fn begun_low(table: &[u8], state: &[u8], i: usize, near: usize, low: usize) -> usize
-    requires { ⌜ Judging (now table) (now state) i near × (zeroNode (now state) i ≡ false) ⌝ }
-    requires { ⌜ Blamed (now table) (now state) (i + 1) low ⌝ }
-    ensures { λ r. ⌜ Blamed (now (table .entry)) (now (state .entry)) i r ⌝ }
-{
-    if rests_at(table, state, i, near) {
-        return low;
-    }
-    i
-}
-
-// Whether node i, which has no byte but zeros, rests around `near`.
+// Whether node i, which has no byte but zeros, rests around `near`. A kind without parts has nothing around it.
 fn fresh_rests(table: &[u8], state: &[u8], i: usize, near: usize) -> bool
     requires { ⌜ Judging (now table) (now state) i near × (near < i + sizeAt (now table) i) ⌝ }
     ensures { λ r. ⌜ r ≡ phaseRests (now (table .entry)) (now (state .entry)) i (kindAt (now (table .entry)) i) 0 ⌝ }
@@ -197,6 +185,18 @@ fn fresh_rests(table: &[u8], state: &[u8], i: usize, near: usize) -> bool
         3 | 10 => second_zero(table, state, i, near),
         _ => false,
     }
+}
+
+// The lowest blamed node from i on, `low` being that of those behind i. Node i has a byte other than zero.
+fn begun_low(table: &[u8], state: &[u8], i: usize, near: usize, low: usize) -> usize
+    requires { ⌜ Judging (now table) (now state) i near × (zeroNode (now state) i ≡ false) ⌝ }
+    requires { ⌜ Blamed (now table) (now state) (i + 1) low ⌝ }
+    ensures { λ r. ⌜ Blamed (now (table .entry)) (now (state .entry)) i r ⌝ }
+{
+    if rests_at(table, state, i, near) {
+        return low;
+    }
+    i
 }
 
 // The same for all nodes from i up to `near`, which have no byte but zeros. A subtree that is all zero rests as a whole.

@@ -74,8 +74,8 @@ fn all_run(table: &[u8]) -> bool
     true
 }
 
-// For how many pieces more the way down is gone: all nodes are looked at once there have been many, and if all run, for none. If one doesn't, for more
-// than there are.
+// For how many more pieces the way down is gone. At the last of them all nodes are looked at: 0 from then on if all run, or else more than there are
+// pieces.
 fn ways_left(table: &[u8], ways: usize) -> usize
     requires { ⌜ Loaded (now table) × Spared (now table) ways ⌝ }
     ensures { λ r. ⌜ Spared (now (table .entry)) r ⌝ }
@@ -144,7 +144,7 @@ fn piece_good(table: &[u8], ways: usize, store: &[u8], end: usize, at: usize) ->
     false
 }
 
-// Whether good pieces, one behind the other, fill the store from byte 2 to byte `end`.
+// Whether good pieces, one behind the other, fill the store from byte 2 to byte `end`. A few under a large table don't cost a look at all nodes.
 fn pieces_good(table: &[u8], store: &[u8], end: usize) -> bool
     requires { ⌜ Loaded (now table) × (2 ≤ end) × (end ≤ length (now store)) ⌝ }
     ensures { λ r. ⌜ r ≡ piecesGood (now (table .entry)) (now (store .entry)) end (end - 2) 2 ⌝ }
