@@ -4,8 +4,9 @@ use Prim.Native.Nat.{ℕ, _*_}
 use mathlib.Core.Path.{_≡_, sym, _∙_}
 use mathlib.Core.List.{List}
 use lib.ListN.{getD}
+use denote.Ref.{RefT}
 use Rattle.junior.specs.Term.{Term}
-use Rattle.steps.specs.Running.{Rooms, Live, Runs, Phase}
+use Rattle.steps.specs.Running.{Rooms, rooms-of, Live, Runs, Phase}
 use Rattle.steps.proofs.Children.{unseen}
 use Rattle.steps.specs.Numbers.{Kept, wordsOf, tallyOf}
 use Rattle.steps.specs.Flags.{flagOf}
@@ -26,6 +27,15 @@ module _ {skip skip₁ : ℕ} {W U : Term → Type 0} {L : Lent} {i : ℕ} {befo
       → Went skip U L i before part behind L′ r
   went-as k g runs = record { part′ = g .part′; around = g .around; kept = kept-then k (g .kept); below = g .below; runs = runs }
 
+-- node i, of which U holds in L, goes on in L₁ as one of which W holds
+pub record GoesOnAs (W U : Term → Type 0) (L : Lent) (i : ℕ) (L₁ : Lent) : Type 0 where
+  pub can : CanRun 1 W L₁ i
+  pub has : {L′ : Lent} {r : ℕ} → HasRun 1 W L₁ i L′ r → HasRun 0 U L i L′ r
+
+-- what is lent where the ways through a function meet
+abbrev pub met : RefT (RefT (List ℕ)) → RefT (List ℕ) → List ℕ → RefT (List ℕ) → RefT (List ℕ) → Lent
+met table state numbers atoms store = lent (table .now .now) (state .now) numbers (rooms-of (atoms .now) (store .now))
+
 module _ {W U : Term → Type 0} {ph : ℕ} (are : (t : Term) → U t → Phase ph t → W t) {table : List ℕ} {i : ℕ} {state m : List ℕ} {rooms : Rooms}
     (is : getD state (4 * i) 0 ≡ ph) where
   in-phase : {before part behind : List ℕ} → Stands 0 U (lent table state m rooms) i before part behind
@@ -39,3 +49,6 @@ module _ {W U : Term → Type 0} {ph : ℕ} (are : (t : Term) → U t → Phase 
   by-phase run before part behind o =
       let g = run before part behind (in-phase o) in
       went-as (kept-same m) g (λ t u h. g .runs t (are t u (sym (phase-is (o .around) h) ∙ is)) (unseen h 1))
+
+  pub goes-by-phase : CanRun 0 U (lent table state m rooms) i → GoesOnAs W U (lent table state m rooms) i (lent table state m rooms)
+  goes-by-phase o = record { can = to-phase o; has = λ run. by-phase run }

@@ -2,7 +2,7 @@
 use Prim.Native.Nat.{ℕ, _<_}
 use mathlib.Core.Bool.{true, false}
 use mathlib.Core.Path.{_≡_, refl, ap, sym, _∙_}
-use mathlib.Core.Logic.{_≢_, inr}
+use mathlib.Core.Logic.{inr}
 use mathlib.Core.List.{List, _∷_, _++_}
 use native.Mathlib.Omega.{arith}
 use lib.ListN.{drop}
@@ -21,11 +21,10 @@ use Rattle.table.specs.Records.{argumentAt}
 use Rattle.table.specs.Spells.{Spells}
 use Rattle.state.specs.Kinds.{if-kind}
 use Rattle.state.specs.StateBytes.{zeros, below}
-use Rattle.state.proofs.Parts.{fresh-zeros, own-phase}
-use Rattle.state.proofs.Shape.{Shape, is-done, is-if0, is-if1, is-if2, shape-by}
-use Rattle.steps.specs.Running.{Rooms, Ready, Ran, Live, Runs, Kind, valuesIn}
+use Rattle.state.proofs.Parts.{fresh-zeros}
+use Rattle.state.proofs.Shape.{Shape, is-if0, shape-by}
+use Rattle.steps.specs.Running.{Rooms, Ready, Ran, Live, Runs, KindPhase, valuesIn}
 use Rattle.steps.specs.Kinds.{InSecond, InThen}
-use Rattle.steps.proofs.Children.{phase-is}
 use Rattle.steps.proofs.Done.{same-lengths, ready-as, room-for, ran-by}
 use Rattle.steps.proofs.LoadedNode.{if-placed}
 
@@ -33,18 +32,11 @@ use Rattle.steps.proofs.LoadedNode.{if-placed}
 pub data If0 : Term → Type 0 where
   reached : (v : ℕ) (p q : Program) → If0 (if0 v p q)
 
-if0-of : {t : Term} {ph : ℕ} → Shape t if-kind ph → ph ≢ 3 → ph ≢ 1 → ph ≢ 2 → If0 t
-if0-of (is-if0 v p q) a b d = reached v p q
-if0-of (is-if1 v x q) a b d = absurd (b refl)
-if0-of (is-if2 v p x) a b d = absurd (d refl)
-if0-of (is-done p e) a b d = absurd (a refl)
+if0-of : {t : Term} → Shape t if-kind 0 → If0 t
+if0-of (is-if0 v p q) = reached v p q
 
-pub if0-by : {table : List ℕ} {i : ℕ} {state words : List ℕ} {rooms : Rooms} {tally : List ℕ} {t : Term} → Kind if-kind t
-    → Ready 0 table i state words rooms tally t
-    → own-phase state ≢ 1
-    → own-phase state ≢ 2
-    → If0 t
-if0-by {t = t} w h a b = if0-of (shape-by t (w .0) refl) (w .1) (λ e. a (phase-is h ∙ e)) (λ e. b (phase-is h ∙ e))
+pub if0-by : (t : Term) → KindPhase if-kind 0 t → If0 t
+if0-by t (e, p) = if0-of (shape-by t e p)
 
 -- a branch begins
 first-begins : {value : Values} {P : Place} {v : ℕ} {p q : Program} {E : Env} {r : Result}

@@ -13,6 +13,7 @@ pub mod Until
 pub mod Freezable
 pub mod If
 pub mod GoesOn
+pub mod Branches
 pub mod Names
 pub mod Indices
 pub mod WhenRuns
@@ -20,6 +21,7 @@ pub mod UntilRuns
 pub mod FreezableRuns
 pub mod IfRuns
 pub mod ParRuns
+pub mod ChainRuns
 pub mod HalfRuns
 pub mod SeqRuns
 pub mod RepeatRuns

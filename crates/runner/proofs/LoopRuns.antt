@@ -16,13 +16,14 @@ use Rattle.steps.proofs.Children.{own-in, unseen}
 use Rattle.steps.specs.Kinds.{OfKind, Beginning}
 use Rattle.steps.specs.Lent.{Lent, lent, Around, Stands, Went, CanRun, HasRun}
 use Rattle.steps.proofs.Context.{outer, phase-at, phase-in, put-phase}
-use Rattle.steps.proofs.Row.{kept-then, still}
+use Rattle.steps.proofs.Row.{kept-same, kept-then, still}
 use Rattle.steps.proofs.FlagNumbers.{is-term, not-term}
 use Rattle.steps.proofs.Dispatch.{phase-is, to-kind}
 use Rattle.steps.proofs.ChildContext.{child-stands}
 use Rattle.runner.proofs.Loop.{Begins, begins-by, begin-asks, begin-writes, begin-ran}
 use Rattle.runner.proofs.Loop.{Loops, loops-by, loop-asks, loop-waits, anew-asks, loop-again}
 use Rattle.runner.proofs.Falling.{weigh, child-rank, form-rank, last-rank, smaller-by}
+use Rattle.runner.proofs.GoesOn.{GoesOnAs, went-as}
 
 -- the body begins
 module _ {table : List ℕ} {i : ℕ} {state m : List ℕ} {rooms : Rooms} {before part behind : List ℕ}
@@ -85,21 +86,15 @@ module _ {table : List ℕ} {i : ℕ} {state m : List ℕ} {rooms : Rooms} (on :
       let (t, w, h) = o .live in
       record { around = o .around; numbers = o .numbers; live = (t, begins-at on fresh (o .around) t w h, unseen h 1) }
 
-  pub to-begin : CanRun 0 (OfKind loop-kind) (lent table state m rooms) i → {k : ℕ} → weigh table i form-rank ≡ k
-      → (weigh table i last-rank < k) × CanRun 1 Beginning (lent table state m rooms) i
-  to-begin (before, part, behind, o) e = (omega arith, (before, part, behind, begin-stands o))
-
-  pub by-begin : {L′ : Lent} {r : ℕ} → HasRun 1 Beginning (lent table state m rooms) i L′ r
+  by-begin : {L′ : Lent} {r : ℕ} → HasRun 1 Beginning (lent table state m rooms) i L′ r
       → HasRun 0 (OfKind loop-kind) (lent table state m rooms) i L′ r
   by-begin run before part behind o =
       let g = run before part behind (begin-stands o) in
-      record {
-        part′ = g .part′;
-        around = g .around;
-        kept = g .kept;
-        below = g .below;
-        runs = λ t w h. g .runs t (begins-at on fresh (o .around) t w h) (unseen h 1);
-      }
+      went-as (kept-same m) g (λ t w h. g .runs t (begins-at on fresh (o .around) t w h) (unseen h 1))
+
+  pub loop-begins : CanRun 0 (OfKind loop-kind) (lent table state m rooms) i
+      → GoesOnAs Beginning (OfKind loop-kind) (lent table state m rooms) i (lent table state m rooms)
+  loop-begins (before, part, behind, o) = record { can = (before, part, behind, begin-stands o); has = λ run. by-begin run }
 
 -- in the rest of its body
 module _ {table : List ℕ} {i : ℕ} {state : List ℕ} (begun : getD state (4 * i) 0 ≡ 1) {m : List ℕ} {rooms : Rooms} {before part behind : List ℕ}
@@ -191,10 +186,7 @@ module _ {table : List ℕ} {i : ℕ} {state m : List ℕ} {rooms : Rooms} where
       pub loop-stays : f ≢ 2 → HasRun 0 (OfKind loop-kind) (lent table state m rooms) i (lent table state₁ m₁ rooms₁) f
       loop-stays n before part behind o = loop-went begun o run n
 
-      pub loop-anew : f ≡ 2 → CanRun 0 (OfKind loop-kind) (lent table state m rooms) i → {k : ℕ} → weigh table i form-rank ≡ k
-          → (weigh table i last-rank < k) × CanRun 1 Beginning (lent table state₁ m₁ rooms₁) i
-      loop-anew z (before, part, behind, o) e = (omega arith, (_, _, _, anew-stands begun o run z))
-
-      pub loop-goes-on : {L′ : Lent} {r : ℕ} → f ≡ 2 → HasRun 1 Beginning (lent table state₁ m₁ rooms₁) i L′ r
-          → HasRun 0 (OfKind loop-kind) (lent table state m rooms) i L′ r
-      loop-goes-on e then before part behind o = loop-went-on begun o run e then
+      pub loop-anew : f ≡ 2 → CanRun 0 (OfKind loop-kind) (lent table state m rooms) i
+          → GoesOnAs Beginning (OfKind loop-kind) (lent table state m rooms) i (lent table state₁ m₁ rooms₁)
+      loop-anew e (before, part, behind, o) =
+          record { can = (_, _, _, anew-stands begun o run e); has = λ then before part behind o. loop-went-on begun o run e then }

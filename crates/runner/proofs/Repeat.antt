@@ -6,6 +6,7 @@ use mathlib.Core.List.{List, [], _++_, append-nil}
 use native.Mathlib.Omega.{arith}
 use native.Mathlib.Nat.{div-add-mod'}
 use lib.ListN.{length, getD, drop, set}
+use borrow.Author.Tests.{eq-eqb, ne-eqb}
 use borrow.Rule.Slice.PartMut.{midOf, putMid}
 use Rattle.junior.specs.declared.Flag.{Flag}
 use Rattle.junior.specs.declared.Flag.the-variants.{TERM}
@@ -22,14 +23,16 @@ use Rattle.junior.proofs.Fresh.{prog-fresh, fresh-at-rest}
 use Rattle.junior.proofs.Held.{ends-unheld}
 use Rattle.junior.proofs.Going.{rest-going}
 use Rattle.junior.proofs.Figures.{pot-at-rest, pot-again}
-use Rattle.table.specs.Records.{word, argumentAt}
+use Rattle.table.specs.Records.{word, kindAt, argumentAt}
 use Rattle.table.specs.Spells.{valueIn, capIn, Spells}
+use Rattle.table.proofs.Loaded.{kind-of}
 use Rattle.state.specs.Kinds.{repeat-kind, repeat-ext-kind}
 use Rattle.state.specs.StateBytes.{head, below, zeros}
 use Rattle.state.proofs.Parts.{fresh-zeros, blank-below, own-of, own-phase, own-flags}
 use Rattle.state.proofs.Shape.{Shape, is-done, is-repeat0, is-repeat1, is-ext0, is-ext1, shape-by}
 use Rattle.state.proofs.Frames.{repeat-body}
-use Rattle.steps.specs.Running.{Rooms, Ready, Ran, Live, Runs, Any, Kind, Repeating, Times, valuesIn}
+use Rattle.steps.specs.Running.{Rooms, Ready, Ran, Live, Runs, Any, Repeating, Times, valuesIn, timesAt}
+use Rattle.steps.specs.Kinds.{Repetition}
 use Rattle.steps.proofs.LoadedNode.{repeat-below}
 use Rattle.steps.proofs.Children.{at-node, falling, byte-is, only-cut, put-back, first-at, phase-is, unseen}
 use Rattle.steps.proofs.Done.{later, same-lengths, ready-as, room-for, room-after, few, ran-flag, ran-zeros, ran-long, ran-alone}
@@ -76,13 +79,14 @@ module _ {table : List ℕ} {i : ℕ} {state words : List ℕ} {rooms : Rooms} {
       let (v-is, m-is) = h .placed .spelled .1 in
       unbegun (asked v m) p (ap₂ (λ m v. min m (valuesIn tally v)) (sym m-is) (sym v-is))
 
-  pub repeat-begins : {t : Term} → Kind repeat-kind t → Ready 0 table i state words rooms tally t → own-phase state ≡ 0
-      → Unbegun (valuesIn tally) (argumentAt table i) t
-  repeat-begins {t} w h z = repeat-of (shape-by t (w .0) (sym (phase-is h) ∙ z)) h
-
-  pub ext-begins : {t : Term} → Kind repeat-ext-kind t → Ready 0 table i state words rooms tally t → own-phase state ≡ 0
-      → Unbegun (valuesIn tally) (min (capIn (argumentAt table i)) (valuesIn tally (valueIn (argumentAt table i)))) t
-  ext-begins {t} w h z = ext-of (shape-by t (w .0) (sym (phase-is h) ∙ z)) h
+  -- it runs as often as the table says at its kind
+  pub begins : {t : Term} → Repetition t → Ready 0 table i state words rooms tally t → own-phase state ≡ 0
+      → Unbegun (valuesIn tally) (timesAt table i tally) t
+  begins {t} (inl e) h z =
+      rw (eq-eqb (kindAt table i) repeat-kind (kind-of (h .placed) ∙ e)) (repeat-of (shape-by t e (sym (phase-is h) ∙ z)) h)
+  begins {t} (inr e) h z =
+      let ext : kindAt table i ≡ repeat-ext-kind = kind-of (h .placed) ∙ e in
+      rw (ne-eqb (kindAt table i) repeat-kind (λ k. omega arith)) (ext-of (shape-by t e (sym (phase-is h) ∙ z)) h)
 
   -- the first of its runs: the same bytes but for the node's own
   first-run : (n : Number) (k : ℕ) (p : Program) → k < most n → Ready 0 table i state words rooms tally (repeat0 n p)
@@ -101,10 +105,9 @@ module _ {table : List ℕ} {i : ℕ} {state words : List ℕ} {rooms : Rooms} {
 
     -- what run_times asks, one run less being then to begin, and that it is the repetition's own run
     pub repeat-asks : {t : Term} → Unbegun (valuesIn tally) a t → Ready 0 table i state words rooms tally t → a ≢ 0
-        → {k : ℕ} → falling table i 2 ≡ k
-        → (falling table i 0 < k) × ((Live 4 (Times (a - 1)) table i state words rooms tally) × (own-flags state ≡ 0))
-    repeat-asks (unbegun n p e) h z falls =
-        (omega arith, ((repeat1 n (a - 1) (fresh p), begun-times a n p, first-run n (a - 1) p (begun-below _ a n e z) h), byte-is h 1 (omega arith)))
+        → Live 4 (Times (a - 1)) table i state words rooms tally × (own-flags state ≡ 0)
+    repeat-asks (unbegun n p e) h z =
+        ((repeat1 n (a - 1) (fresh p), begun-times a n p, first-run n (a - 1) p (begun-below _ a n e z) h), byte-is h 1 (omega arith))
 
     pub repeat-ran : {t : Term} → Unbegun (valuesIn tally) a t → Ready 0 table i state words rooms tally t → a ≢ 0
         → {state′ words′ : List ℕ} {rooms′ : Rooms} {tally′ : List ℕ} {α : Flag}
@@ -141,7 +144,7 @@ ext-phase-1 (is-ext1 v m j x) a b = refl
 ext-phase-1 (is-ext0 v m p) a b = absurd (b refl)
 ext-phase-1 (is-done p e) a b = absurd (a refl)
 
-begun-phase : (t : Term) → Repeating (kind (prog t)) → head t .phase ≢ 3 → head t .phase ≢ 0 → head t .phase ≡ 1
+begun-phase : (t : Term) → Repetition t → head t .phase ≢ 3 → head t .phase ≢ 0 → head t .phase ≡ 1
 begun-phase t (inl e) a b = in-phase-1 (shape-by t e refl) a b
 begun-phase t (inr e) a b = ext-phase-1 (shape-by t e refl) a b
 
@@ -156,7 +159,7 @@ module _ {table : List ℕ} {i : ℕ} {state words : List ℕ} {rooms : Rooms} {
       → Ran P (repeat1 n k x) words rooms tally state″ words″ rooms″ tally″ α
   run-then h g r = ran-then h g r (r4-repeat (g .rewrites) (later (g .lengths) (r .rewrites)))
 
-  module _ {t : Term} (w : Repeating (kind (prog t)) × (head t .phase ≢ 3)) (h : Ready 0 table i state words rooms tally t) (begun : own-phase state ≢ 0)
+  module _ {t : Term} (w : Repetition t × (head t .phase ≢ 3)) (h : Ready 0 table i state words rooms tally t) (begun : own-phase state ≢ 0)
       {k : ℕ}
       (is : k ≡ word state 2) where
     -- the count is what the bytes say
@@ -167,9 +170,8 @@ module _ {table : List ℕ} {i : ℕ} {state words : List ℕ} {rooms : Rooms} {
       sym (is ∙ rw (byte-is h 2 (omega arith), byte-is h 3 (omega arith)) (div-add-mod' (head t .count) 256)),
     )
 
-    pub counts-asks : {m : ℕ} → falling table i 2 ≡ m
-        → (falling table i 0 < m) × ((Live 4 (Times k) table i state words rooms tally) × (own-flags state ≡ 0))
-    counts-asks falls = (omega arith, ((t, counts, unseen h 4), byte-is h 1 (omega arith) ∙ no-flags (in-run-by t counts)))
+    pub counts-asks : Live 4 (Times k) table i state words rooms tally × (own-flags state ≡ 0)
+    counts-asks = ((t, counts, unseen h 4), byte-is h 1 (omega arith) ∙ no-flags (in-run-by t counts))
 
   pub times-asks : {t : Term} {k : ℕ} → InRun k t → Ready 4 table i state words rooms tally t → {m : ℕ} → falling table i 0 ≡ m
       → (falling table (i + 1) 3 < m) × Live 0 Any table (i + 1) (midOf 4 (length state - 4) state) words rooms tally
@@ -256,31 +258,3 @@ module _ {table : List ℕ} {i : ℕ} {state words : List ℕ} {rooms : Rooms} {
     times-again (in-run n (suc k) x) h a l then P at =
         let g = ran-flag a (rest-ran n (suc k) x h P at) in
         run-then h g (then (repeat1 n k (fresh (prog x))) (repeating n (prog (fresh (prog x))), refl, omega arith) (next n k x h a) P at)
-
--- before a turn of the loop: the repetition with `left` runs still to begin can be run, and what that does now is what it does from the entry on
-pub record Turn (table : List ℕ) (i : ℕ) (state₀ words₀ : List ℕ) (rooms₀ : Rooms) (tally₀ : List ℕ) (k : ℕ) (state words : List ℕ) (rooms : Rooms)
-    (tally : List ℕ) (left : ℕ) : Type 0 where
-  pub live : Live 4 (Times left) table i state words rooms tally
-  pub no-flags-yet : own-flags state ≡ 0
-  pub goes-on : {state′ words′ : List ℕ} {rooms′ : Rooms} {tally′ : List ℕ} {α : Flag}
-      → Runs 4 (Times left) table i state words rooms tally state′ words′ rooms′ tally′ α
-      → Runs 4 (Times k) table i state₀ words₀ rooms₀ tally₀ state′ words′ rooms′ tally′ α
-
-module _ {table : List ℕ} {i : ℕ} {state₀ words₀ : List ℕ} {rooms₀ : Rooms} {tally₀ : List ℕ} {k : ℕ} where
-  pub first-turn : Live 4 (Times k) table i state₀ words₀ rooms₀ tally₀ → own-flags state₀ ≡ 0
-      → Turn table i state₀ words₀ rooms₀ tally₀ k state₀ words₀ rooms₀ tally₀ k
-  first-turn l z = record { live = l; no-flags-yet = z; goes-on = λ run. run }
-
-  pub next-turn : {state words : List ℕ} {rooms : Rooms} {tally : List ℕ} {left : ℕ} → Turn table i state₀ words₀ rooms₀ tally₀ k state words rooms tally left
-      → {s words′ : List ℕ} {rooms′ : Rooms} {tally′ : List ℕ} {α : Flag}
-      → Runs 0 Any table (i + 1) (midOf 4 (length state - 4) state) words rooms tally s words′ rooms′ tally′ α
-      → α ≡ TERM
-      → left ≢ 0
-      → Turn table i state₀ words₀ rooms₀ tally₀ k (putMid 4 (length state - 4) state s) words′ rooms′ tally′ (left - 1)
-  next-turn u run a l =
-      let v = in-run-by (u .live .0) (u .live .1) in
-      record {
-        live = next-live run v (u .live .2) a l;
-        no-flags-yet = next-flags run v (u .live .2) (u .no-flags-yet);
-        goes-on = λ then. u .goes-on (λ x w h. times-again run (in-run-by x w) h a l then);
-      }

@@ -1,33 +1,32 @@
 -- A Repeat or a RepeatExt, rules 14 and 15 when it begins, 4 and 5 in the rest of a run of its body, over all that is lent.
-use Prim.Native.Nat.{ℕ, zero, suc, _+_, _-_, _*_, _/_, _%_, _≤_, _<_, min}
-use mathlib.Core.Bool.{cond}
-use mathlib.Core.Path.{_≡_, refl, ap, sym, subst, _∙_}
-use mathlib.Core.Logic.{_≢_, inl, inr}
-use mathlib.Core.List.{List, _++_}
+use Prim.Native.Nat.{ℕ, _+_, _-_, _*_, _/_, _%_, _≤_, _<_}
+use mathlib.Core.Path.{_≡_, refl, sym, subst, _∙_}
+use mathlib.Core.Logic.{_≢_, _⊎_, inl, inr}
+use mathlib.Core.List.{List, [], _∷_, _++_}
 use native.Mathlib.Omega.{arith}
-use lib.Dec.{lit<, eqb}
+use lib.Dec.{lit<}
 use lib.ListN.{length, getD, take, drop, set, length-set}
-use borrow.Author.Tests.{eq-eqb, ne-eqb}
 use borrow.Rule.Slice.PartMut.{midOf, putMid}
-use Rattle.junior.specs.Program.{kind}
-use Rattle.junior.specs.Term.{Term, prog}
-use Rattle.table.specs.Records.{word, argumentAt, sizeAt}
-use Rattle.table.specs.Spells.{valueIn, capIn}
-use Rattle.state.specs.Kinds.{repeat-kind, repeat-ext-kind}
+use Rattle.junior.specs.declared.Flag.{Flag}
+use Rattle.junior.specs.declared.Flag.the-variants.{TERM}
+use Rattle.junior.specs.Term.{Term}
+use Rattle.junior.specs.Trace.{Place}
+use Rattle.table.specs.Records.{word, kindAt, sizeAt}
+use Rattle.table.proofs.Loaded.{kind-of}
 use Rattle.state.specs.StateBytes.{head}
 use Rattle.state.proofs.Parts.{own-phase, own-flags}
-use Rattle.steps.specs.Running.{Rooms, Ready, Live, Any, Kind, Repeating, Times, valuesIn}
+use Rattle.steps.specs.Running.{Rooms, Ready, Ran, Live, Runs, Any, Repeating, Times, valuesIn, timesAt}
 use Rattle.steps.proofs.Children.{falling, own-in, unseen}
 use Rattle.runner.proofs.Repeat.{InRun, in-run-by, times-asks, times-below, times-writes, times-waits, times-ends, next-live, next-flags, times-again}
-use Rattle.runner.proofs.Repeat.{Unbegun, repeat-begins, ext-begins, repeat-ends, repeat-asks, repeat-ran, counts, counts-asks}
-use Rattle.steps.specs.Numbers.{wordsOf, tallyOf, places-of-row}
-use Rattle.steps.specs.Kinds.{OfKind}
+use Rattle.runner.proofs.Repeat.{Unbegun, begins, repeat-ends, repeat-asks, repeat-ran, counts, counts-asks}
+use Rattle.steps.specs.Numbers.{tallyOf, places-of-row}
+use Rattle.steps.specs.Kinds.{Repetition}
 use Rattle.steps.specs.Lent.{Lent, lent, Around, Stands, Went, CanRun, HasRun}
 use Rattle.steps.proofs.Context.{byte-at, byte-in, phase-at, put-byte, put-phase, outer}
 use Rattle.steps.proofs.Row.{kept-same, still}
-use Rattle.runner.proofs.GoesOn.{went-as}
+use Rattle.runner.proofs.GoesOn.{stands-as, went-as}
 use Rattle.steps.proofs.FlagNumbers.{is-term, not-term}
-use Rattle.steps.proofs.Dispatch.{phase-is}
+use Rattle.steps.proofs.Dispatch.{phase-is, can-narrow, widen, none-of}
 use Rattle.steps.proofs.ChildContext.{child-stands}
 
 -- three of a node's own bytes written anew
@@ -166,19 +165,14 @@ next-turn u run e l =
     let (o, z) = times-next run e l (u .can) (u .no-flags-yet) in
     record { can = o; no-flags-yet = z; goes-on = λ then. u .goes-on (times-then run e l then) }
 
--- a repetition with so many turns to go, the one that is being run counted, a being how often it runs once it begins
-abbrev pub turnsBy : ℕ → ℕ → List ℕ → ℕ
-turnsBy a i state = cond (eqb (getD state (4 * i) 0) 0) a (getD state (4 * i + 2) 0 * 256 + getD state (4 * i + 3) 0 + 1)
-
-abbrev pub turnsAt : List ℕ → ℕ → List ℕ → ℕ
-turnsAt table i state = turnsBy (argumentAt table i) i state
-
--- how often a RepeatExt runs once it begins
-abbrev pub timesAsked : List ℕ → ℕ → List ℕ → ℕ
-timesAsked table i tally = min (capIn (argumentAt table i)) (valuesIn tally (valueIn (argumentAt table i)))
+-- a repetition has so many turns to go, the one that it is in counted: as many as the table says if it is not begun, else by its count
+abbrev pub Turns : List ℕ → ℕ → List ℕ → List ℕ → ℕ → Type 0
+Turns table i state tally turns =
+    ((getD state (4 * i) 0 ≡ 0) × (turns ≡ timesAt table i tally))
+    ⊎ ((getD state (4 * i) 0 ≢ 0) × (turns ≡ getD state (4 * i + 2) 0 * 256 + getD state (4 * i + 2 + 1) 0 + 1))
 
 module _ {table : List ℕ} {i : ℕ} {state : List ℕ} (on : getD state (4 * i) 0 ≢ 3) {before part behind : List ℕ} (a : Around state i before part behind)
-    {words : List ℕ} {rooms : Rooms} {tally : List ℕ} {t : Term} (h : Ready 0 table i part words rooms tally t) where
+    {words : List ℕ} {rooms : Rooms} {tally : List ℕ} {t : Term} (w : Repetition t) (h : Ready 0 table i part words rooms tally t) where
   no-3 : head t .phase ≢ 3
   no-3 e = on (phase-is a h ∙ e)
 
@@ -188,132 +182,81 @@ module _ {table : List ℕ} {i : ℕ} {state : List ℕ} (on : getD state (4 * i
   byte-there : (k : ℕ) → k < 4 → getD state (4 * i + k) 0 ≡ getD part k 0
   byte-there k l = byte-at a k (own-in h k l)
 
-  fresh-turns : (n : ℕ) → getD state (4 * i) 0 ≡ 0 → turnsBy n i state ≡ n
-  fresh-turns n z = rw (eq-eqb (getD state (4 * i) 0) 0 z)
+  module _ {turns : ℕ} where
+    unbegun-here : getD state (4 * i) 0 ≡ 0 → turns ≡ timesAt table i tally → Unbegun (valuesIn tally) turns t
+    unbegun-here ph is = subst (λ n. Unbegun (valuesIn tally) n t) (sym is) (begins w h (sym phase-there ∙ ph))
 
-  begun-turns : (n : ℕ) → getD state (4 * i) 0 ≢ 0 → turnsBy n i state ≡ word part 2 + 1
-  begun-turns n z = rw (ne-eqb (getD state (4 * i) 0) 0 z, byte-there 2 (lit< tt), byte-there 3 (lit< tt))
+    count-is : turns ≡ getD state (4 * i + 2) 0 * 256 + getD state (4 * i + 2 + 1) 0 + 1 → turns - 1 ≡ word part 2
+    count-is is =
+        let n : 4 * i + 2 + 1 ≡ 4 * i + 3 = omega arith in
+        let one-more : turns ≡ word part 2 + 1 = is ∙ rw (n, byte-there 2 (lit< tt), byte-there 3 (lit< tt)) in
+        omega arith
 
-by-zero : {A : Type 0} (n : ℕ) → (n ≡ 0 → A) → (n ≢ 0 → A) → A
-by-zero zero f g = f refl
-by-zero (suc n) f g = g (λ e. omega arith)
+    none-ran : Turns table i state tally turns → turns ≡ 0 → (P : Place) → Ran P t words rooms tally part words rooms tally TERM
+    none-ran (inl (ph, is)) z P = repeat-ends (unbegun-here ph is) h z P
+    none-ran (inr (ph, is)) z P = absurd (omega arith)
 
-less-one : {n k : ℕ} → n ≡ k + 1 → n - 1 ≡ k
-less-one e = omega arith
+    in-turn : Turns table i state tally turns → turns ≢ 0 → Live 4 (Times (turns - 1)) table i part words rooms tally × (own-flags part ≡ 0)
+    in-turn (inl (ph, is)) some = repeat-asks (unbegun-here ph is) h some
+    in-turn (inr (ph, is)) some = counts-asks (w, no-3) h (λ e. ph (phase-there ∙ e)) (count-is is)
 
-some-turns : {n : ℕ} (k : ℕ) → n ≡ k + 1 → n ≢ 0
-some-turns k e z = omega arith
+    turn-ran : Turns table i state tally turns → turns ≢ 0
+        → {state′ words′ : List ℕ} {rooms′ : Rooms} {tally′ : List ℕ} {α : Flag}
+        → Runs 4 (Times (turns - 1)) table i part words rooms tally state′ words′ rooms′ tally′ α
+        → (P : Place)
+        → P .node ≡ i
+        → Ran P t words rooms tally state′ words′ rooms′ tally′ α
+    turn-ran (inl (ph, is)) some run P at = repeat-ran (unbegun-here ph is) h some run P at
+    turn-ran (inr (ph, is)) some run P at = run t (counts (w, no-3) h (λ e. ph (phase-there ∙ e)) (count-is is)) (unseen h 4) P at
 
-of-one : {r : ℕ} → Repeating r → (t : Term) → OfKind r t → Repeating (kind (prog t))
-of-one is-one t w = subst Repeating (sym w) is-one
+-- in the words of the needs: one not begun, or begun
+module _ {table : List ℕ} {i : ℕ} {state m : List ℕ} {rooms : Rooms} (on : getD state (4 * i) 0 ≢ 3) {turns : ℕ}
+    (is : Turns table i state (tallyOf m) turns) where
+  pub repeat-none : turns ≡ 0 → HasRun 0 Repetition (lent table state m rooms) i (lent table state m rooms) 2
+  repeat-none z before part behind o =
+      record {
+        part′ = part;
+        around = o .around;
+        kept = kept-same m;
+        below = lit< tt;
+        runs = λ t w h P at. none-ran on (o .around) w h is z P;
+      }
 
--- the repetition, of kind r, that the code finds, by its phase: not begun, when it runs `times` times, or begun
-module _ {r : ℕ} (is-one : Repeating r) {table : List ℕ} {i : ℕ} {state : List ℕ} (on : getD state (4 * i) 0 ≢ 3) {m : List ℕ} {rooms : Rooms} {times : ℕ}
-    (begins : (part : List ℕ) (t : Term) → Kind r t → Ready 0 table i part (wordsOf m) rooms (tallyOf m) t → own-phase part ≡ 0
-    → Unbegun (valuesIn (tallyOf m)) times t) where
-  module _ {before part behind : List ℕ} (o : Stands 0 (OfKind r) (lent table state m rooms) i before part behind) {turns : ℕ}
-      (is : turns ≡ turnsBy times i state) where
-    unbegun-here : {t : Term} → OfKind r t → Ready 0 table i part (wordsOf m) rooms (tallyOf m) t → getD state (4 * i) 0 ≡ 0
-        → Unbegun (valuesIn (tallyOf m)) turns t
-    unbegun-here {t} w h ph =
-        subst (λ n. Unbegun (valuesIn (tallyOf m)) n t) (sym (is ∙ fresh-turns on (o .around) h times ph))
-        (begins part t (w, no-3 on (o .around) h) h (sym (phase-there on (o .around) h) ∙ ph))
+  module _ (some : turns ≢ 0) where
+    turn-stands : {before part behind : List ℕ} → Stands 0 Repetition (lent table state m rooms) i before part behind
+        → Stands 4 (Times (turns - 1)) (lent table state m rooms) i before part behind
+    turn-stands o = let (t, w, h) = o .live in stands-as o (in-turn on (o .around) w h is some .0)
 
-    none-went : turns ≡ 0 → Went 0 (OfKind r) (lent table state m rooms) i before part behind (lent table state m rooms) 2
-    none-went z =
-        record {
-          part′ = part;
-          around = o .around;
-          kept = kept-same m;
-          below = lit< tt;
-          runs = λ t w h P at.
-              by-zero (getD state (4 * i) 0)
-              (λ ph. repeat-ends (unbegun-here w h ph) h z P)
-              (λ ph. absurd (some-turns _ (is ∙ begun-turns on (o .around) h times ph) z));
-        }
+    pub repeat-turn : CanRun 0 Repetition (lent table state m rooms) i
+        → CanRun 4 (Times (turns - 1)) (lent table state m rooms) i × (getD state (4 * i + 1) 0 ≡ 0)
+    repeat-turn (before, part, behind, o) =
+        let (t, w, h) = o .live in
+        ((before, part, behind, turn-stands o), byte-there on (o .around) w h 1 (lit< tt) ∙ in-turn on (o .around) w h is some .1)
 
-    module _ (some : turns ≢ 0) where
-      in-turn : Live 4 (Times (turns - 1)) table i part (wordsOf m) rooms (tallyOf m) × (own-flags part ≡ 0)
-      in-turn =
-          let (t, w, h) = o .live in
-          by-zero (getD state (4 * i) 0)
-          (λ ph. repeat-asks (unbegun-here w h ph) h some refl .1)
-          (λ ph.
-          counts-asks (of-one is-one t w, no-3 on (o .around) h) h (λ e. ph (phase-there on (o .around) h ∙ e))
-          (less-one (is ∙ begun-turns on (o .around) h times ph)) refl .1)
+    pub repeat-by : {L′ : Lent} {f : ℕ} → HasRun 4 (Times (turns - 1)) (lent table state m rooms) i L′ f
+        → HasRun 0 Repetition (lent table state m rooms) i L′ f
+    repeat-by run before part behind o =
+        let g = run before part behind (turn-stands o) in
+        went-as (kept-same m) g (λ t w h P at. turn-ran on (o .around) w h is some (g .runs) P at)
 
-      turn-stands : Stands 4 (Times (turns - 1)) (lent table state m rooms) i before part behind
-      turn-stands = record { around = o .around; numbers = o .numbers; live = in-turn .0 }
+-- what stands there is a repetition, by its kind as it was read
+repeats : {table : List ℕ} {i n : ℕ} → n ≡ kindAt table i → Repeating n
+    → {part words : List ℕ} {rooms : Rooms} {tally : List ℕ} {t : Term} → Ready 0 table i part words rooms tally t
+    → Repetition t
+repeats read is h = subst Repeating (read ∙ kind-of (h .placed)) is
 
-      turn-no-flags : getD state (4 * i + 1) 0 ≡ 0
-      turn-no-flags = let (t, w, h) = o .live in byte-there on (o .around) h 1 (lit< tt) ∙ in-turn .1
+module _ {U : Term → Type 0} {table : List ℕ} {i : ℕ} {state m : List ℕ} {rooms : Rooms} {n : ℕ} (read : n ≡ kindAt table i) (is : Repeating n) where
+  pub to-repetition : CanRun 0 U (lent table state m rooms) i → CanRun 0 Repetition (lent table state m rooms) i
+  to-repetition o = can-narrow (λ b p q a t h. repeats read is h) o
 
-      turn-went : {L′ : Lent} {f : ℕ} → HasRun 4 (Times (turns - 1)) (lent table state m rooms) i L′ f
-          → Went 0 (OfKind r) (lent table state m rooms) i before part behind L′ f
-      turn-went run =
-          let g = run before part behind turn-stands in
-          record {
-            part′ = g .part′;
-            around = g .around;
-            kept = g .kept;
-            below = g .below;
-            runs = λ t w h P at.
-                by-zero (getD state (4 * i) 0)
-                (λ ph. repeat-ran (unbegun-here w h ph) h some (g .runs) P at)
-                (λ ph.
-                g .runs t
-                (counts (of-one is-one t w, no-3 on (o .around) h) h (λ e. ph (phase-there on (o .around) h ∙ e))
-                (less-one (is ∙ begun-turns on (o .around) h times ph)))
-                (unseen h 4) P at);
-          }
+  pub by-repetition : {L′ : Lent} {r : ℕ} → HasRun 0 Repetition (lent table state m rooms) i L′ r → HasRun 0 U (lent table state m rooms) i L′ r
+  by-repetition run = widen (λ b p q a t h. repeats read is h) run
 
--- the turns that the code reads
-pub turns-by : (i : ℕ) (state : List ℕ) {a b r : ℕ} → a ≡ b
-    → r ≡ cond (eqb (getD state (4 * i) 0) 0) a (getD state (4 * i + 2) 0 * 256 + getD state (4 * i + 2 + 1) 0 + 1)
-    → r ≡ turnsBy b i state
-turns-by i state names e = let n : 4 * i + 2 + 1 ≡ 4 * i + 3 = omega arith in e ∙ rw (names, n)
-
-pub turns-are : (table : List ℕ) (i : ℕ) (state : List ℕ) (a : ℕ) {r : ℕ} → a ≡ argumentAt table i
-    → r ≡ cond (eqb (getD state (4 * i) 0) 0) a (getD state (4 * i + 2) 0 * 256 + getD state (4 * i + 2 + 1) 0 + 1)
-    → r ≡ turnsAt table i state
-turns-are table i state a names e = turns-by i state names e
-
-pub turns-asked : (table : List ℕ) (i : ℕ) (state m : List ℕ) {a b r : ℕ} → a ≡ argumentAt table i
-    → b ≡ min (capIn a) (valuesIn (tallyOf m) (valueIn a))
-    → r ≡ cond (eqb (getD state (4 * i) 0) 0) b (getD state (4 * i + 2) 0 * 256 + getD state (4 * i + 2 + 1) 0 + 1)
-    → r ≡ turnsBy (timesAsked table i (tallyOf m)) i state
-turns-asked table i state m argument times e =
-    turns-by i state (times ∙ ap (λ a. min (capIn a) (valuesIn (tallyOf m) (valueIn a))) argument) e
-
--- in the words of the needs: a Repeat, a RepeatExt
-module _ {table : List ℕ} {i : ℕ} {state m : List ℕ} {rooms : Rooms} (on : getD state (4 * i) 0 ≢ 3) {turns : ℕ} where
-  module _ (is : turns ≡ turnsAt table i state) where
-    pub repeat-none : turns ≡ 0 → HasRun 0 (OfKind repeat-kind) (lent table state m rooms) i (lent table state m rooms) 2
-    repeat-none z before part behind o = none-went (inl refl) on (λ p t w h z. repeat-begins w h z) o is z
-
-    module _ (some : turns ≢ 0) where
-      pub repeat-turn : CanRun 0 (OfKind repeat-kind) (lent table state m rooms) i
-          → CanRun 4 (Times (turns - 1)) (lent table state m rooms) i × (getD state (4 * i + 1) 0 ≡ 0)
-      repeat-turn (before, part, behind, o) =
-          ((before, part, behind, turn-stands (inl refl) on (λ p t w h z. repeat-begins w h z) o is some), turn-no-flags (inl refl) on (λ p t w h z. repeat-begins w h z) o is some)
-
-      pub repeat-by : {L′ : Lent} {r : ℕ} → HasRun 4 (Times (turns - 1)) (lent table state m rooms) i L′ r
-          → HasRun 0 (OfKind repeat-kind) (lent table state m rooms) i L′ r
-      repeat-by run before part behind o = turn-went (inl refl) on (λ p t w h z. repeat-begins w h z) o is some run
-
-  module _ (is : turns ≡ turnsBy (timesAsked table i (tallyOf m)) i state) where
-    pub ext-none : turns ≡ 0 → HasRun 0 (OfKind repeat-ext-kind) (lent table state m rooms) i (lent table state m rooms) 2
-    ext-none z before part behind o = none-went (inr refl) on (λ p t w h z. ext-begins w h z) o is z
-
-    module _ (some : turns ≢ 0) where
-      pub ext-turn : CanRun 0 (OfKind repeat-ext-kind) (lent table state m rooms) i
-          → CanRun 4 (Times (turns - 1)) (lent table state m rooms) i × (getD state (4 * i + 1) 0 ≡ 0)
-      ext-turn (before, part, behind, o) =
-          ((before, part, behind, turn-stands (inr refl) on (λ p t w h z. ext-begins w h z) o is some), turn-no-flags (inr refl) on (λ p t w h z. ext-begins w h z) o is some)
-
-      pub ext-by : {L′ : Lent} {r : ℕ} → HasRun 4 (Times (turns - 1)) (lent table state m rooms) i L′ r
-          → HasRun 0 (OfKind repeat-ext-kind) (lent table state m rooms) i L′ r
-      ext-by run before part behind o = turn-went (inr refl) on (λ p t w h z. ext-begins w h z) o is some run
+-- what no arm of a choice by kinds takes, both kinds of a repetition having one arm: each kind for itself
+pub each-told : {n : ℕ}
+    → ((((((none-of (5 ∷ 2 ∷ 1 ∷ 0 ∷ []) n × (Repeating n → ⊥)) × (n ≢ 7)) × (n ≢ 9)) × (n ≢ 10)) × (n ≢ 11)) × (n ≢ 13)) × (n ≢ 14)
+    → none-of (15 ∷ 14 ∷ 13 ∷ 11 ∷ 10 ∷ 9 ∷ 7 ∷ 6 ∷ 5 ∷ 2 ∷ 1 ∷ 0 ∷ []) n
+each-told (((((((rest, none), n7), n9), n10), n11), n13), n14) = ((((((((rest, λ e. none (inl e)), n7), n9), n10), n11), n13), n14), λ e. none (inr e))
 
 -- the row of numbers of what can run
 pub numbers-long : {W : Term → Type 0} {table : List ℕ} {i : ℕ} {state m : List ℕ} {rooms : Rooms} → CanRun 0 W (lent table state m rooms) i

@@ -29,7 +29,7 @@ use Rattle.runner.proofs.Until.{Until0, until0-by, body-asks, until-wai
 use Rattle.runner.proofs.Until.{Star, star-by, star-has, star-waits, star-fails, star-reads, star-fits}
 use Rattle.runner.proofs.Until.{handler-live, handler-goes, handler-later, handler-writes}
 use Rattle.runner.proofs.Falling.{smaller-by}
-use Rattle.runner.proofs.GoesOn.{went-as, to-phase, by-phase}
+use Rattle.runner.proofs.GoesOn.{GoesOnAs, went-as, goes-by-phase}
 
 -- in its body: that runs
 module _ {table : List ℕ} {i : ℕ} {state : List ℕ} (on : getD state (4 * i) 0 ≢ 3) (no-star : getD state (4 * i) 0 ≢ 1)
@@ -103,21 +103,16 @@ module _ {table : List ℕ} {i : ℕ} {state : List ℕ} (on : getD state (4 * i
       pub until-stays : f ≢ 1 → HasRun 0 (OfKind until-kind) (lent table state m rooms) i (lent table state₁ m₁ rooms₁) f
       until-stays a before part behind o = until-went o run a
 
-      pub until-starred : f ≡ 1 → CanRun 0 (OfKind until-kind) (lent table state m rooms) i → CanRun 1 Starred (lent table state₁ m₁ rooms₁) i
-      until-starred e (before, part, behind, o) = (_, _, _, now-star o run e)
-
-      pub until-goes-on : f ≡ 1 → {L′ : Lent} {r : ℕ} → HasRun 1 Starred (lent table state₁ m₁ rooms₁) i L′ r
-          → HasRun 0 (OfKind until-kind) (lent table state m rooms) i L′ r
-      until-goes-on e then before part behind o = star-went o run e then
+      pub until-starred : f ≡ 1 → CanRun 0 (OfKind until-kind) (lent table state m rooms) i
+          → GoesOnAs Starred (OfKind until-kind) (lent table state m rooms) i (lent table state₁ m₁ rooms₁)
+      until-starred e (before, part, behind, o) =
+          record { can = (_, _, _, now-star o run e); has = λ then before part behind o. star-went o run e then }
 
 -- one that is Until* already
-module _ {table : List ℕ} {i : ℕ} {state m : List ℕ} {rooms : Rooms} (starred : getD state (4 * i) 0 ≡ 1) where
-  pub to-star : CanRun 0 (OfKind until-kind) (lent table state m rooms) i → CanRun 1 Starred (lent table state m rooms) i
-  to-star o = to-phase (λ t k p. (k, p)) starred o
-
-  pub by-star : {L′ : Lent} {r : ℕ} → HasRun 1 Starred (lent table state m rooms) i L′ r
-      → HasRun 0 (OfKind until-kind) (lent table state m rooms) i L′ r
-  by-star run = by-phase (λ t k p. (k, p)) starred run
+pub starred-already : {table : List ℕ} {i : ℕ} {state m : List ℕ} {rooms : Rooms} → getD state (4 * i) 0 ≡ 1
+    → CanRun 0 (OfKind until-kind) (lent table state m rooms) i
+    → GoesOnAs Starred (OfKind until-kind) (lent table state m rooms) i (lent table state m rooms)
+starred-already starred o = goes-by-phase (λ t k p. (k, p)) starred o
 
 -- the whole state with the body of an Until at node i cleared
 abbrev pub Cleared : List ℕ → ℕ → List ℕ → List ℕ → Type 0

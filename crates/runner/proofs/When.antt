@@ -2,7 +2,7 @@
 use Prim.Native.Nat.{ℕ, _+_, _-_, _*_, _<_}
 use mathlib.Core.Bool.{true, false}
 use mathlib.Core.Path.{_≡_, refl, ap, sym, _∙_}
-use mathlib.Core.Logic.{_≢_, inl, inr}
+use mathlib.Core.Logic.{inl, inr}
 use mathlib.Core.List.{List, [], _∷_, _++_}
 use native.Mathlib.Omega.{arith}
 use lib.Dec.{ltb}
@@ -27,14 +27,13 @@ use Rattle.table.specs.Records.{sizeAt}
 use Rattle.table.specs.Spells.{Spells}
 use Rattle.state.specs.Kinds.{when-kind, if-kind}
 use Rattle.state.specs.StateBytes.{in-phase, zeros, below, stateBytes}
-use Rattle.state.proofs.Parts.{fresh-zeros, own-phase}
-use Rattle.state.proofs.Shape.{Shape, is-done, is-when0, is-when1, is-when2, is-if1, shape-by}
+use Rattle.state.proofs.Parts.{fresh-zeros}
+use Rattle.state.proofs.Shape.{Shape, is-when0, is-when1, is-if1, shape-by}
 use Rattle.state.proofs.Frames.{Frame, when-first, if-first}
-use Rattle.steps.specs.Running.{Rooms, Ready, Ran, Live, Runs, Any, Kind, phaseAfter, envOf, end-declared}
+use Rattle.steps.specs.Running.{Rooms, Ready, Ran, Live, Runs, Any, KindPhase, phaseAfter, envOf, end-declared}
 use Rattle.steps.specs.Kinds.{InSecond, InThen}
 use Rattle.steps.specs.Running.{HasTest, TestRead}
 use Rattle.steps.proofs.Children.{at-node, falling, first-cut, asks, child-ran, next-index, first-at}
-use Rattle.steps.proofs.Children.{phase-is}
 use Rattle.steps.proofs.Done.{same-lengths, ready-as, room-for, ran-alone, ran-by, ran-long, back-in, phase-left, ran-phase}
 use Rattle.steps.proofs.LoadedNode.{when-test}
 
@@ -95,18 +94,11 @@ module _ {table : List ℕ} {i : ℕ} {state words : List ℕ} {rooms : Rooms} {
 pub data When0 : Term → Type 0 where
   testing : (c : Config) (p q : Program) → When0 (when0 c p q)
 
-when0-of : {t : Term} {ph : ℕ} → Shape t when-kind ph → ph ≢ 3 → ph ≢ 1 → ph ≢ 2 → When0 t
-when0-of (is-when0 c p q) a b d = testing c p q
-when0-of (is-when1 c x q) a b d = absurd (b refl)
-when0-of (is-when2 c p x) a b d = absurd (d refl)
-when0-of (is-done p e) a b d = absurd (a refl)
+when0-of : {t : Term} → Shape t when-kind 0 → When0 t
+when0-of (is-when0 c p q) = testing c p q
 
-pub when0-by : {table : List ℕ} {i : ℕ} {state words : List ℕ} {rooms : Rooms} {tally : List ℕ} {t : Term} → Kind when-kind t
-    → Ready 0 table i state words rooms tally t
-    → own-phase state ≢ 1
-    → own-phase state ≢ 2
-    → When0 t
-when0-by {t = t} w h a b = when0-of (shape-by t (w .0) refl) (w .1) (λ e. a (phase-is h ∙ e)) (λ e. b (phase-is h ∙ e))
+pub when0-by : (t : Term) → KindPhase when-kind 0 t → When0 t
+when0-by t (e, p) = when0-of (shape-by t e p)
 
 -- a branch begins: the test is in front of what the branch does
 then-begins : {value : Values} {P : Place} {c : Config} {p q : Program} {E : Env} {r : Result}

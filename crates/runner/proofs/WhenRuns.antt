@@ -1,15 +1,18 @@
--- A When that tests, rules 17 to 21, and one that has gone over into its then branch, over all that is lent.
+-- A When that tests, rules 17 to 21, and a When or an If in its first branch, over all that is lent.
 use Prim.Native.Nat.{ℕ, _+_, _-_, _*_, _<_}
-use mathlib.Core.Path.{_≡_, refl, _∙_}
-use mathlib.Core.Logic.{_≢_, inl}
+use mathlib.Core.Bool.{Bool, true, false, cond}
+use mathlib.Core.Path.{_≡_, refl, sym, _∙_}
+use mathlib.Core.Logic.{_≢_}
 use mathlib.Core.List.{List, _++_}
 use native.Mathlib.Omega.{arith}
-use lib.Dec.{lit<}
+use lib.Dec.{lit<, eqb}
 use lib.ListN.{length, getD, take, drop, set}
+use borrow.Author.Tests.{eqb-true, eqb-false}
 use Rattle.junior.specs.declared.Verdict.{Verdict}
 use Rattle.junior.specs.declared.Verdict.the-variants.{Sat, Unsat, Unknown}
 use Rattle.junior.specs.Term.{Term}
 use Rattle.table.specs.Records.{sizeAt}
+use Rattle.table.specs.Inside.Ranks.{unranked}
 use Rattle.state.specs.Kinds.{when-kind}
 use Rattle.state.proofs.Parts.{first-of, with-first}
 use Rattle.steps.specs.Running.{Rooms, Ready, Any, TestRead, phaseAfter}
@@ -18,16 +21,18 @@ use Rattle.steps.proofs.Tally.{not-ended, is-ended}
 use Rattle.steps.specs.Numbers.{ended-at, wordsOf, tallyOf}
 use Rattle.steps.specs.Kinds.{OfKind, InThen, InSecond}
 use Rattle.steps.specs.Flags.{flagOf}
-use Rattle.steps.specs.Tests.{CanTest}
+use Rattle.steps.specs.Tests.{CanTest, TestRanked}
 use Rattle.steps.specs.Lent.{Lent, lent, Around, Stands, Went, CanRun, HasRun}
-use Rattle.steps.proofs.Context.{outer, phase-at, phase-in, put-phase}
+use Rattle.steps.proofs.Context.{outer, phase-in, put-phase}
 use Rattle.steps.proofs.Row.{kept-same}
 use Rattle.steps.proofs.Dispatch.{phase-is}
+use Rattle.steps.proofs.Awaits.{ranked-0, ranked-2}
 use Rattle.steps.proofs.ChildContext.{child-stands}
 use Rattle.runner.proofs.When.{Then, then-by, then-asks, then-writes, then-ran}
 use Rattle.runner.proofs.When.{When0, when0-by, when-has, when-waits, then-live, then-goes, then-later, else-live, else-goes, else-later}
 use Rattle.runner.proofs.Falling.{smaller-by}
-use Rattle.runner.proofs.GoesOn.{stands-as, went-as, to-phase, by-phase}
+use Rattle.runner.proofs.GoesOn.{stands-as, went-as}
+use Rattle.runner.proofs.Branches.{Branches}
 
 -- in its first branch: that runs
 module _ {table : List ℕ} {i : ℕ} {state m : List ℕ} {rooms : Rooms} {before part behind : List ℕ}
@@ -89,23 +94,18 @@ module _ {table : List ℕ} {i : ℕ} {state m : List ℕ} {rooms : Rooms} where
         → HasRun 1 InThen (lent table state m rooms) i (lent table (set state′ (4 * i) ph) m′ rooms′) f
     then-done e before part behind o = then-went o run e
 
--- a When that has gone over into it
-module _ {table : List ℕ} {i : ℕ} {state m : List ℕ} {rooms : Rooms} (gone-over : getD state (4 * i) 0 ≡ 1) where
-  pub to-then : CanRun 0 (OfKind when-kind) (lent table state m rooms) i → CanRun 1 InThen (lent table state m rooms) i
-  to-then o = to-phase (λ t k p. (inl k, p)) gone-over o
+-- what its test is read as, by its rank
+unsat-by : (rank : ℕ) {second : Bool} → second ≡ eqb rank 0 → second ≡ true → unranked rank ≡ Unsat
+unsat-by rank says e = ranked-0 (eqb-true _ _ (sym says ∙ e))
 
-  pub by-then : {L′ : Lent} {r : ℕ} → HasRun 1 InThen (lent table state m rooms) i L′ r
-      → HasRun 0 (OfKind when-kind) (lent table state m rooms) i L′ r
-  by-then run = by-phase (λ t k p. (inl k, p)) gone-over run
+sat-by : (rank : ℕ) → rank ≢ 1 → {second : Bool} → second ≡ eqb rank 0 → second ≡ false → unranked rank ≡ Sat
+sat-by rank known says e = ranked-2 known (eqb-false _ _ (sym says ∙ e))
 
--- one that tests
-module _ {table : List ℕ} {i : ℕ} {state : List ℕ} (on : getD state (4 * i) 0 ≢ 3) (no-then : getD state (4 * i) 0 ≢ 1)
-    (no-else : getD state (4 * i) 0 ≢ 2) where
+-- a When that tests
+module _ {table : List ℕ} {i : ℕ} {state : List ℕ} (untested : getD state (4 * i) 0 ≡ 0) where
   testing : {before part behind : List ℕ} → Around state i before part behind → {t : Term} → OfKind when-kind t
       → {words : List ℕ} {rooms : Rooms} {tally : List ℕ} → Ready 0 table i part words rooms tally t → When0 t
-  testing a w h =
-      let at = phase-at a (own-in h 0 (lit< tt)) in
-      when0-by (w, λ e. on (phase-is a h ∙ e)) h (λ e. no-then (at ∙ e)) (λ e. no-else (at ∙ e))
+  testing a {t} w h = when0-by t (w, sym (phase-is a h) ∙ untested)
 
   module _ {m : List ℕ} {rooms : Rooms} where
     then-stands : {before part behind : List ℕ} → Stands 0 (OfKind when-kind) (lent table state m rooms) i before part behind
@@ -120,10 +120,10 @@ module _ {table : List ℕ} {i : ℕ} {state : List ℕ} (on : getD state (4 * i
     when-tests (before, part, behind, o) =
         let (t, w, h) = o .live in record { has = when-has (testing (o .around) w h) h; row = o .numbers }
 
-    pub now-then : CanRun 0 (OfKind when-kind) (lent table state m rooms) i → CanRun 1 InThen (lent table state m rooms) i
+    now-then : CanRun 0 (OfKind when-kind) (lent table state m rooms) i → CanRun 1 InThen (lent table state m rooms) i
     now-then (before, part, behind, o) = (_, _, _, then-stands o)
 
-    pub now-else : CanRun 0 (OfKind when-kind) (lent table state m rooms) i → CanRun 1 InSecond (lent table state m rooms) i
+    now-else : CanRun 0 (OfKind when-kind) (lent table state m rooms) i → CanRun 1 InSecond (lent table state m rooms) i
     now-else (before, part, behind, o) = (_, _, _, else-stands o)
 
     module _ {v : Verdict} (reads : TestRead table i (wordsOf m) (tallyOf m) v) where
@@ -139,13 +139,13 @@ module _ {table : List ℕ} {i : ℕ} {state : List ℕ} (on : getD state (4 * i
 
       -- a branch begins, or waits for the next instant
       module _ (is : v ≡ Sat) where
-        pub then-begins : getD m ended-at 0 ≡ 0 → {L′ : Lent} {r : ℕ} → HasRun 1 InThen (lent table state m rooms) i L′ r
+        then-begins : getD m ended-at 0 ≡ 0 → {L′ : Lent} {r : ℕ} → HasRun 1 InThen (lent table state m rooms) i L′ r
             → HasRun 0 (OfKind when-kind) (lent table state m rooms) i L′ r
         then-begins z run before part behind o =
             let g = run before part behind (then-stands o) in
             went-as (kept-same m) g (λ t w h. then-goes reads (testing (o .around) w h) h is (not-ended z) (g .runs))
 
-        pub then-next : getD m ended-at 0 ≢ 0
+        then-next : getD m ended-at 0 ≢ 0
             → HasRun 0 (OfKind when-kind) (lent table state m rooms) i (lent table (set state (4 * i) 1) m rooms) 1
         then-next z before part behind o =
             record {
@@ -157,13 +157,13 @@ module _ {table : List ℕ} {i : ℕ} {state : List ℕ} (on : getD state (4 * i
             }
 
       module _ (is : v ≡ Unsat) where
-        pub else-begins : getD m ended-at 0 ≡ 0 → {L′ : Lent} {r : ℕ} → HasRun 1 InSecond (lent table state m rooms) i L′ r
+        else-begins : getD m ended-at 0 ≡ 0 → {L′ : Lent} {r : ℕ} → HasRun 1 InSecond (lent table state m rooms) i L′ r
             → HasRun 0 (OfKind when-kind) (lent table state m rooms) i L′ r
         else-begins z run before part behind o =
             let g = run before part behind (else-stands o) in
             went-as (kept-same m) g (λ t w h. else-goes reads (testing (o .around) w h) h is (not-ended z) (g .runs))
 
-        pub else-next : getD m ended-at 0 ≢ 0
+        else-next : getD m ended-at 0 ≢ 0
             → HasRun 0 (OfKind when-kind) (lent table state m rooms) i (lent table (set state (4 * i) 2) m rooms) 1
         else-next z before part behind o =
             record {
@@ -173,3 +173,22 @@ module _ {table : List ℕ} {i : ℕ} {state : List ℕ} (on : getD state (4 * i
               below = lit< tt;
               runs = λ t w h. else-later reads (testing (o .around) w h) h is (is-ended z);
             }
+
+    -- by the rank of its test
+    module _ {rank : ℕ} (reads : TestRanked table i m rank) (known : rank ≢ 1) {second : Bool} (says : second ≡ eqb rank 0) where
+      pub when-chooses : getD m ended-at 0 ≡ 0 → CanRun 0 (OfKind when-kind) (lent table state m rooms) i
+          → Branches (OfKind when-kind) (lent table state m rooms) i second
+      when-chooses z o =
+          record {
+            to-second = λ e. record { can = now-else o; has = λ run. else-begins reads (unsat-by rank says e) z run };
+            to-first = λ e. record { can = now-then o; has = λ run. then-begins reads (sat-by rank known says e) z run };
+          }
+
+      waits : getD m ended-at 0 ≢ 0 → (b : Bool) → second ≡ b
+          → HasRun 0 (OfKind when-kind) (lent table state m rooms) i (lent table (set state (4 * i) (cond b 2 1)) m rooms) 1
+      waits z true e = else-next reads (unsat-by rank says e) z
+      waits z false e = then-next reads (sat-by rank known says e) z
+
+      pub when-stops : getD m ended-at 0 ≢ 0 → {ph : ℕ} → ph ≡ cond second 2 1
+          → HasRun 0 (OfKind when-kind) (lent table state m rooms) i (lent table (set state (4 * i) ph) m rooms) 1
+      when-stops z is = rw is (waits z second refl)

@@ -5,20 +5,20 @@ ghost use mathlib.Core.Path.{_≡_};
 ghost use Prim.Native.Nat.{_+_, _*_};
 ghost use lib.ListN.{getD};
 ghost use Rattle.table.specs.Records.{kindAt};
-ghost use Rattle.state.specs.Kinds.{seq-kind, loop-kind, repeat-kind, when-kind, until-kind, control-kind, local-kind};
-ghost use Rattle.state.specs.Kinds.{freezable-kind, if-kind, repeat-ext-kind};
+ghost use Rattle.state.specs.Kinds.{seq-kind, loop-kind, when-kind, until-kind, control-kind, local-kind, freezable-kind, if-kind};
 ghost use Rattle.steps.specs.Running.{Any, Times};
-ghost use Rattle.steps.specs.Kinds.{all-seen, phase-unseen, own-unseen, OfKind, BothSuspended, NotBoth};
+ghost use Rattle.steps.specs.Kinds.{all-seen, phase-unseen, own-unseen, OfKind, Repetition, BothSuspended, NotBoth};
 ghost use Rattle.steps.specs.Kinds.{Others, InSecond, InThen, Beginning, Starred};
 ghost use Rattle.steps.specs.Lent.{held, CanRun, HasRun, Named};
-use events::marked;
 use steps::flags::STOP;
 use steps::flags::SUSP;
 use steps::flags::TERM;
 use steps::flags::both_ran;
 use steps::flags::first_ran;
+use steps::flags::heard_above;
 use steps::flags::par_end;
 use steps::flags::phase_after;
+use steps::flags::second_ran;
 use steps::flags::sign_after;
 use steps::kinds;
 use steps::leaves::UNKNOWN;
@@ -34,9 +34,11 @@ use steps::leaves::test_rank;
 use steps::numbers::ENDED;
 use steps::numbers::NUMBERS;
 use steps::numbers::exchange_event;
-use steps::numbers::times_asked;
+use steps::numbers::has_event;
+use steps::numbers::times_at;
 use steps::numbers::value_of;
 use steps::parking::run_pending;
+use steps::parking::stays_pending;
 use steps::phases::BEGUN;
 use steps::phases::COUNT;
 use steps::phases::FLAGS;
@@ -47,12 +49,13 @@ use steps::phases::STARRED;
 use steps::phases::THEN;
 use steps::phases::begin_turn;
 use steps::phases::both_suspended;
+use steps::phases::chosen;
 use steps::phases::clear_part;
 use steps::phases::end_turns;
 use steps::phases::fresh_par;
 use steps::phases::half_par;
 use steps::phases::par_or_seq;
-use steps::phases::turns_of;
+use steps::phases::turns_left;
 use table::records::argument_at;
 use table::records::kind_at;
 use table::records::second_at;
@@ -114,19 +117,24 @@ fn run_other(
         kinds::STOP => run_stop(table, i, state, numbers, atoms),
         kinds::ATOM => run_atom(table, i, state, numbers, atoms),
         kinds::LOOP => run_loop(table, i, state, numbers, atoms, store),
-        kinds::REPEAT => run_repeat(table, i, state, numbers, atoms, store),
+        kinds::REPEAT | kinds::REPEAT_EXT => run_repeat(table, i, state, numbers, atoms, store),
         kinds::GENERATE => run_generate(table, i, state, numbers, atoms),
         kinds::WHEN => run_when(table, i, state, numbers, atoms, store),
         kinds::UNTIL => run_until(table, i, state, numbers, atoms, store),
         kinds::CONTROL => run_control(table, i, state, numbers, atoms, store),
-        kinds::FREEZABLE => run_freezable(table, i, state, numbers, atoms, store),
+        kinds::FREEZABLE => {
+            if stays_pending(*table, i, state[4 * i], numbers) {
+                return SUSP;
+            }
+            run_freezable(table, i, state, numbers, atoms, store)
+        }
         kinds::IF => run_if(table, i, state, numbers, atoms, store),
-        kinds::REPEAT_EXT => run_repeat_ext(table, i, state, numbers, atoms, store),
         _ => run_local(table, i, state, numbers, atoms, store),
     }
 }
 
-// Rule 8: both branches run.
+// Rule 8: both branches run. Where the first is suspended, so is the Par, whatever its second answers: a second that is such a Par is gone on with
+// here and not by a call. `above` is the Par whose second branch `at` is, its first being suspended; `at` itself at the first turn.
 fn run_par(
     table: &&[u8],
     i: usize,
@@ -142,18 +150,32 @@ fn run_par(
     ensures { λ r.
         ⌜ Named (now (state .entry)) (now (state .exit)) (now (atoms .entry)) (now (atoms .exit)) (now (store .entry)) (now (store .exit)) ⌝ }
 {
-    let f = run_child(table, i + 1, state, numbers, atoms, store);
-    let second = second_at(*table, i);
-    if fresh_par(
-        kind_at(*table, second),
-        state[4 * second],
-        state[4 * second + FLAGS],
-    ) {
-        let g = run_par(table, second, state, numbers, atoms, store);
-        return both_ran(*state, 4 * i, 4 * second, f, g);
+    let mut above = i;
+    let mut at = i;
+    loop {
+        let f = run_child(table, at + 1, state, numbers, atoms, store);
+        let second = second_at(*table, at);
+        if fresh_par(
+            kind_at(*table, second),
+            state[4 * second],
+            state[4 * second + FLAGS],
+        ) {
+            if f == SUSP {
+                above = at;
+                at = second;
+                continue;
+            }
+            let g = run_par(table, second, state, numbers, atoms, store);
+            let r = both_ran(*state, 4 * at, 4 * second, f, g);
+            return heard_above(*state, 4 * above, 4 * at, r);
+        }
+        let g = run_child(table, second, state, numbers, atoms, store);
+        if f == SUSP {
+            return second_ran(*state, 4 * at, 4 * second, g);
+        }
+        let r = both_ran(*state, 4 * at, 4 * second, f, g);
+        return heard_above(*state, 4 * above, 4 * at, r);
     }
-    let g = run_child(table, second, state, numbers, atoms, store);
-    both_ran(*state, 4 * i, 4 * second, f, g)
 }
 
 // Rules 10 and 11: a branch flagged STOP or TERM is not run.
@@ -283,19 +305,15 @@ fn run_loop(
         state[4 * i] = 0;
         return TERM;
     }
-    if phase != BEGUN {
-        return begin_loop(table, i, state, numbers, atoms, store);
-    }
-    if kind_at(*table, i + 1) == kinds::LOOP {
-        let f = run_loop(table, i + 1, state, numbers, atoms, store);
+    if phase == BEGUN {
+        let f = if kind_at(*table, i + 1) == kinds::LOOP {
+            run_loop(table, i + 1, state, numbers, atoms, store)
+        } else {
+            run_child(table, i + 1, state, numbers, atoms, store)
+        };
         if f != TERM {
             return f;
         }
-        return begin_loop(table, i, state, numbers, atoms, store);
-    }
-    let f = run_child(table, i + 1, state, numbers, atoms, store);
-    if f != TERM {
-        return f;
     }
     begin_loop(table, i, state, numbers, atoms, store)
 }
@@ -321,7 +339,8 @@ fn begin_loop(
     f
 }
 
-// Rules 14 and 15 when it begins, 4 and 5 in the rest of a run of its body.
+// A Repeat or a RepeatExt: rules 14 and 15 when it begins, 4 and 5 in the rest of a run of its body. How often a RepeatExt runs is asked of the box when
+// it begins (001, "Extended Repeat"); from then on it is a Repeat.
 fn run_repeat(
     table: &&[u8],
     i: usize,
@@ -330,9 +349,9 @@ fn run_repeat(
     atoms: &mut &mut [u16],
     store: &mut &mut [u8],
 ) -> u8
-    requires { ⌜ CanRun all-seen (OfKind repeat-kind) (held table state numbers atoms store) i ⌝ }
+    requires { ⌜ CanRun all-seen Repetition (held table state numbers atoms store) i ⌝ }
     ensures { λ r.
-        ⌜ HasRun all-seen (OfKind repeat-kind) (held (table .entry) (state .entry) (numbers .entry) (atoms .entry) (store .entry)) i
+        ⌜ HasRun all-seen Repetition (held (table .entry) (state .entry) (numbers .entry) (atoms .entry) (store .entry)) i
         (held (table .exit) (state .exit) (numbers .exit) (atoms .exit) (store .exit)) r ⌝ }
     ensures { λ r.
         ⌜ Named (now (state .entry)) (now (state .exit)) (now (atoms .entry)) (now (atoms .exit)) (now (store .entry)) (now (store .exit)) ⌝ }
@@ -342,64 +361,17 @@ fn run_repeat(
         state[4 * i] = 0;
         return TERM;
     }
-    let turns = turns_of(
-        phase,
-        argument_at(*table, i),
-        state[4 * i + COUNT],
-        state[4 * i + COUNT + 1],
-    );
+    let turns = if phase == 0 {
+        times_at(*table, i, numbers)
+    } else {
+        turns_left(state[4 * i + COUNT], state[4 * i + COUNT + 1])
+    };
     if turns == 0 {
         return TERM;
     }
     let left = turns - 1;
     if kind_at(*table, i + 1) == kinds::REPEAT {
         let f = run_repeat(table, i + 1, state, numbers, atoms, store);
-        if f != TERM {
-            begin_turn(*state, 4 * i, left);
-            return f;
-        }
-        if left == 0 {
-            end_turns(*state, 4 * i);
-            return TERM;
-        }
-        return run_times(table, i, state, numbers, atoms, store, left - 1);
-    }
-    run_times(table, i, state, numbers, atoms, store, left)
-}
-
-// A RepeatExt: how often it runs is asked of the box when it begins (001, "Extended Repeat"); from then on it is a Repeat.
-fn run_repeat_ext(
-    table: &&[u8],
-    i: usize,
-    state: &mut &mut [u8],
-    numbers: &mut [u64; NUMBERS],
-    atoms: &mut &mut [u16],
-    store: &mut &mut [u8],
-) -> u8
-    requires { ⌜ CanRun all-seen (OfKind repeat-ext-kind) (held table state numbers atoms store) i ⌝ }
-    ensures { λ r.
-        ⌜ HasRun all-seen (OfKind repeat-ext-kind) (held (table .entry) (state .entry) (numbers .entry) (atoms .entry) (store .entry)) i
-        (held (table .exit) (state .exit) (numbers .exit) (atoms .exit) (store .exit)) r ⌝ }
-    ensures { λ r.
-        ⌜ Named (now (state .entry)) (now (state .exit)) (now (atoms .entry)) (now (atoms .exit)) (now (store .entry)) (now (store .exit)) ⌝ }
-{
-    let phase = state[4 * i];
-    if phase == GONE {
-        state[4 * i] = 0;
-        return TERM;
-    }
-    let turns = turns_of(
-        phase,
-        times_asked(numbers, argument_at(*table, i)),
-        state[4 * i + COUNT],
-        state[4 * i + COUNT + 1],
-    );
-    if turns == 0 {
-        return TERM;
-    }
-    let left = turns - 1;
-    if kind_at(*table, i + 1) == kinds::REPEAT_EXT {
-        let f = run_repeat_ext(table, i + 1, state, numbers, atoms, store);
         if f != TERM {
             begin_turn(*state, 4 * i, left);
             return f;
@@ -474,6 +446,9 @@ fn run_turn(
     if par_or_seq(kind) {
         return run_child(table, i, state, numbers, atoms, store);
     }
+    if kind == kinds::LOCAL {
+        return run_local(table, i, state, numbers, atoms, store);
+    }
     run_other(table, i, state, numbers, atoms, store)
 }
 
@@ -498,33 +473,27 @@ fn run_when(
         state[4 * i] = 0;
         return TERM;
     }
-    if phase == THEN {
-        if kind_at(*table, i + 1) == kinds::WHEN {
-            let f = run_when(table, i + 1, state, numbers, atoms, store);
-            state[4 * i] = phase_after(f, THEN);
-            return f;
+    let mut second = phase == SECOND;
+    if phase == 0 {
+        let rank = test_rank(table, i, numbers);
+        if rank == UNKNOWN {
+            return SUSP;
         }
-        return run_then(table, i, state, numbers, atoms, store);
+        second = rank == UNSAT;
+        if numbers[ENDED] != 0 {
+            state[4 * i] = chosen(second);
+            return STOP;
+        }
     }
-    if phase == SECOND {
+    if second {
         return run_second(table, i, state, numbers, atoms, store);
     }
-    let rank = test_rank(*table, i, numbers);
-    if rank == UNKNOWN {
-        return SUSP;
+    if kind_at(*table, i + 1) == kinds::WHEN {
+        let f = run_when(table, i + 1, state, numbers, atoms, store);
+        state[4 * i] = phase_after(f, THEN);
+        return f;
     }
-    if rank == UNSAT {
-        if numbers[ENDED] == 0 {
-            return run_second(table, i, state, numbers, atoms, store);
-        }
-        state[4 * i] = SECOND;
-        return STOP;
-    }
-    if numbers[ENDED] == 0 {
-        return run_then(table, i, state, numbers, atoms, store);
-    }
-    state[4 * i] = THEN;
-    STOP
+    run_then(table, i, state, numbers, atoms, store)
 }
 
 // 001, "Boolean Test": the branch is chosen when the If is reached, and runs at once.
@@ -548,19 +517,18 @@ fn run_if(
         state[4 * i] = 0;
         return TERM;
     }
-    if phase == THEN {
-        if kind_at(*table, i + 1) == kinds::IF {
-            let f = run_if(table, i + 1, state, numbers, atoms, store);
-            state[4 * i] = phase_after(f, THEN);
-            return f;
-        }
-        return run_then(table, i, state, numbers, atoms, store);
-    }
-    if phase == SECOND {
+    let second = if phase == 0 {
+        value_of(numbers, argument_at(*table, i)) == 0
+    } else {
+        phase == SECOND
+    };
+    if second {
         return run_second(table, i, state, numbers, atoms, store);
     }
-    if value_of(numbers, argument_at(*table, i)) == 0 {
-        return run_second(table, i, state, numbers, atoms, store);
+    if kind_at(*table, i + 1) == kinds::IF {
+        let f = run_if(table, i + 1, state, numbers, atoms, store);
+        state[4 * i] = phase_after(f, THEN);
+        return f;
     }
     run_then(table, i, state, numbers, atoms, store)
 }
@@ -607,22 +575,18 @@ fn run_until(
         state[4 * i] = 0;
         return TERM;
     }
-    if phase == STARRED {
-        return run_star(table, i, state, numbers, atoms, store);
-    }
     if phase == SECOND {
         return run_second(table, i, state, numbers, atoms, store);
     }
-    if kind_at(*table, i + 1) == kinds::UNTIL {
-        let f = run_until(table, i + 1, state, numbers, atoms, store);
+    if phase != STARRED {
+        let f = if kind_at(*table, i + 1) == kinds::UNTIL {
+            run_until(table, i + 1, state, numbers, atoms, store)
+        } else {
+            run_child(table, i + 1, state, numbers, atoms, store)
+        };
         if f != STOP {
             return f;
         }
-        return run_star(table, i, state, numbers, atoms, store);
-    }
-    let f = run_child(table, i + 1, state, numbers, atoms, store);
-    if f != STOP {
-        return f;
     }
     run_star(table, i, state, numbers, atoms, store)
 }
@@ -643,7 +607,7 @@ fn run_star(
     ensures { λ r.
         ⌜ Named (now (state .entry)) (now (state .exit)) (now (atoms .entry)) (now (atoms .exit)) (now (store .entry)) (now (store .exit)) ⌝ }
 {
-    let rank = test_rank(*table, i, numbers);
+    let rank = test_rank(table, i, numbers);
     if rank == UNKNOWN {
         state[4 * i] = STARRED;
         return SUSP;
@@ -680,7 +644,7 @@ fn run_control(
         state[4 * i] = 0;
         return TERM;
     }
-    if marked(numbers, argument_at(*table, i)) {
+    if has_event(numbers, argument_at(*table, i)) {
         if kind_at(*table, i + 1) == kinds::CONTROL {
             return run_control(table, i + 1, state, numbers, atoms, store);
         }

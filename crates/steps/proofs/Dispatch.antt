@@ -9,15 +9,17 @@ use lib.ListN.{length, getD}
 use borrow.Author.Tests.{leb-true}
 use Rattle.junior.specs.Term.{Term, prog}
 use Rattle.junior.specs.Program.{kind}
-use Rattle.table.specs.Records.{kindAt}
+use Rattle.events.specs.Members.{places}
+use Rattle.table.specs.Records.{kindAt, argumentAt}
 use Rattle.table.specs.Good.{known}
 use Rattle.table.proofs.Parts.{by-kind as its-kind}
 use Rattle.table.proofs.Loaded.{kind-of, own-node}
-use Rattle.state.specs.Kinds.{seq-kind, par-kind, await-kind, local-kind}
+use Rattle.state.specs.Kinds.{seq-kind, par-kind, await-kind, control-kind, local-kind, freezable-kind}
 use Rattle.state.specs.StateBytes.{head}
 use Rattle.steps.specs.Running.{Rooms, Ready}
+use Rattle.steps.proofs.LoadedNode.{control-argument, freezable-argument}
 use Rattle.steps.proofs.Children.{byte-is, own-in}
-use Rattle.steps.specs.Numbers.{wordsOf, tallyOf}
+use Rattle.steps.specs.Numbers.{places-of-row, wordsOf, tallyOf}
 use Rattle.steps.specs.Kinds.{OfKind, BothSuspended, NotBoth, Others}
 use Rattle.steps.specs.Lent.{Lent, lent, Around, Stands, CanRun, HasRun}
 use Rattle.steps.proofs.Context.{byte-at, byte-in, phase-at, phase-in}
@@ -46,6 +48,16 @@ module _ {skip : ℕ} {W : Term → Type 0} {table : List ℕ} {i : ℕ} {state 
 
   pub phase-reads : 4 * i < length state
   phase-reads = phase-in (o .3 .around) (own-long 0 (omega arith))
+
+-- what is asked where the event of a Control or of a Freezable is looked up
+module _ {table : List ℕ} {i : ℕ} {state m : List ℕ} {rooms : Rooms} where
+  pub control-event : CanRun 0 (OfKind control-kind) (lent table state m rooms) i
+      → (length m ≡ places-of-row) × (6 * i + 3 < length table) × (argumentAt table i < places)
+  control-event o = (o .3 .numbers .long, argument-reads o, control-argument (o .3 .live .2 .placed) (o .3 .live .1))
+
+  pub freezable-event : CanRun 0 (OfKind freezable-kind) (lent table state m rooms) i
+      → (length m ≡ places-of-row) × (6 * i + 3 < length table) × (argumentAt table i < places)
+  freezable-event o = (o .3 .numbers .long, argument-reads o, freezable-argument (o .3 .live .2 .placed) (o .3 .live .1))
 
 -- a function that runs the terms of W runs those of U, if all of U that stand there are of W
 module _ {W U : Term → Type 0} {table : List ℕ} {i : ℕ} {state m : List ℕ} {rooms : Rooms}

@@ -11,7 +11,7 @@ use Rattle.junior.specs.declared.Flag.{Flag}
 use Rattle.junior.specs.declared.Flag.the-variants.{SUSP, STOP, TERM}
 use Rattle.junior.specs.Flags.{γ, δ₁, δ₂}
 use Rattle.state.specs.StateBytes.{code}
-use Rattle.steps.specs.Running.{isTERM}
+use Rattle.steps.specs.Running.{isTERM, ended}
 use Rattle.steps.proofs.FlagTables.{code-below, joined-at, kept-at}
 use Rattle.steps.specs.Flags.{flagOf, ParEnds}
 
@@ -65,17 +65,33 @@ module _ (f g : ℕ) (k : f < 3) (l : g < 3) where
   kept-is = ap₂ (λ a b. getD (getD kept-table a []) b 0) (sym (code-of f k)) (sym (code-of g l)) ∙ kept-at (flagOf f) (flagOf g)
 
 -- a byte that is there already
-set-there : (s : List ℕ) (n v : ℕ) → getD s n 0 ≡ v → set s n v ≡ s
+pub set-there : (s : List ℕ) (n v : ℕ) → getD s n 0 ≡ v → set s n v ≡ s
 set-there [] n v e = refl
 set-there (x ∷ s) zero v e = ap (λ (y : ℕ). y ∷ s) (sym e)
 set-there (x ∷ s) (suc n) v e = ap (λ (l : List ℕ). x ∷ l) (set-there s n v e)
 
--- where both branches stay suspended, nothing is to be written
-pub both-stay : {f g at second : ℕ} {s : List ℕ} → f + g ≡ 0 → getD s (at + 1) 0 ≡ 0 → ParEnds f g at second s s 0
-both-stay {f} {g} {at} {s = s} e z =
-    let a : f ≡ 0 = omega arith in
-    let b : g ≡ 0 = omega arith in
-    rw (a, b) (record { bytes = sym (set-there s (at + 1) 0 z); below = lit< tt; flag = refl })
+-- where both branches are suspended, or both stop, nothing is to be written
+both-alike : (f : ℕ) {at second : ℕ} {s : List ℕ} → f < 3 → f ≢ 2 → getD s (at + 1) 0 ≡ 0 → ParEnds f f at second s s f
+both-alike zero {at} {s = s} l n z = record { bytes = sym (set-there s (at + 1) 0 z); below = lit< tt; flag = refl }
+both-alike (suc zero) {at} {s = s} l n z = record { bytes = sym (set-there s (at + 1) 0 z); below = lit< tt; flag = refl }
+both-alike (suc (suc k)) l n z = absurd (n (omega arith))
+
+pub both-stay : {f g at second : ℕ} {s : List ℕ} → f ≡ g → f ≢ 2 → f < 3 → getD s (at + 1) 0 ≡ 0 → ParEnds f g at second s s f
+both-stay {f} e n l z = rw (sym e) (both-alike f l n z)
+
+-- where the first branch is suspended, so is the Par, and its flags byte has the second's flag
+pub second-stays : {g at second : ℕ} {s : List ℕ} → g ≡ 0 → getD s (at + 1) 0 ≡ 0 → ParEnds 0 g at second s s 0
+second-stays {at = at} {s = s} e z = rw e (record { bytes = sym (set-there s (at + 1) 0 z); below = lit< tt; flag = refl })
+
+second-flags : (g : ℕ) {at second : ℕ} {s : List ℕ} → g < 3 → g ≢ 0 → ParEnds 0 g at second s (ended (flagOf g) second 3 (set s (at + 1) (4 * g))) 0
+second-flags zero l n = absurd (n refl)
+second-flags (suc zero) l n = record { bytes = refl; below = lit< tt; flag = refl }
+second-flags (suc (suc zero)) l n = record { bytes = refl; below = lit< tt; flag = refl }
+second-flags (suc (suc (suc k))) l n = absurd (omega arith)
+
+pub second-ends : {g at second : ℕ} {s s′ : List ℕ} → g < 3 → g ≢ 0 → s′ ≡ ended (flagOf g) second 3 (set s (at + 1) (4 * g))
+    → ParEnds 0 g at second s s′ 0
+second-ends {g} l n e = rw e (second-flags g l n)
 
 -- where the first branch stays suspended beside a second that isn't run, what would be written is there already
 first-kept : (g : ℕ) {at second : ℕ} {s : List ℕ} → g < 3 → getD s (at + 1) 0 ≡ 4 * g → (g ≡ 2 → getD s second 0 ≡ 3)

@@ -1,18 +1,19 @@
 -- What is known of a node of a loaded table: its event has a place, its configuration stands in the table.
 use Prim.Native.Nat.{ℕ, _+_, _*_, _<_}
-use mathlib.Core.Path.{_≡_, refl}
+use mathlib.Core.Path.{_≡_, refl, ap}
 use mathlib.Core.List.{List}
 use native.Mathlib.Omega.{arith}
 use lib.ListN.{length}
 use Rattle.events.specs.Members.{places}
 use Rattle.junior.specs.Configuration.{Config}
-use Rattle.junior.specs.Program.{Program, Repeat, Generate, Await, When, Until, Control, Local, Freezable, If, kind}
+use Rattle.junior.specs.Program.{Program, Repeat, Generate, Await, When, Until, Control, Local, If, kind}
 use Rattle.junior.specs.Values.{Times, exactly, asked, most}
 use Rattle.table.specs.Records.{configurations, events, argumentAt, sizeAt}
 use Rattle.table.specs.Good.{argumentLimit}
 use Rattle.table.specs.Spells.{Spells, Configured, tested}
 use Rattle.table.specs.Inside.{Placed}
 use Rattle.table.proofs.Loaded.{root-size, own-node, fine-at}
+use Rattle.state.specs.Kinds.{control-kind, freezable-kind}
 use Rattle.steps.specs.Running.{HasTest}
 
 module _ {table : List ℕ} {i : ℕ} {p : Program} (h : Placed table i p) where
@@ -21,6 +22,15 @@ module _ {table : List ℕ} {i : ℕ} {p : Program} (h : Placed table i p) where
 
   event-placed : argumentLimit table (kind p) ≡ events table → argumentAt table i < places
   event-placed e = omega (arith, argument-below e, h .loaded .framed .v-most)
+
+  -- by the kind alone
+  pub control-argument : kind p ≡ control-kind → argumentAt table i < places
+  unfolding argumentLimit
+  control-argument e = event-placed (ap (argumentLimit table) e)
+
+  pub freezable-argument : kind p ≡ freezable-kind → argumentAt table i < places
+  unfolding argumentLimit
+  freezable-argument e = event-placed (ap (argumentLimit table) e)
 
   has-test : argumentLimit table (kind p) ≡ configurations table → (c : Config) → Configured table (tested table i) c
       → {tally : List ℕ} → length tally ≡ 6 → HasTest table i tally
@@ -36,10 +46,6 @@ module _ {table : List ℕ} {i s : ℕ} where
   pub control-placed : {p : Program} → Placed table i (Control s p) → s < places
   unfolding Spells kind argumentLimit
   control-placed h = omega (arith, event-placed h refl, h .spelled .1)
-
-  pub freezable-placed : {p : Program} → Placed table i (Freezable s p) → s < places
-  unfolding Spells kind argumentLimit
-  freezable-placed h = omega (arith, event-placed h refl, h .spelled .1)
 
   pub local-placed : {p : Program} → Placed table i (Local s p) → s < places
   unfolding Spells kind argumentLimit

@@ -1,5 +1,5 @@
 -- A pending Freezable, rules 42 to 45: its body is parked if its event is present, else it waits, and stops at the end of the instant.
-use Prim.Native.Nat.{ℕ, suc, _+_, _-_, _*_, _≤_, _<_}
+use Prim.Native.Nat.{ℕ, suc, _+_, _-_, _*_, _≤_}
 use mathlib.Core.Bool.{true, false}
 use mathlib.Core.Path.{_≡_, refl, ap, sym, subst, _∙_}
 use mathlib.Core.Logic.{_≢_}
@@ -8,7 +8,7 @@ use native.Mathlib.Omega.{arith}
 use lib.ListN.{length, take, drop, set, replicate, length-set}
 use lib.Seq.{drop-drop, getD-set-same, getD-set-other}
 use borrow.Rule.Slice.PartMut.{putMid}
-use Rattle.events.specs.Members.{places, marks}
+use Rattle.events.specs.Members.{marks}
 use Rattle.junior.specs.declared.Flag.{Flag}
 use Rattle.junior.specs.declared.Flag.the-variants.{SUSP, STOP, TERM}
 use Rattle.junior.specs.Program.{Program, Freezable, size, kind}
@@ -28,7 +28,6 @@ use Rattle.state.proofs.Shape.{Shape, is-freezable*, shape-by}
 use Rattle.steps.specs.Running.{Rooms, rooms-of, Ready, Wrote, Ran, left, valuesIn, envOf, end-declared, bytes-parked}
 use Rattle.steps.specs.Kinds.{Pending}
 use Rattle.steps.specs.Parking.{pieceFrom}
-use Rattle.steps.proofs.LoadedNode.{freezable-placed}
 use Rattle.steps.proofs.Children.{byte-is, own-and-below}
 use Rattle.steps.proofs.Tally.{not-ended, is-ended}
 use Rattle.steps.proofs.Done.{ran-alone, row-stays, values-apart}
@@ -58,10 +57,6 @@ zeros-done p =
     ap (λ (k : ℕ). set (replicate k 0) 0 3) n
 
 module _ {table : List ℕ} {i : ℕ} {state words : List ℕ} {rooms : Rooms} {tally : List ℕ} where
-  pub pending-event : {t : Term} → Pends t → Ready 1 table i state words rooms tally t → argumentAt table i < places
-  unfolding prog Spells
-  pending-event (pends s x) h = omega (arith, freezable-placed (h .placed), h .placed .spelled .1)
-
   -- there is room for all of its bytes
   pub pending-room : {t : Term} → Pends t → Ready 1 table i state words rooms tally t
       → bytes-parked tally + length state ≤ length (rooms .store)

@@ -6,7 +6,7 @@ use mathlib.Core.Logic.{_≢_}
 use mathlib.Core.List.{List}
 use native.Mathlib.Omega.{arith}
 use lib.Dec.{eqb, ltb}
-use lib.ListN.{getD}
+use lib.ListN.{length, getD}
 use borrow.Author.Tests.{ne-eqb, lt-ltb}
 use Rattle.events.specs.Members.{places, marks}
 use Rattle.junior.specs.declared.Verdict.{Verdict}
@@ -25,6 +25,9 @@ module _ {table : List ℕ} {i : ℕ} {m : List ℕ} (h : CanTest table i m) whe
 
   pub test-stands : ConfigurationAt table (tested table i)
   test-stands = configuration-there table (h .has .loaded .configurations-good) (h .has .loaded .framed) (argumentAt table i) (h .has .tests)
+
+  pub table-short : length table < 65536
+  table-short = let f = h .has .loaded .framed in omega (arith, f .long, f .n-most, f .m-most)
 
 module _ {table : List ℕ} {i : ℕ} {m : List ℕ} (h : CanTest table i m) {c : ℕ} (at : c ≡ tested table i) where
   -- whether it is a lone event, read at a node that isn't in phase 3

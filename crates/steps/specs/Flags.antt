@@ -2,6 +2,7 @@
 use Prim.Native.Nat.{ℕ, zero, suc, _+_, _*_, _<_}
 use mathlib.Core.Bool.{cond}
 use mathlib.Core.Path.{_≡_}
+use mathlib.Core.Logic.{_≢_}
 use mathlib.Core.List.{List}
 use lib.ListN.{set}
 use Rattle.junior.specs.declared.Flag.{Flag}
@@ -25,3 +26,8 @@ pub record ParEnds (f g at second : ℕ) (s s′ : List ℕ) (r : ℕ) : Type 0 
   pub bytes : s′ ≡ parEndAt (flagOf f) (flagOf g) at second s
   pub below : r < 3
   pub flag : flagOf r ≡ γ (flagOf f) (flagOf g)
+
+-- what the Par at byte `above` answers whose first branch is suspended and whose second, at byte `at`, has answered r; a Par that is that very node, r
+pub record Heard (r above at : ℕ) (s s′ : List ℕ) (q : ℕ) : Type 0 where
+  pub itself : above ≡ at → (s′ ≡ s) × (q ≡ r)
+  pub above-it : above ≢ at → ParEnds 0 r above at s s′ q

@@ -6,7 +6,7 @@ use Rattle.junior.specs.Program.{kind}
 use Rattle.junior.specs.Term.{Term, prog}
 use Rattle.state.specs.Kinds.{seq-kind, par-kind, loop-kind, await-kind, when-kind, until-kind, freezable-kind, if-kind}
 use Rattle.state.specs.StateBytes.{head}
-use Rattle.steps.specs.Running.{Phase, KindPhase}
+use Rattle.steps.specs.Running.{Phase, KindPhase, Repeating}
 
 -- how many of a node's own bytes a function does not look at: none, the phase, all four
 abbrev pub all-seen : ℕ
@@ -21,6 +21,10 @@ own-unseen = 4
 -- those of a kind: each form tests for phase 3 itself
 abbrev pub OfKind : ℕ → Term → Type 0
 OfKind k t = kind (prog t) ≡ k
+
+-- those of a Repeat or a RepeatExt
+abbrev pub Repetition : Term → Type 0
+Repetition t = Repeating (kind (prog t))
 
 -- those of the kinds that are not told apart first
 abbrev pub Others : Term → Type 0

@@ -1,11 +1,20 @@
 -- What parking does to the state, the row of numbers and the store.
 use Prim.Native.Nat.{ℕ, _+_, _*_, _/_, _%_}
+use mathlib.Core.Bool.{Bool, _&&_, not}
 use mathlib.Core.Path.{_≡_}
 use mathlib.Core.List.{List, _∷_}
+use lib.Dec.{eqb}
 use lib.ListN.{getD, drop, set, replicate}
 use borrow.Rule.Slice.PartMut.{midOf, putMid}
-use Rattle.table.specs.Records.{sizeAt}
-use Rattle.steps.specs.Numbers.{parked-at}
+use Rattle.events.specs.Members.{marks}
+use Rattle.table.specs.Records.{argumentAt, sizeAt}
+use Rattle.steps.specs.Running.{end-declared}
+use Rattle.steps.specs.Numbers.{parked-at, wordsOf, tallyOf}
+
+-- node i, in this phase, is pending, the end isn't declared, and its event is absent
+abbrev pub staysPending : List ℕ → ℕ → ℕ → List ℕ → Bool
+staysPending table i phase numbers =
+    eqb phase 1 && (eqb (end-declared (tallyOf numbers)) 0 && not (marks (wordsOf numbers) (argumentAt table i)))
 
 -- a Freezable's bytes with its event and its body's node in place of its own four
 abbrev pub pieceFrom : ℕ → ℕ → List ℕ → List ℕ

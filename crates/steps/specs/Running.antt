@@ -1,11 +1,11 @@
 -- What the functions of a pass promise one another. No contract of a customer's call cites this file.
-use Prim.Native.Nat.{ℕ, _+_, _*_, _/_, _%_, _^_, _≤_, _<_}
+use Prim.Native.Nat.{ℕ, _+_, _*_, _/_, _%_, _^_, _≤_, _<_, min}
 use mathlib.Core.Bool.{Bool, true, false, cond}
 use mathlib.Core.Path.{_≡_}
 use mathlib.Core.Logic.{_≢_, _⊎_}
 use mathlib.Core.List.{List, _++_}
 use lib.ListN.{length, getD, take, drop, set}
-use lib.Dec.{ltb}
+use lib.Dec.{eqb, ltb}
 use Rattle.events.specs.Members.{places, marks}
 use Rattle.junior.specs.declared.Flag.{Flag}
 use Rattle.junior.specs.declared.Flag.the-variants.{SUSP, STOP, TERM}
@@ -19,8 +19,8 @@ use Rattle.junior.specs.Trace.{Place, Act, atoms, parks}
 use Rattle.junior.specs.Rules.{left-first, Rewrites, answers}
 use Rattle.junior.specs.Figures.{LoopsStop, per, parking}
 use Rattle.junior.specs.Inside.{Going, pot}
-use Rattle.table.specs.Records.{nodes, configurations, argumentAt}
-use Rattle.table.specs.Spells.{Configured, tested}
+use Rattle.table.specs.Records.{nodes, configurations, kindAt, argumentAt}
+use Rattle.table.specs.Spells.{Configured, tested, valueIn, capIn}
 use Rattle.table.specs.Inside.{Loaded, Placed}
 use Rattle.state.specs.Kinds.{par-kind, repeat-kind, repeat-ext-kind}
 use Rattle.state.specs.StateBytes.{code, head, zeros, stateBytes}
@@ -42,6 +42,11 @@ bytes-parked tally = getD tally 3 0
 
 abbrev pub valuesIn : List ℕ → Values
 valuesIn tally v = getD tally (4 + v / 8) 0 / 2 ^ (8 * (v % 8)) % 256
+
+-- how often the body of node i, a Repeat or a RepeatExt, is run once it begins: its count; "the lesser of cap and value" (02, L14)
+abbrev pub timesAt : List ℕ → ℕ → List ℕ → ℕ
+timesAt table i tally =
+    cond (eqb (kindAt table i) repeat-kind) (argumentAt table i) (min (capIn (argumentAt table i)) (valuesIn tally (valueIn (argumentAt table i))))
 
 -- the environment that the words and the tally stand for
 abbrev pub envOf : List ℕ → List ℕ → Env

@@ -152,7 +152,7 @@ pub fn run_await(
     if lone_event(*table, i, phase, numbers) {
         return run_lone(table, i, state, numbers, atoms);
     }
-    let rank = rank_of(read_test(*table, i, numbers));
+    let rank = rank_of(read_test(table, i, numbers));
     if rank == UNKNOWN {
         return SUSP;
     }
@@ -204,20 +204,20 @@ pub fn run_lone(
 }
 
 // What the configuration that node i tests is read as now, by its rank.
-pub fn test_rank(table: &[u8], i: usize, numbers: &[u64; NUMBERS]) -> u8
-    requires { ⌜ CanTest (now table) i (now numbers) ⌝ }
-    ensures { λ r. ⌜ TestRanked (now (table .entry)) i (now (numbers .entry)) r ⌝ }
+pub fn test_rank(table: &&[u8], i: usize, numbers: &[u64; NUMBERS]) -> u8
+    requires { ⌜ CanTest (now (now table)) i (now numbers) ⌝ }
+    ensures { λ r. ⌜ TestRanked (now (now (table .entry))) i (now (numbers .entry)) r ⌝ }
 {
     rank_of(read_test(table, i, numbers))
 }
 
 // The same as a verdict. An Await reads its test by this and not by `test_rank`: so the compiler puts the reading into `run_await`, and that
 // into nothing.
-fn read_test(table: &[u8], i: usize, numbers: &[u64; NUMBERS]) -> Verdict
-    requires { ⌜ CanTest (now table) i (now numbers) ⌝ }
-    ensures { λ r. ⌜ TestRead (now (table .entry)) i (wordsOf (now (numbers .entry))) (tallyOf (now (numbers .entry))) r ⌝ }
+fn read_test(table: &&[u8], i: usize, numbers: &[u64; NUMBERS]) -> Verdict
+    requires { ⌜ CanTest (now (now table)) i (now numbers) ⌝ }
+    ensures { λ r. ⌜ TestRead (now (now (table .entry))) i (wordsOf (now (numbers .entry))) (tallyOf (now (numbers .entry))) r ⌝ }
 {
-    let c = numbers[BASE] as usize + 4 * argument_at(table, i);
+    let c = numbers[BASE] as usize + 4 * argument_at(*table, i);
     let ended = numbers[ENDED] != 0;
     read_configuration(table, c, numbers, ended)
 }

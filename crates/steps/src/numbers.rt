@@ -1,16 +1,19 @@
 // The row of numbers that a pass carries: the event words first, then one number each.
 ghost use mathlib.Core.Path.{_≡_};
-ghost use Prim.Native.Nat.{_<_, min};
+ghost use Prim.Native.Nat.{_+_, _*_, _<_, min};
 ghost use lib.ListN.{length};
 ghost use Rattle.events.specs.Events.{put};
 ghost use Rattle.events.specs.Members.{places, marks};
 ghost use Rattle.events.proofs.Bits.{digits};
 ghost use Rattle.table.specs.Spells.{valueIn, capIn};
-ghost use Rattle.steps.specs.Running.{valuesIn};
+ghost use Rattle.steps.specs.Running.{valuesIn, timesAt};
 ghost use Rattle.steps.specs.Numbers.{Put, places-of-row, wordsOf, tallyOf, withWords, firstNumbers, nextNumbers};
+use crate::kinds::REPEAT;
 use events::EventSet;
 use events::WORDS;
 use table::reading::ROW;
+use table::records::argument_at;
+use table::records::kind_at;
 
 // How many atoms are done.
 pub const ATOMS: usize = WORDS;
@@ -77,7 +80,7 @@ pub fn exchange_event(numbers: &mut [u64; NUMBERS], event: usize, present: bool)
 }
 
 // Whether the event is present.
-fn has_event(numbers: &[u64; NUMBERS], event: usize) -> bool
+pub fn has_event(numbers: &[u64; NUMBERS], event: usize) -> bool
     requires { ⌜ (length (now numbers) ≡ places-of-row) × (event < places) ⌝ }
     ensures { λ r. ⌜ r ≡ marks (wordsOf (now (numbers .entry))) event ⌝ }
 {
@@ -93,7 +96,7 @@ pub fn value_of(numbers: &[u64; NUMBERS], v: usize) -> u64
 }
 
 // How often a RepeatExt with this argument runs when it begins: "the lesser of cap and value".
-pub fn times_asked(numbers: &[u64; NUMBERS], argument: usize) -> usize
+fn times_asked(numbers: &[u64; NUMBERS], argument: usize) -> usize
     requires { ⌜ length (now numbers) ≡ places-of-row ⌝ }
     ensures { λ r. ⌜ r ≡ min (capIn argument) (valuesIn (tallyOf (now (numbers .entry))) (valueIn argument)) ⌝ }
 {
@@ -103,6 +106,18 @@ pub fn times_asked(numbers: &[u64; NUMBERS], argument: usize) -> usize
         return value;
     }
     cap
+}
+
+// How often the body of node i, a Repeat or a RepeatExt, is run once it begins.
+pub fn times_at(table: &[u8], i: usize, numbers: &[u64; NUMBERS]) -> usize
+    requires { ⌜ (length (now numbers) ≡ places-of-row) × (6 * i + 3 < length (now table)) ⌝ }
+    ensures { λ r. ⌜ r ≡ timesAt (now (table .entry)) i (tallyOf (now (numbers .entry))) ⌝ }
+{
+    let argument = argument_at(table, i);
+    if kind_at(table, i) == REPEAT {
+        return argument;
+    }
+    times_asked(numbers, argument)
 }
 
 // One binary digit of a word.

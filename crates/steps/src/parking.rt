@@ -2,23 +2,37 @@
 ghost use mathlib.Core.Path.{_≡_};
 ghost use Prim.Native.Nat.{_+_, _*_, _<_, _≤_};
 ghost use lib.ListN.{length, getD};
-ghost use Rattle.table.specs.Records.{sizeAt};
+ghost use Rattle.events.specs.Members.{places};
+ghost use Rattle.table.specs.Records.{argumentAt, sizeAt};
 ghost use Rattle.steps.specs.Kinds.{phase-unseen, Pending};
 ghost use Rattle.steps.specs.Lent.{storing, CanRunBeside, HasRunBeside, Same};
 ghost use Rattle.steps.specs.Numbers.{places-of-row, parked-at};
-ghost use Rattle.steps.specs.Parking.{pieceFrom, Parked};
+ghost use Rattle.steps.specs.Parking.{staysPending, pieceFrom, Parked};
 use crate::flags::STOP;
 use crate::flags::SUSP;
 use crate::flags::TERM;
 use crate::numbers::ENDED;
 use crate::numbers::NUMBERS;
 use crate::numbers::PARKED;
+use crate::numbers::has_event;
 use crate::phases::GONE;
 use crate::phases::STARRED;
 use crate::phases::clear_part;
-use events::marked;
 use table::records::argument_at;
 use table::records::size_at;
+
+// Whether node i, in this phase, is a pending Freezable that stays so: rule 45.
+pub fn stays_pending(table: &[u8], i: usize, phase: u8, numbers: &[u64; NUMBERS]) -> bool
+    requires { ⌜ (length (now numbers) ≡ places-of-row) × (6 * i + 3 < length (now table)) × (argumentAt (now table) i < places) ⌝ }
+    ensures { λ r. ⌜ r ≡ staysPending (now (table .entry)) i phase (now (numbers .entry)) ⌝ }
+{
+    if phase == STARRED {
+        if numbers[ENDED] == 0 {
+            return !has_event(numbers, argument_at(table, i));
+        }
+    }
+    false
+}
 
 // Rules 42 to 45.
 pub fn run_pending(
@@ -35,11 +49,12 @@ pub fn run_pending(
     ensures { λ r. ⌜ Same (now (state .entry)) (now (state .exit)) × Same (now (store .entry)) (now (store .exit)) ⌝ }
 {
     let event = argument_at(*table, i);
-    if marked(numbers, event) {
-        park(*table, i, *state, numbers, *store, event);
+    if has_event(numbers, event) {
         if numbers[ENDED] == 0 {
+            park(*table, i, *state, numbers, *store, event);
             return TERM;
         }
+        park(*table, i, *state, numbers, *store, event);
         state[4 * i] = GONE;
         return STOP;
     }

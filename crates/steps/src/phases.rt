@@ -72,13 +72,20 @@ pub fn half_par(kind: usize, phase: u8, flags: u8) -> bool
     false
 }
 
-// How often a Repeat's body is still to be run, one that is being run counted: all its times, or by the count of one that has begun.
-pub fn turns_of(phase: u8, times: usize, high: u8, low: u8) -> usize
-    ensures { λ r. ⌜ r ≡ cond (eqb phase 0) times (high * 256 + low + 1) ⌝ }
+// The phase of a When that has chosen.
+pub fn chosen(second: bool) -> u8
+    ensures { λ r. ⌜ r ≡ cond second 2 1 ⌝ }
 {
-    if phase == 0 {
-        return times;
+    if second {
+        return SECOND;
     }
+    THEN
+}
+
+// How often the body of a begun repetition is still to be run, the run that it is in counted, by its count.
+pub fn turns_left(high: u8, low: u8) -> usize
+    ensures { λ r. ⌜ r ≡ high * 256 + low + 1 ⌝ }
+{
     wide(high) * 256 + wide(low) + 1
 }
 

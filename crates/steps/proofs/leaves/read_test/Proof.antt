@@ -3,14 +3,14 @@ use Rattle.steps.proofs.leaves.read_test.Statement.{statement}
 use Rattle.steps.proofs.leaves.read_test.Tie as tie
 use borrow.Author.Needs.{needs}
 use mathlib.Core.Path.{refl}
-use Rattle.steps.proofs.TestsRead.{test-here, test-stands, test-ranked}
+use Rattle.steps.proofs.TestsRead.{test-here, test-stands, table-short, test-ranked}
 
 -- read_configuration(table, c, numbers, ended)
 read-configuration-requires : tie.Need-read-configuration-requires
 read-configuration-requires c κs =
     let start = c .before .before .before .before in
     let argument-at = c .before .argument-at in
-    rw (test-here (start .pre) _ (argument-at .ensures .0)) (test-stands (start .pre))
+    (rw (test-here (start .pre) _ (argument-at .ensures .0)) (test-stands (start .pre)), table-short (start .pre))
 
 -- fn read_test
 returns : tie.Need-returns

@@ -15,17 +15,17 @@ run-lone-requires c κs =
     let if2 = c .before .before .before .if2 in
     (start .pre, sym (lone-event .ensures) ∙ if2 .taken)
 
--- let rank = rank_of(read_test(*table, i, numbers));
+-- let rank = rank_of(read_test(table, i, numbers));
 read-test-requires : tie.Need-read-test-requires
 read-test-requires c κs =
-    let start = c .before .before .before .before .before .before .before .before in
-    let if1 = c .before .before .before .before .before .before .if1 in
+    let start = c .before .before .before .before .before .before .before in
+    let if1 = c .before .before .before .before .before .if1 in
     await-tests (if1 .left) (start .pre .1)
 
 -- return SUSP;
 returns-3 : tie.Need-returns-3
 returns-3 c =
-    let if1 = c .before .before .before .before .before .before .before .before .before .if1 in
+    let if1 = c .before .before .before .before .before .before .before .before .if1 in
     let read-test = c .before .before .read-test in
     let rank-of = c .before .rank-of in
     let if3 = c .if3 in
@@ -34,7 +34,7 @@ returns-3 c =
 -- return STOP;
 returns-4 : tie.Need-returns-4
 returns-4 c =
-    let if1 = c .before .before .before .before .before .before .before .before .before .before .if1 in
+    let if1 = c .before .before .before .before .before .before .before .before .before .if1 in
     let read-test = c .before .before .before .read-test in
     let rank-of = c .before .before .rank-of in
     let if4 = c .if4 in
@@ -43,7 +43,7 @@ returns-4 c =
 -- return TERM;
 returns-5 : tie.Need-returns-5
 returns-5 c =
-    let if1 = c .before .before .before .before .before .before .before .before .before .before .before .before .if1 in
+    let if1 = c .before .before .before .before .before .before .before .before .before .before .before .if1 in
     let read-test = c .before .before .before .before .before .read-test in
     let rank-of = c .before .before .before .before .rank-of in
     let if3 = c .before .before .before .if3 in
@@ -54,13 +54,13 @@ returns-5 c =
 -- state[4 * i] = GONE;
 index-1-state-2 : tie.Need-index-1-state-2
 index-1-state-2 c =
-    let start = c .before .before .before .before .before .before .before .before .before .before .before .before .before .before in
+    let start = c .before .before .before .before .before .before .before .before .before .before .before .before .before in
     phase-reads (start .pre .1)
 
 -- pub fn run_await
 returns-6 : tie.Need-returns-6
 returns-6 c =
-    let if1 = c .before .before .before .before .before .before .before .before .before .before .before .before .if1 in
+    let if1 = c .before .before .before .before .before .before .before .before .before .before .before .if1 in
     let read-test = c .before .before .before .before .before .read-test in
     let rank-of = c .before .before .before .before .rank-of in
     let if3 = c .before .before .before .if3 in

@@ -7,6 +7,6 @@ use mathlib.Core.Path.{sym, _∙_}
 pub test-rank-spec : {M : Type 1} → statement M
 test-rank-spec =
     tie.close (tie.spec
-    (λ c κs. c .before .pre)  -- read-test-requires: rank_of(read_test(table, i, numbers))
+    (λ c κs. c .pre)  -- read-test-requires: rank_of(read_test(table, i, numbers))
     (λ c κs. search needs)  -- rank-of-requires
     (λ c. λ d s. sym (c .rank-of .ensures) ∙ c .before .read-test .ensures d s))  -- returns
