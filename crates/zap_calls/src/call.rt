@@ -1,22 +1,19 @@
 // The call that a line makes, and its answer line. Each function puts an answer line at the start of the output and answers its length.
 ghost use Prim.Native.Nat.{_≤_};
 ghost use lib.ListN.{length};
-ghost use Rattle.zap_calls.specs.Rooms.{LongRoom, StateRoom, RowRoom, StoreRoom, Rooms, AnswerRoom};
+ghost use Rattle.call_lines.specs.Rooms.{LongRoom, StateRoom, Rooms, AnswerRoom};
 use bytes::scan::find;
+use call_lines::bad_line;
+use call_lines::instant::answer_instant;
+use call_lines::take::answer_take;
 use calls::put_bytes;
 use calls::put_numbers;
-use calls::put_row;
 use calls::read_bytes;
-use calls::read_list;
 use calls::read_pair;
-use calls::read_row;
-use events::EventSet;
 use kernel::numbers::refusal_of;
-use listing::read_events;
 use table::Checked;
 use table::numbers::Refusal;
 use table::numbers::refusal_of_table;
-use taking::numbers::refusal_of_taking;
 use text::TextPrinted;
 use text::TextRead;
 use text::numbers::refusal_of_print;
@@ -24,9 +21,6 @@ use text::numbers::refusal_of_read;
 
 // The bytes of the longest line that is a call.
 pub const LONGEST: usize = 400000;
-
-// The values handed in with an instant.
-const VALUES: usize = 16;
 
 pub fn answer_call(
     line: &[u8],
@@ -140,172 +134,6 @@ fn call_start(table: &[u8], state: &mut [u8], output: &mut [u8]) -> usize
     put_bytes(output, to, state, 10)
 }
 
-fn answer_instant(
-    words: &[u8],
-    table: &mut [u8],
-    state: &mut [u8],
-    row: &mut [u16],
-    store: &mut [u8],
-    output: &mut [u8],
-) -> usize
-    requires { ⌜ StateRoom (now state) × RowRoom (now row) × StoreRoom (now store) × AnswerRoom (now output) ⌝ }
-    ensures { λ r. ⌜ r ≤ length (now (output .entry)) ⌝ }
-{
-    let table_end = find(words, 0, words.len(), 32);
-    if words.len() <= table_end {
-        return bad_line(output);
-    }
-    let state_end = find(words, table_end + 1, words.len(), 32);
-    if words.len() <= state_end {
-        return bad_line(output);
-    }
-    let p = read_pair(&words[..state_end], table, state);
-    if !p.good {
-        return bad_line(output);
-    }
-    let n = p.first;
-    let m = p.second;
-    with_state(
-        &words[state_end + 1..],
-        &table[..n],
-        &mut state[..m],
-        row,
-        store,
-        output,
-    )
-}
-
-// An instant whose table and state have been read.
-fn with_state(
-    words: &[u8],
-    table: &[u8],
-    state: &mut [u8],
-    row: &mut [u16],
-    store: &mut [u8],
-    output: &mut [u8],
-) -> usize
-    requires { ⌜ StateRoom (now state) × RowRoom (now row) × StoreRoom (now store) × AnswerRoom (now output) ⌝ }
-    ensures { λ r. ⌜ r ≤ length (now (output .entry)) ⌝ }
-{
-    let b = find(words, 0, words.len(), 32);
-    if words.len() <= b {
-        return bad_line(output);
-    }
-    let e = read_list(&words[..b]);
-    if !e.good {
-        return bad_line(output);
-    }
-    with_events(&words[b + 1..], table, state, e.events, row, store, output)
-}
-
-// An instant whose table, state and events have been read. Its values are sixteen bytes exactly: what isn't a word that the room takes counts 0.
-fn with_events(
-    words: &[u8],
-    table: &[u8],
-    state: &mut [u8],
-    handed_in: EventSet,
-    row: &mut [u16],
-    store: &mut [u8],
-    output: &mut [u8],
-) -> usize
-    requires { ⌜ StateRoom (now state) × RowRoom (now row) × StoreRoom (now store) × AnswerRoom (now output) ⌝ }
-    ensures { λ r. ⌜ r ≤ length (now (output .entry)) ⌝ }
-{
-    let b = find(words, 0, words.len(), 32);
-    if words.len() <= b {
-        return bad_line(output);
-    }
-    let mut values = [0u8; VALUES];
-    let v = read_bytes(&words[..b], &mut values);
-    if v.count != VALUES {
-        return bad_line(output);
-    }
-    with_values(
-        &words[b + 1..],
-        table,
-        state,
-        handed_in,
-        &values,
-        row,
-        store,
-        output,
-    )
-}
-
-// An instant of which all but the row and the store has been read.
-fn with_values(
-    words: &[u8],
-    table: &[u8],
-    state: &mut [u8],
-    handed_in: EventSet,
-    values: &[u8; VALUES],
-    row: &mut [u16],
-    store: &mut [u8],
-    output: &mut [u8],
-) -> usize
-    requires { ⌜ StateRoom (now state) × RowRoom (now row) × StoreRoom (now store) × AnswerRoom (now output) ⌝ }
-    ensures { λ r. ⌜ r ≤ length (now (output .entry)) ⌝ }
-{
-    let b = find(words, 0, words.len(), 32);
-    if words.len() <= b {
-        return bad_line(output);
-    }
-    let r = read_row(&words[..b], row);
-    if !r.good {
-        return bad_line(output);
-    }
-    let s = read_bytes(&words[b + 1..], store);
-    if !s.good {
-        return bad_line(output);
-    }
-    let k = r.count;
-    let m = s.count;
-    call_instant(
-        table,
-        state,
-        handed_in,
-        values,
-        &mut row[..k],
-        &mut store[..m],
-        output,
-    )
-}
-
-fn call_instant(
-    table: &[u8],
-    state: &mut [u8],
-    handed_in: EventSet,
-    values: &[u8; VALUES],
-    row: &mut [u16],
-    store: &mut [u8],
-    output: &mut [u8],
-) -> usize
-    requires { ⌜ StateRoom (now state) × RowRoom (now row) × StoreRoom (now store) × AnswerRoom (now output) ⌝ }
-    ensures { λ r. ⌜ r ≤ length (now (output .entry)) ⌝ }
-{
-    let answer = kernel::instant(table, state, handed_in, values, row, store);
-    let outcome = answer.outcome;
-    let refusal = refusal_of(outcome);
-    let refused = put_numbers(output, 0, &[refusal.number as u64, refusal.index as u64]);
-    let events = listing::put_events(output, refused, answer.events);
-    let figures = put_numbers(
-        output,
-        events,
-        &[
-            answer.count as u64,
-            answer.lowest as u64,
-            answer.atoms as u64,
-            answer.finished as u64,
-            answer.passes as u64,
-            answer.waits.node as u64,
-            answer.waits.event as u64,
-        ],
-    );
-    let bytes = put_bytes(output, figures, state, 32);
-    let numbers = put_row(output, bytes, row, 32);
-    put_bytes(output, numbers, store, 10)
-}
-
 fn answer_read(words: &[u8], text: &mut [u8], table: &mut [u8], output: &mut [u8]) -> usize
     requires { ⌜ LongRoom (now table) × AnswerRoom (now output) ⌝ }
     ensures { λ r. ⌜ r ≤ length (now (output .entry)) ⌝ }
@@ -367,113 +195,6 @@ fn put_room(output: &mut [u8], refusal: Refusal, long: usize, room: &[u8]) -> us
         &[refusal.number as u64, refusal.index as u64, long as u64],
     );
     put_bytes(output, to, room, 10)
-}
-
-fn answer_take(
-    words: &[u8],
-    table: &mut [u8],
-    store: &mut [u8],
-    table_room: &mut [u8],
-    state_room: &mut [u8],
-    output: &mut [u8],
-) -> usize
-    requires { ⌜ StoreRoom (now store) × LongRoom (now «table_room») × StateRoom (now «state_room») × AnswerRoom (now output) ⌝ }
-    ensures { λ r. ⌜ r ≤ length (now (output .entry)) ⌝ }
-{
-    let table_end = find(words, 0, words.len(), 32);
-    if words.len() <= table_end {
-        return bad_line(output);
-    }
-    let store_end = find(words, table_end + 1, words.len(), 32);
-    if words.len() <= store_end {
-        return bad_line(output);
-    }
-    let p = read_pair(&words[..store_end], table, store);
-    if !p.good {
-        return bad_line(output);
-    }
-    let n = p.first;
-    let m = p.second;
-    with_store(
-        &words[store_end + 1..],
-        &table[..n],
-        &mut store[..m],
-        table_room,
-        state_room,
-        output,
-    )
-}
-
-// A taking whose table and store have been read. Its event is one number: there is no space in a word, which would stand between two.
-fn with_store(
-    words: &[u8],
-    table: &[u8],
-    store: &mut [u8],
-    table_room: &mut [u8],
-    state_room: &mut [u8],
-    output: &mut [u8],
-) -> usize
-    requires { ⌜ StoreRoom (now store) × LongRoom (now «table_room») × StateRoom (now «state_room») × AnswerRoom (now output) ⌝ }
-    ensures { λ r. ⌜ r ≤ length (now (output .entry)) ⌝ }
-{
-    let b = find(words, 0, words.len(), 32);
-    if words.len() <= b {
-        return bad_line(output);
-    }
-    let e = read_events(&words[..b], 32);
-    if !e.good {
-        return bad_line(output);
-    }
-    let p = read_pair(&words[b + 1..], table_room, state_room);
-    if !p.good {
-        return bad_line(output);
-    }
-    let n = p.first;
-    let m = p.second;
-    call_take(
-        table,
-        store,
-        e.events.lowest(),
-        &mut table_room[..n],
-        &mut state_room[..m],
-        output,
-    )
-}
-
-fn call_take(
-    table: &[u8],
-    store: &mut [u8],
-    event: usize,
-    table_room: &mut [u8],
-    state_room: &mut [u8],
-    output: &mut [u8],
-) -> usize
-    requires { ⌜ StoreRoom (now store) × LongRoom (now «table_room») × StateRoom (now «state_room») × AnswerRoom (now output) ⌝ }
-    ensures { λ r. ⌜ r ≤ length (now (output .entry)) ⌝ }
-{
-    let taken = taking::take(table, store, event, table_room, state_room);
-    let outcome = taken.outcome;
-    let refusal = refusal_of_taking(outcome);
-    let numbers = put_numbers(
-        output,
-        0,
-        &[
-            refusal.number as u64,
-            refusal.index as u64,
-            taken.table as u64,
-            taken.state as u64,
-        ],
-    );
-    let pieces = put_bytes(output, numbers, store, 32);
-    let tables = put_bytes(output, pieces, table_room, 32);
-    put_bytes(output, tables, state_room, 10)
-}
-
-fn bad_line(output: &mut [u8]) -> usize
-    requires { ⌜ AnswerRoom (now output) ⌝ }
-    ensures { λ r. ⌜ r ≤ length (now (output .entry)) ⌝ }
-{
-    bytes::copy(b"bad-line\n", output)
 }
 
 fn is_name(word: &[u8], name: &[u8]) -> bool {

@@ -3,7 +3,7 @@
 ghost use mathlib.Core.Path.{_≡_};
 ghost use Prim.Native.Nat.{_+_, _≤_};
 ghost use lib.ListN.{length};
-ghost use Rattle.zap_calls.specs.Rooms.{Rooms};
+ghost use Rattle.call_lines.specs.Rooms.{Rooms};
 use call::LONGEST;
 use call::answer_call;
 use console::TURNS;

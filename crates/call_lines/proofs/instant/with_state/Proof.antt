@@ -1,6 +1,6 @@
 -- `with_state` meets its contract: the events are cut off within the words.
-use Rattle.zap_calls.proofs.call.with_state.Statement.{statement}
-use Rattle.zap_calls.proofs.call.with_state.Tie as tie
+use Rattle.call_lines.proofs.instant.with_state.Statement.{statement}
+use Rattle.call_lines.proofs.instant.with_state.Tie as tie
 use borrow.Author.Needs.{needs}
 use mathlib.Core.Path.{sym}
 use native.Mathlib.Omega.{arith}

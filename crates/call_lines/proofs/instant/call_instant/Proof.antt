@@ -1,7 +1,7 @@
 -- `call_instant` meets its contract: the answer line has room.
 use native.Mathlib.Omega.{arith}
-use Rattle.zap_calls.proofs.call.call_instant.Statement.{statement}
-use Rattle.zap_calls.proofs.call.call_instant.Tie as tie
+use Rattle.call_lines.proofs.instant.call_instant.Statement.{statement}
+use Rattle.call_lines.proofs.instant.call_instant.Tie as tie
 use borrow.Author.Needs.{needs}
 
 -- let figures = put_numbers(

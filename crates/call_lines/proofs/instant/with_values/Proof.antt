@@ -1,6 +1,6 @@
 -- `with_values` meets its contract: the row is cut off within the words.
-use Rattle.zap_calls.proofs.call.with_values.Statement.{statement}
-use Rattle.zap_calls.proofs.call.with_values.Tie as tie
+use Rattle.call_lines.proofs.instant.with_values.Statement.{statement}
+use Rattle.call_lines.proofs.instant.with_values.Tie as tie
 use borrow.Author.Needs.{needs}
 use mathlib.Core.Path.{sym}
 use native.Mathlib.Omega.{arith}

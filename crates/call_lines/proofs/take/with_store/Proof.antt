@@ -1,6 +1,6 @@
 -- `with_store` meets its contract: the event is cut off within the words.
-use Rattle.zap_calls.proofs.call.with_store.Statement.{statement}
-use Rattle.zap_calls.proofs.call.with_store.Tie as tie
+use Rattle.call_lines.proofs.take.with_store.Statement.{statement}
+use Rattle.call_lines.proofs.take.with_store.Tie as tie
 use borrow.Author.Needs.{needs}
 use mathlib.Core.Path.{refl, sym}
 use native.Mathlib.Omega.{arith}
@@ -19,6 +19,15 @@ read-events-requires : tie.Need-read-events-requires
 unfolding figure
 read-events-requires c κs =
     refl
+
+-- call_take(
+call-take-requires : tie.Need-call-take-requires
+call-take-requires c κs =
+    let c8 = c .before .before .before .before .before .before .before .before in
+    let c16 = c8 .before .before .before .before .before .before .before .before in
+    let start = c16 .before .before .before .before .before .before .before .before .before .before .before in
+    let long = start .pre in
+    search needs
 
 pub with-store-spec : {M : Type 1} → statement M
 with-store-spec =
@@ -47,7 +56,7 @@ with-store-spec =
     (λ c. search needs)  -- slice-aggregate-call-take
     (λ c. search needs)  -- slice-relend-prefix-call-take-2: &mut state_room[..m],
     (λ c. search needs)  -- slice-aggregate-call-take-2
-    (λ c κs. search needs)  -- call-take-requires: call_take(
+    call-take-requires
     (λ c. search needs)  -- same-length-6: fn with_store
     (λ c. search needs)  -- same-length-7
     (λ c. search needs)  -- same-length-8

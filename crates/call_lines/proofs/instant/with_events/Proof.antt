@@ -1,6 +1,6 @@
 -- `with_events` meets its contract: the values are cut off within the words.
-use Rattle.zap_calls.proofs.call.with_events.Statement.{statement}
-use Rattle.zap_calls.proofs.call.with_events.Tie as tie
+use Rattle.call_lines.proofs.instant.with_events.Statement.{statement}
+use Rattle.call_lines.proofs.instant.with_events.Tie as tie
 use borrow.Author.Needs.{needs}
 use mathlib.Core.Path.{sym}
 use native.Mathlib.Omega.{arith}

@@ -1,7 +1,7 @@
 -- `call_take` meets its contract: the answer line has room.
 use native.Mathlib.Omega.{arith}
-use Rattle.zap_calls.proofs.call.call_take.Statement.{statement}
-use Rattle.zap_calls.proofs.call.call_take.Tie as tie
+use Rattle.call_lines.proofs.take.call_take.Statement.{statement}
+use Rattle.call_lines.proofs.take.call_take.Tie as tie
 use borrow.Author.Needs.{needs}
 
 -- let pieces = put_bytes(output, numbers, store, 32);
