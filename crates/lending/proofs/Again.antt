@@ -5,7 +5,8 @@
 --     Away         what the holder keeps while the call has the slice
 --     lends-on     the holder's slice and a share of its lifetime's token give the call's slice, of the same elements, and Away
 --     has-again    the call's lifetime is over, and its slice ended with ys: the holder's slice with ys, as many as before, and the token
-use mathlib.Core.Path.{refl, sym, ap, subst, _∙_}
+--     left-again   the same where the call left a slice w somewhere, under the name of its slice: the holder's slice with what is in w
+use mathlib.Core.Path.{_≡_, refl, sym, ap, subst, _∙_}
 use Prim.Native.Nat.{ℕ}
 use mathlib.Core.List.{List, [], _∷_}
 use lib.ListN.{length, length-map}
@@ -17,9 +18,9 @@ use base.Stored.{Gv}
 use base.Fml.{Lft, GName, Share, Fml, fsep, feq, flft, fdead, fobs, fauth, fbor, flent, fobor}
 use prog.Wp.{Heap}
 use ghost.Atoms.{Atoms, sem}
-use types.Kit.{Given, ‵, later, _$_, _∵_, !, qed, move, use1, use3, fsplit, fsplit3, fjoin, fpack, feqL, feqI, rewrite, frame, await}
-use types.Kit.{updating, now as at-once, show, done}
-use types.Tokens.{name-new, bor-new}
+use types.Kit.{Given, ‵, _⊛_, later, _$_, _∵_, !, qed, move, keep, drop, use1, use3, fsplit, fsplit3, fjoin, fpack, feqL, feqI, rewrite, frame}
+use types.Kit.{await, updating, now as at-once, show, done}
+use types.Tokens.{name-new, name-done, bor-new}
 use types.Mut.{open-ref, close-ref}
 use types.SemTy.{SemTy, cells, Arr}
 use types.Hole.{Holey, here, heres-in}
@@ -27,7 +28,7 @@ use denote.RattleType.{RattleType}
 use denote.Shadow.{pureL, pureI}
 use denote.Memory.{mem}
 use denote.Ref.{RefT}
-use denote.Slice.{sliceVal, MutSlice, Holeys, heres, Room, finally, at-slice, codedHoleys}
+use denote.Slice.{sliceVal, MutSlice, Holeys, heres, Room, finally, at-slice, codedHoleys, res-finally}
 use denote.Lend.{Held, slice-back}
 
 -- a slice with these elements, under this name
@@ -85,3 +86,17 @@ module _ (T : RattleType) (κ : Lft) (q : Share) (γ : GName) (b o : ℕ) (call 
         at-once ! $ fjoin ! $
         pureI ! (at-slice T (holding b o γ ys) pair) (tt, (tt, tt)) (ap (λ (n : ℕ). sliceVal (b, o) n ∷ []) (sym same), subst (Room T) (sym same) room) $
         fjoin ! $ feqI ! ℕ (length ys) (length xs) same $ done !)
+
+    pub left-again : (δ : GName) (w : RefT (List (T .Denot))) (vs : List Val) → w .name ≡ δ → Room T (length xs)
+        → ent 𝓤 (sep 𝓤 (A .dead call) (sep 𝓤 (sem 𝓤 H A (Away δ xs)) (sem 𝓤 H A (MutSlice ℓ′ call T .own w vs))))
+        (H .⇛ (sep 𝓤 (sem 𝓤 H A (feq ℕ (length (w .now)) (length xs)))
+        (sep 𝓤 (sem 𝓤 H A (MutSlice ℓ κ T .own (holding b o γ (w .now)) pair)) (A .lft κ q))))
+    left-again δ w vs same room =
+        qed W (‵ (fdead call) ∷ ‵ (Away δ xs) ∷ ‵ (MutSlice ℓ′ call T .own w vs) ∷ []) ∵ updating ! $
+        move ! (2 ∷ []) $ fsplit ! $ drop ! $ fsplit ! $ name-done ! tt $
+        use1 W (‵ (finally T (w .name) (w .now))) (res-finally 𝓤 H A W ℓ′ call T (w .name) (w .now)) $
+        rewrite ! 0 (λ (ε : GName). ‵ (finally T ε (w .now))) same refl $
+        -- [what the call's slice ended with; w's loan; it is over; what waits for the slice]
+        move ! (2 ∷ 3 ∷ 0 ∷ []) $
+        use3 W (later (‵ (feq ℕ (length (w .now)) (length xs)) ⊛ (‵ (MutSlice ℓ κ T .own (holding b o γ (w .now)) pair) ⊛ ‵ (flft κ q))))
+        (has-again δ (w .now) room) $ await ! tt $ at-once ! $ keep ! (0 ∷ []) $ done !

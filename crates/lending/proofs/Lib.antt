@@ -1,3 +1,4 @@
 -- Laws, in the order in which they lean on one another.
 pub mod Again
 pub mod Thin
+pub mod Two

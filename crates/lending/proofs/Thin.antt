@@ -10,7 +10,7 @@
 --     lends-thin    the local with the slice in it, the slice and a share of its lifetime's token give the thin reference, Halves and Lent
 --     ends-thin     the halves are back, and the local's slice at the end has the name it got: the local, the holder's slice with what the
 --                   call left, as many elements as before, and the share of the token
-use mathlib.Core.Path.{_≡_, refl}
+use mathlib.Core.Path.{_≡_}
 use Prim.Native.Nat.{ℕ}
 use mathlib.Core.List.{List, [], _∷_}
 use lib.ListN.{length}
@@ -22,25 +22,25 @@ use base.Logic.{SProp, ent, sep, ex}
 use base.Fml.{Lft, GName, Share, Fml, fsep, fat, feq, flft, fdead, fres, flent}
 use prog.Wp.{Heap}
 use ghost.Atoms.{Atoms, sem}
-use types.Kit.{Given, Item, ‵, _⊛_, some, later, _$_, _∵_, !, qed, move, keep, use1, use2, use3, drop, split, pick, rewrite, fsplit, fjoin}
-use types.Kit.{fpick, fpack, frame, await, updating, now as at-once, show, done}
-use types.Tokens.{lft-new, lft-end, name-done}
+use types.Kit.{Given, Item, ‵, _⊛_, some, later, _$_, _∵_, !, qed, move, use1, use2, use3, split, pick, fsplit, fjoin, fpick, fpack, frame}
+use types.Kit.{await, updating, now as at-once, show, done}
+use types.Tokens.{lft-new, lft-end}
 use types.SemTy.{Body}
 use denote.RattleType.{RattleType}
 use denote.Memory.{mem, cellAt, partOf, pointee}
 use denote.Laws.{Is, shows}
 use denote.Ref.{RefT, MutRef}
-use denote.Slice.{sliceVal, sliceTy, slice-vals, mut-slice-tells, MutSlice, Room, finally, res-finally}
+use denote.Slice.{sliceVal, sliceTy, slice-vals, mut-slice-tells, MutSlice, Room}
 use denote.Lend.{lends-ref, ref-back}
 use denote.Struct.Steps.{spelt}
-use Rattle.lending.proofs.Again.{holding, Away, lends-on, has-again}
+use Rattle.lending.proofs.Again.{holding, Away, lends-on, left-again}
 
 pub record Loan : Type 0 where
   pub life : ℕ
   pub slice : GName
   pub outer : GName
 
-abbrev loan : ℕ → GName → GName → Loan
+abbrev pub loan : ℕ → GName → GName → Loan
 loan ν δ ε = record { life = ν; slice = δ; outer = ε }
 
 -- the call's lifetime, and the shares of its token that it gets
@@ -57,7 +57,7 @@ abbrev pub Halves : Loan → Fml
 Halves n = fsep (flft (lifetime n) half₁) (flft (lifetime n) half₂)
 
 -- the thin reference's type, and that of the slice in the local; ℓ and ℓ′ are the lifetimes' places in the callee's signature
-abbrev Inner : RattleType → Lifetime → ℕ → RattleType
+abbrev pub Inner : RattleType → Lifetime → ℕ → RattleType
 Inner T ℓ′ ν = MutSlice ℓ′ (ν ∷ []) T
 
 abbrev pub Thin : RattleType → Lifetime → Lifetime → Loan → RattleType
@@ -146,12 +146,8 @@ module _ (T : RattleType) (κ : Lft) (q : Share) (γ : GName) (b o l : ℕ) wher
         (mut-slice-tells ℓ₂ (lifetime n) T) fullShare w vs l 0 $
         use1 W (‵ (Local (sliceVal (w .ptr) (length (w .now)))))
         (W .laws .raw-at fullShare (localTy T) l 0 (sliceVal (w .ptr) (length (w .now)))) $
-        -- [the local; what w owns; what waits for the slice; it is over]: w ended with its elements, and w is the call's slice
-        move ! (1 ∷ []) $ fsplit ! $ drop ! $ fsplit ! $ name-done ! tt $
-        use1 W (‵ (finally T (w .name) (w .now))) (res-finally 𝓤 H A W ℓ₂ (lifetime n) T (w .name) (w .now)) $
-        rewrite ! 0 (λ (δ : GName). ‵ (finally T δ (w .now))) same refl $
-        -- [what the call's slice ended with; w's loan; the local; what waits for the slice; it is over]: the slice is back
-        move ! (4 ∷ 3 ∷ 0 ∷ []) $
+        -- [the local; what w owns; what waits for the slice; it is over]: w is the call's slice, so the holder has its own again
+        move ! (3 ∷ 2 ∷ 1 ∷ []) $
         use3 W (later (‵ (feq ℕ (length (w .now)) (length xs)) ⊛ (‵ (Slice (w .now)) ⊛ ‵ (flft κ q))))
-        (has-again T κ q γ b o (lifetime n) 𝓤 H A W ℓ ℓ₂ xs (n .slice) (w .now) room) $ await ! tt $
-        at-once ! $ move ! (2 ∷ 0 ∷ []) $ keep ! (0 ∷ 1 ∷ []) $ done !)
+        (left-again T κ q γ b o (lifetime n) 𝓤 H A W ℓ ℓ₂ xs (n .slice) w (slice-vals w) same room) $ await ! tt $
+        at-once ! $ move ! (1 ∷ 0 ∷ []) $ done !)
