@@ -56,7 +56,7 @@ pub record RanFree (t s : List ℕ) (X : Events) (value : Values) (row free s′
   pub run : Run t s X value (rooms row (0 ∷ 0 ∷ free)) s′ (rooms row′ (two (r .parked) ++ free′)) (r .answer)
   pub parked-is : r .parked ≡ length (piecesBytes (parks (run .result .acts)))
 
--- the same behind three references to slices, of the state, of the row and of the store's free part: from what they held, s, w and f, to what they
+-- the same behind references to slices, of the state, of the row and of the store's free part: from what they held, s, w and f, to what they
 -- hold, s′, w′ and f′. These are the slices that were lent, and no others: they have the same names.
 pub record RanBehind (t : List ℕ) (s : RefT (List ℕ)) (X : Events) (value : Values) (w f s′ w′ f′ : RefT (List ℕ)) (r : Ending) : Type 0 where
   pub ran : RanFree t (s .now) X value (w .now) (f .now) (s′ .now) (w′ .now) (f′ .now) r

@@ -5,6 +5,7 @@ ghost use lib.ListN.{length};
 ghost use Rattle.events.specs.Members.{members};
 ghost use Rattle.steps.specs.Running.{ended};
 ghost use Rattle.steps.specs.Flags.{flagOf};
+ghost use Rattle.steps.specs.Lent.{state-in, store-in};
 ghost use Rattle.kernel.specs.Passes.{wordValues, Startable, RanFree, RanBehind, Reported, LeadsIfStill, WaitsAfter};
 use crate::Answer;
 use crate::Outcome;
@@ -20,6 +21,7 @@ use steps::numbers::events_of;
 use steps::numbers::first_numbers;
 use steps::numbers::next_pass;
 use steps::phases::GONE;
+use steps::phases::STATE;
 use table::records::word_at;
 use waiting::Wait;
 use waiting::no_wait;
@@ -38,8 +40,8 @@ pub struct Ending {
     pub parked: usize,
 }
 
-// Passes from node 0 until one answers STOP or TERM (01, "Instant"); `free` is the free part of the store. All that stands here is walked by hand: the slices are handed on as
-// references of one register each, which no slice that is a parameter can be lent as otherwise.
+// Passes from node 0 until one answers STOP or TERM (01, "Instant"); `free` is the free part of the store. All that stands here is walked by hand: the slices are handed on by
+// references of one register each, one for state and store, which no slice that is a parameter can be lent by otherwise.
 pub fn run_passes(
     table: &[u8],
     state: &mut [u8],
@@ -52,24 +54,22 @@ pub fn run_passes(
         ⌜ RanFree (now (table .entry)) (now (state .entry)) (members (handed .events)) (wordValues (handed .low) (handed .high))
         (now (atoms .entry)) (now (free .entry)) (now (state .exit)) (now (atoms .exit)) (now (free .exit)) r ⌝ }
 {
-    let mut s = state;
+    let mut bytes = [state, free];
     let mut w = atoms;
-    let mut f = free;
-    run_from(table, &mut s, handed, &mut w, &mut f)
+    run_from(table, &mut bytes, handed, &mut w)
 }
 
-// The passes themselves. The slices left behind the three references have the names of those lent: they are no others.
+// The passes themselves. The slices left behind the references have the names of those lent: they are no others.
 fn run_from(
     table: &[u8],
-    state: &mut &mut [u8],
+    bytes: &mut [&mut [u8]; 2],
     handed: HandedIn,
     atoms: &mut &mut [u16],
-    free: &mut &mut [u8],
 ) -> Ending
-    requires { ⌜ Startable (now table) (now (now state)) (now (now atoms)) (now (now free)) ⌝ }
+    requires { ⌜ Startable (now table) (now (state-in (now bytes))) (now (now atoms)) (now (store-in (now bytes))) ⌝ }
     ensures { λ r.
-        ⌜ RanBehind (now (table .entry)) (now (state .entry)) (members (handed .events)) (wordValues (handed .low) (handed .high))
-        (now (atoms .entry)) (now (free .entry)) (now (state .exit)) (now (atoms .exit)) (now (free .exit)) r ⌝ }
+        ⌜ RanBehind (now (table .entry)) (state-in (now (bytes .entry))) (members (handed .events)) (wordValues (handed .low) (handed .high))
+        (now (atoms .entry)) (store-in (now (bytes .entry))) (state-in (now (bytes .exit))) (now (atoms .exit)) (store-in (now (bytes .exit))) r ⌝ }
 {
     let nodes = word_at(table, table.len() - 10);
     let mut row = first_numbers(handed.events, handed.low, handed.high, 6 * nodes);
@@ -77,9 +77,9 @@ fn run_from(
     let mut waits = no_wait();
     loop {
         passes += 1;
-        let flag = run_child(&table, 0, state, &mut row, atoms, free);
+        let flag = run_child(&table, 0, bytes, &mut row, atoms);
         if flag != SUSP {
-            end_program(*state, flag);
+            end_program(bytes[STATE], flag);
             return report(
                 events_of(&row),
                 row[ATOMS] as usize,
@@ -89,7 +89,7 @@ fn run_from(
                 waits,
             );
         }
-        waits = waits_after(table, state, &row, waits);
+        waits = waits_after(table, bytes[STATE], &row, waits);
         next_pass(&mut row);
     }
 }

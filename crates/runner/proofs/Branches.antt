@@ -13,15 +13,24 @@ use Rattle.state.specs.Kinds.{when-kind, if-kind}
 use Rattle.state.specs.StateBytes.{head}
 use Rattle.state.proofs.Shape.{Shape, is-done, is-when0, is-when1, is-when2, is-if0, is-if1, is-if2, shape-by}
 use Rattle.steps.specs.Running.{Rooms}
-use Rattle.steps.specs.Kinds.{Choosing, InThen, InSecond}
+use Rattle.table.specs.Records.{kindAt}
+use Rattle.steps.specs.Kinds.{OfKind, Choosing, InSecond}
+use Rattle.runner.proofs.Stages.{InThen}
 use Rattle.steps.specs.Lent.{Lent, lent, CanRun}
 use Rattle.steps.proofs.Dispatch.{phase-is}
 use Rattle.runner.proofs.GoesOn.{GoesOnAs, goes-by-phase}
+use Rattle.runner.proofs.EitherKind.{goes-of-kind}
 
 -- node i, of which U holds, goes into its second branch if `second` says so, else into its first
 pub record Branches (U : Term → Type 0) (L : Lent) (i : ℕ) (second : Bool) : Type 0 where
   pub to-second : second ≡ true → GoesOnAs InSecond U L i L
   pub to-first : second ≡ false → GoesOnAs InThen U L i L
+
+-- whichever of the two stands there
+pub branches-of-kind : {k : ℕ} {U : Term → Type 0} {table : List ℕ} {i : ℕ} {state m : List ℕ} {rooms : Rooms} {second : Bool} → kindAt table i ≡ k
+    → Branches (OfKind k) (lent table state m rooms) i second
+    → Branches U (lent table state m rooms) i second
+branches-of-kind is b = record { to-second = λ e. goes-of-kind is (b .to-second e); to-first = λ e. goes-of-kind is (b .to-first e) }
 
 -- one that has chosen, hasn't ended and isn't in its second branch is in its first
 when-in-first : {t : Term} {ph : ℕ} → Shape t when-kind ph → ph ≢ 3 → ph ≢ 0 → ph ≢ 2 → ph ≡ 1

@@ -10,7 +10,7 @@ use lib.ListN.{length, getD, take, drop}
 use borrow.Rule.Slice.PartMut.{midOf, putMid}
 use Rattle.events.specs.Members.{marks}
 use Rattle.junior.specs.Term.{Term}
-use Rattle.table.specs.Records.{kindAt, argumentAt, sizeAt}
+use Rattle.table.specs.Records.{argumentAt, sizeAt}
 use Rattle.state.specs.Kinds.{control-kind}
 use Rattle.steps.specs.Running.{Rooms, Ready, Runs, Any}
 use Rattle.steps.proofs.Children.{own-in}
@@ -21,7 +21,7 @@ use Rattle.steps.specs.Flags.{flagOf}
 use Rattle.steps.specs.Lent.{lent, Stands, Went, CanRun, HasRun}
 use Rattle.steps.proofs.Context.{outer}
 use Rattle.steps.proofs.Row.{kept-same}
-use Rattle.steps.proofs.Dispatch.{phase-is, to-kind}
+use Rattle.steps.proofs.Dispatch.{phase-is}
 use Rattle.runner.proofs.Falling.{weigh, child-rank, form-rank, smaller-by}
 use Rattle.steps.proofs.ChildContext.{child-stands}
 
@@ -84,12 +84,6 @@ module _ {table : List ℕ} {i : ℕ} {state m : List ℕ} {rooms : Rooms} (on :
         → (weigh table (i + 1) child-rank < k) × CanRun 0 Any (lent table state m rooms) (i + 1)
     control-body (before, part, behind, o) e =
         (omega (arith, body-smaller on o names present), (_, _, _, body-stands on o names present))
-
-    -- a Control in a Control, by its kind as it was read
-    pub control-nested : {n : ℕ} → n ≡ kindAt table (i + 1) → n ≡ control-kind → CanRun 0 (OfKind control-kind) (lent table state m rooms) i
-        → {k : ℕ} → weigh table i form-rank ≡ k
-        → (weigh table (i + 1) form-rank < k) × CanRun 0 (OfKind control-kind) (lent table state m rooms) (i + 1)
-    control-nested read is o e = let (l, s) = control-body o e in (omega (arith, l), to-kind read is s)
 
     pub control-run : {state₁ m₁ : List ℕ} {rooms₁ : Rooms} {f : ℕ} → HasRun 0 Any (lent table state m rooms) (i + 1) (lent table state₁ m₁ rooms₁) f
         → HasRun 0 (OfKind control-kind) (lent table state m rooms) i (lent table state₁ m₁ rooms₁) f

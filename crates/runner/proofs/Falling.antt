@@ -6,26 +6,17 @@ use native.Mathlib.Omega.{arith}
 use Rattle.table.specs.Records.{sizeAt}
 use Rattle.steps.proofs.Children.{falling}
 
--- A node's falling number: its size first, then a rank at the node, that of a Repeat's turn at its body being the highest.
+-- A node's falling number: its size first, then a rank at the node, that of `run_child` being the highest.
 abbrev pub weigh : List ℕ → ℕ → ℕ → ℕ
 weigh table i rank = 8 * sizeAt table i + rank
-
-abbrev pub turn-rank : ℕ
-turn-rank = 5
 
 abbrev pub child-rank : ℕ
 child-rank = 4
 
-abbrev pub other-rank : ℕ
-other-rank = 3
-
 abbrev pub form-rank : ℕ
 form-rank = 2
 
--- of an Until*, which goes over into its handler, and of what runs a child and nothing else at the node
-abbrev pub stage-rank : ℕ
-stage-rank = 1
-
+-- of what runs a child and nothing else at the node
 abbrev pub last-rank : ℕ
 last-rank = 0
 

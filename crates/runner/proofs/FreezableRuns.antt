@@ -21,7 +21,7 @@ use Rattle.steps.proofs.Dispatch.{phase-is}
 use Rattle.steps.proofs.ChildContext.{child-stands}
 use Rattle.runner.proofs.Freezable.{Freezes, freezes-by, body-asks, freezable-waits, pending-asks, freezable-stops}
 use Rattle.runner.proofs.Falling.{smaller-by}
-use Rattle.runner.proofs.GoesOn.{went-as, to-phase, by-phase}
+use Rattle.runner.proofs.GoesOn.{went-as}
 
 -- in its body: that runs
 module _ {table : List ℕ} {i : ℕ} {state : List ℕ} (on : getD state (4 * i) 0 ≢ 3) (no-star : getD state (4 * i) 0 ≢ 1) where
@@ -99,12 +99,3 @@ module _ {table : List ℕ} {i : ℕ} {state : List ℕ} (on : getD state (4 * i
       pub freezable-goes-on : f ≡ 1 → {L′ : Lent} {r : ℕ} → HasRun 1 Pending (lent table state₁ m₁ rooms₁) i L′ r
           → HasRun 0 (OfKind freezable-kind) (lent table state m rooms) i L′ r
       freezable-goes-on e then before part behind o = pending-went o run e then
-
--- one that is pending already
-module _ {table : List ℕ} {i : ℕ} {state m : List ℕ} {rooms : Rooms} (starred : getD state (4 * i) 0 ≡ 1) where
-  pub to-pending : CanRun 0 (OfKind freezable-kind) (lent table state m rooms) i → CanRun 1 Pending (lent table state m rooms) i
-  to-pending o = to-phase (λ t k p. (k, p)) starred o
-
-  pub by-pending : {L′ : Lent} {r : ℕ} → HasRun 1 Pending (lent table state m rooms) i L′ r
-      → HasRun 0 (OfKind freezable-kind) (lent table state m rooms) i L′ r
-  by-pending run = by-phase (λ t k p. (k, p)) starred run

@@ -10,7 +10,7 @@ use Rattle.steps.specs.Running.{Rooms, rooms-of, Live, Runs, Phase}
 use Rattle.steps.proofs.Children.{unseen}
 use Rattle.steps.specs.Numbers.{Kept, wordsOf, tallyOf}
 use Rattle.steps.specs.Flags.{flagOf}
-use Rattle.steps.specs.Lent.{Lent, lent, Stands, Went, CanRun, HasRun}
+use Rattle.steps.specs.Lent.{Lent, lent, state-in, store-in, Stands, Went, CanRun, HasRun}
 use Rattle.steps.proofs.Row.{kept-same, kept-then}
 use Rattle.steps.proofs.Dispatch.{phase-is}
 
@@ -33,8 +33,8 @@ pub record GoesOnAs (W U : Term → Type 0) (L : Lent) (i : ℕ) (L₁ : Lent) :
   pub has : {L′ : Lent} {r : ℕ} → HasRun 1 W L₁ i L′ r → HasRun 0 U L i L′ r
 
 -- what is lent where the ways through a function meet
-abbrev pub met : RefT (RefT (List ℕ)) → RefT (List ℕ) → List ℕ → RefT (List ℕ) → RefT (List ℕ) → Lent
-met table state numbers atoms store = lent (table .now .now) (state .now) numbers (rooms-of (atoms .now) (store .now))
+abbrev pub met : RefT (RefT (List ℕ)) → List (RefT (List ℕ)) → List ℕ → RefT (List ℕ) → Lent
+met table bytes numbers atoms = lent (table .now .now) (state-in bytes .now) numbers (rooms-of (atoms .now) (store-in bytes .now))
 
 module _ {W U : Term → Type 0} {ph : ℕ} (are : (t : Term) → U t → Phase ph t → W t) {table : List ℕ} {i : ℕ} {state m : List ℕ} {rooms : Rooms}
     (is : getD state (4 * i) 0 ≡ ph) where

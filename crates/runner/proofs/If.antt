@@ -24,7 +24,8 @@ use Rattle.state.specs.StateBytes.{zeros, below}
 use Rattle.state.proofs.Parts.{fresh-zeros}
 use Rattle.state.proofs.Shape.{Shape, is-if0, shape-by}
 use Rattle.steps.specs.Running.{Rooms, Ready, Ran, Live, Runs, KindPhase, valuesIn}
-use Rattle.steps.specs.Kinds.{InSecond, InThen}
+use Rattle.steps.specs.Kinds.{InSecond}
+use Rattle.runner.proofs.Stages.{InThen}
 use Rattle.steps.proofs.Done.{same-lengths, ready-as, room-for, ran-by}
 use Rattle.steps.proofs.LoadedNode.{if-placed}
 

@@ -13,7 +13,8 @@ use Rattle.table.specs.Records.{argumentAt}
 use Rattle.state.specs.Kinds.{if-kind}
 use Rattle.steps.specs.Running.{Rooms, Ready, valuesIn}
 use Rattle.steps.specs.Numbers.{tallyOf, places-of-row}
-use Rattle.steps.specs.Kinds.{OfKind, InThen, InSecond}
+use Rattle.steps.specs.Kinds.{OfKind, InSecond}
+use Rattle.runner.proofs.Stages.{InThen}
 use Rattle.steps.specs.Lent.{Lent, lent, Around, Stands, CanRun, HasRun}
 use Rattle.steps.proofs.Row.{kept-same}
 use Rattle.steps.proofs.Dispatch.{phase-is}

@@ -1,5 +1,6 @@
 -- The laws, each file named after its subject.
 pub mod Falling
+pub mod Stages
 pub mod Seq
 pub mod Par
 pub mod Joined
@@ -13,12 +14,15 @@ pub mod Until
 pub mod Freezable
 pub mod If
 pub mod GoesOn
+pub mod EitherKind
 pub mod Branches
+pub mod Told
 pub mod Names
 pub mod Indices
 pub mod WhenRuns
 pub mod UntilRuns
 pub mod FreezableRuns
+pub mod BreakRuns
 pub mod IfRuns
 pub mod ParRuns
 pub mod ChainRuns

@@ -26,7 +26,7 @@ use Rattle.state.proofs.Parts.{fresh-zeros, own-phase}
 use Rattle.state.proofs.Shape.{Shape, is-done, is-loop0, is-loop1, shape-by}
 use Rattle.state.proofs.Frames.{loop-body}
 use Rattle.steps.specs.Running.{Rooms, Ready, Ran, Live, Runs, Any, Kind}
-use Rattle.steps.specs.Kinds.{Beginning}
+use Rattle.runner.proofs.Stages.{Beginning}
 use Rattle.steps.proofs.Children.{at-node, falling, only-cut, first-at, phase-is}
 use Rattle.steps.proofs.Done.{later, same-lengths, ready-as, room-for, room-after, few, ran-flag, ran-zeros, ran-long, ran-then}
 use Rattle.steps.proofs.Done.{back-kept, back-long, back-in, own-stays, ran-kept, ran-phase}

@@ -13,7 +13,8 @@ use Rattle.state.specs.Kinds.{loop-kind}
 use Rattle.state.proofs.Shape.{Shape, is-done, is-loop0, is-loop1, shape-by}
 use Rattle.steps.specs.Running.{Rooms, Ready, Any}
 use Rattle.steps.proofs.Children.{own-in, unseen}
-use Rattle.steps.specs.Kinds.{OfKind, Beginning}
+use Rattle.steps.specs.Kinds.{OfKind}
+use Rattle.runner.proofs.Stages.{Beginning}
 use Rattle.steps.specs.Lent.{Lent, lent, Around, Stands, Went, CanRun, HasRun}
 use Rattle.steps.proofs.Context.{outer, phase-at, phase-in, put-phase}
 use Rattle.steps.proofs.Row.{kept-same, kept-then, still}
@@ -22,7 +23,7 @@ use Rattle.steps.proofs.Dispatch.{phase-is, to-kind}
 use Rattle.steps.proofs.ChildContext.{child-stands}
 use Rattle.runner.proofs.Loop.{Begins, begins-by, begin-asks, begin-writes, begin-ran}
 use Rattle.runner.proofs.Loop.{Loops, loops-by, loop-asks, loop-waits, anew-asks, loop-again}
-use Rattle.runner.proofs.Falling.{weigh, child-rank, form-rank, last-rank, smaller-by}
+use Rattle.runner.proofs.Falling.{weigh, child-rank, form-rank, smaller-by}
 use Rattle.runner.proofs.GoesOn.{GoesOnAs, went-as}
 
 -- the body begins
@@ -160,7 +161,7 @@ module _ {table : List ℕ} {i : ℕ} {state : List ℕ} (begun : getD state (4 
 
 -- in the words of the needs
 module _ {table : List ℕ} {i : ℕ} {state m : List ℕ} {rooms : Rooms} where
-  pub begin-body : CanRun 1 Beginning (lent table state m rooms) i → {k : ℕ} → weigh table i last-rank ≡ k
+  pub begin-body : CanRun 1 Beginning (lent table state m rooms) i → {k : ℕ} → weigh table i form-rank ≡ k
       → (weigh table (i + 1) child-rank < k) × CanRun 0 Any (lent table state m rooms) (i + 1)
   begin-body (before, part, behind, o) e = (omega (arith, begun-smaller o), (_, _, _, begun-stands o))
 

@@ -103,7 +103,7 @@ module _ {table : List ℕ} {i : ℕ} {state words : List ℕ} {rooms : Rooms} {
     unfolding prog size below collect
     repeat-ends (unbegun n p e) h z P = ran-alone (r14 (e ∙ z)) refl (h .bytes ∙ blank-below (size p))
 
-    -- what run_times asks, one run less being then to begin, and that it is the repetition's own run
+    -- what a turn asks, one run less being then to begin, and that it is the repetition's own run
     pub repeat-asks : {t : Term} → Unbegun (valuesIn tally) a t → Ready 0 table i state words rooms tally t → a ≢ 0
         → Live 4 (Times (a - 1)) table i state words rooms tally × (own-flags state ≡ 0)
     repeat-asks (unbegun n p e) h z =

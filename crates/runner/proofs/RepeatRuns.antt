@@ -2,7 +2,7 @@
 use Prim.Native.Nat.{ℕ, _+_, _-_, _*_, _/_, _%_, _≤_, _<_}
 use mathlib.Core.Path.{_≡_, refl, sym, subst, _∙_}
 use mathlib.Core.Logic.{_≢_, _⊎_, inl, inr}
-use mathlib.Core.List.{List, [], _∷_, _++_}
+use mathlib.Core.List.{List, _++_}
 use native.Mathlib.Omega.{arith}
 use lib.Dec.{lit<}
 use lib.ListN.{length, getD, take, drop, set, length-set}
@@ -11,11 +11,10 @@ use Rattle.junior.specs.declared.Flag.{Flag}
 use Rattle.junior.specs.declared.Flag.the-variants.{TERM}
 use Rattle.junior.specs.Term.{Term}
 use Rattle.junior.specs.Trace.{Place}
-use Rattle.table.specs.Records.{word, kindAt, sizeAt}
-use Rattle.table.proofs.Loaded.{kind-of}
+use Rattle.table.specs.Records.{word, sizeAt}
 use Rattle.state.specs.StateBytes.{head}
 use Rattle.state.proofs.Parts.{own-phase, own-flags}
-use Rattle.steps.specs.Running.{Rooms, Ready, Ran, Live, Runs, Any, Repeating, Times, valuesIn, timesAt}
+use Rattle.steps.specs.Running.{Rooms, Ready, Ran, Live, Runs, Any, Times, valuesIn, timesAt}
 use Rattle.steps.proofs.Children.{falling, own-in, unseen}
 use Rattle.runner.proofs.Repeat.{InRun, in-run-by, times-asks, times-below, times-writes, times-waits, times-ends, next-live, next-flags, times-again}
 use Rattle.runner.proofs.Repeat.{Unbegun, begins, repeat-ends, repeat-asks, repeat-ran, counts, counts-asks}
@@ -26,7 +25,7 @@ use Rattle.steps.proofs.Context.{byte-at, byte-in, phase-at, put-byte, put-phas
 use Rattle.steps.proofs.Row.{kept-same, still}
 use Rattle.runner.proofs.GoesOn.{stands-as, went-as}
 use Rattle.steps.proofs.FlagNumbers.{is-term, not-term}
-use Rattle.steps.proofs.Dispatch.{phase-is, can-narrow, widen, none-of}
+use Rattle.steps.proofs.Dispatch.{phase-is}
 use Rattle.steps.proofs.ChildContext.{child-stands}
 
 -- three of a node's own bytes written anew
@@ -238,25 +237,6 @@ module _ {table : List ℕ} {i : ℕ} {state m : List ℕ} {rooms : Rooms} (on :
     repeat-by run before part behind o =
         let g = run before part behind (turn-stands o) in
         went-as (kept-same m) g (λ t w h P at. turn-ran on (o .around) w h is some (g .runs) P at)
-
--- what stands there is a repetition, by its kind as it was read
-repeats : {table : List ℕ} {i n : ℕ} → n ≡ kindAt table i → Repeating n
-    → {part words : List ℕ} {rooms : Rooms} {tally : List ℕ} {t : Term} → Ready 0 table i part words rooms tally t
-    → Repetition t
-repeats read is h = subst Repeating (read ∙ kind-of (h .placed)) is
-
-module _ {U : Term → Type 0} {table : List ℕ} {i : ℕ} {state m : List ℕ} {rooms : Rooms} {n : ℕ} (read : n ≡ kindAt table i) (is : Repeating n) where
-  pub to-repetition : CanRun 0 U (lent table state m rooms) i → CanRun 0 Repetition (lent table state m rooms) i
-  to-repetition o = can-narrow (λ b p q a t h. repeats read is h) o
-
-  pub by-repetition : {L′ : Lent} {r : ℕ} → HasRun 0 Repetition (lent table state m rooms) i L′ r → HasRun 0 U (lent table state m rooms) i L′ r
-  by-repetition run = widen (λ b p q a t h. repeats read is h) run
-
--- what no arm of a choice by kinds takes, both kinds of a repetition having one arm: each kind for itself
-pub each-told : {n : ℕ}
-    → ((((((none-of (5 ∷ 2 ∷ 1 ∷ 0 ∷ []) n × (Repeating n → ⊥)) × (n ≢ 7)) × (n ≢ 9)) × (n ≢ 10)) × (n ≢ 11)) × (n ≢ 13)) × (n ≢ 14)
-    → none-of (15 ∷ 14 ∷ 13 ∷ 11 ∷ 10 ∷ 9 ∷ 7 ∷ 6 ∷ 5 ∷ 2 ∷ 1 ∷ 0 ∷ []) n
-each-told (((((((rest, none), n7), n9), n10), n11), n13), n14) = ((((((((rest, λ e. none (inl e)), n7), n9), n10), n11), n13), n14), λ e. none (inr e))
 
 -- the row of numbers of what can run
 pub numbers-long : {W : Term → Type 0} {table : List ℕ} {i : ℕ} {state m : List ℕ} {rooms : Rooms} → CanRun 0 W (lent table state m rooms) i

@@ -34,7 +34,8 @@ use Rattle.state.proofs.Parts.{len-bytes, fresh-zeros, own-of, part-is, put-is,
 use Rattle.state.proofs.Shape.{Shape, is-done, is-until0, is-until*, is-until2, shape-by}
 use Rattle.state.proofs.Frames.{until-first}
 use Rattle.steps.specs.Running.{Rooms, Ready, Ran, Live, Runs, Any, Kind, envOf, end-declared}
-use Rattle.steps.specs.Kinds.{InSecond, Starred}
+use Rattle.steps.specs.Kinds.{InSecond}
+use Rattle.runner.proofs.Stages.{Starred}
 use Rattle.steps.specs.Running.{HasTest, TestRead}
 use Rattle.steps.proofs.Children.{at-node, falling, first-cut, asks, child-ran, next-index, first-at}
 use Rattle.steps.proofs.Children.{phase-is}

@@ -17,7 +17,8 @@ use Rattle.steps.specs.Running.{Rooms, Ready, Any, TestRead}
 use Rattle.steps.proofs.Children.{own-in}
 use Rattle.steps.proofs.Tally.{not-ended, is-ended}
 use Rattle.steps.specs.Numbers.{ended-at, wordsOf, tallyOf}
-use Rattle.steps.specs.Kinds.{OfKind, Starred, InSecond}
+use Rattle.steps.specs.Kinds.{OfKind, InSecond}
+use Rattle.runner.proofs.Stages.{Starred}
 use Rattle.steps.specs.Tests.{CanTest}
 use Rattle.steps.specs.Lent.{Lent, lent, Around, Stands, Went, CanRun, HasRun}
 use Rattle.steps.proofs.Context.{inner, outer, phase-at, phase-in, put-phase, byte-in, put-part}
@@ -232,9 +233,6 @@ module _ {table : List ℕ} {i : ℕ} {state m : List ℕ} {rooms : Rooms} where
     module _ {state₁ : List ℕ} (clear : Cleared table i state state₁) where
       pub now-handler : CanRun 1 Starred (lent table state m rooms) i → CanRun 1 InSecond (lent table state₁ m rooms) i
       now-handler (before, part, behind, o) = (_, _, _, handler-stands o clear reads)
-
-      pub handler-writes-in : CanRun 1 Starred (lent table state m rooms) i → 4 * i < length state₁
-      handler-writes-in (before, part, behind, o) = phase-in (around-cleared o clear) (own-cleared o clear reads)
 
       module _ (is : v ≡ Sat) where
         pub handler-begins : getD m ended-at 0 ≡ 0 → {L′ : Lent} {r : ℕ} → HasRun 1 InSecond (lent table state₁ m rooms) i L′ r

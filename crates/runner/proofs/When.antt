@@ -31,7 +31,8 @@ use Rattle.state.proofs.Parts.{fresh-zeros}
 use Rattle.state.proofs.Shape.{Shape, is-when0, is-when1, is-if1, shape-by}
 use Rattle.state.proofs.Frames.{Frame, when-first, if-first}
 use Rattle.steps.specs.Running.{Rooms, Ready, Ran, Live, Runs, Any, KindPhase, phaseAfter, envOf, end-declared}
-use Rattle.steps.specs.Kinds.{InSecond, InThen}
+use Rattle.steps.specs.Kinds.{InSecond}
+use Rattle.runner.proofs.Stages.{InThen}
 use Rattle.steps.specs.Running.{HasTest, TestRead}
 use Rattle.steps.proofs.Children.{at-node, falling, first-cut, asks, child-ran, next-index, first-at}
 use Rattle.steps.proofs.Done.{same-lengths, ready-as, room-for, ran-alone, ran-by, ran-long, back-in, phase-left, ran-phase}

@@ -19,7 +19,8 @@ use Rattle.steps.specs.Running.{Rooms, Ready, Any, TestRead, phaseAfter}
 use Rattle.steps.proofs.Children.{own-in}
 use Rattle.steps.proofs.Tally.{not-ended, is-ended}
 use Rattle.steps.specs.Numbers.{ended-at, wordsOf, tallyOf}
-use Rattle.steps.specs.Kinds.{OfKind, InThen, InSecond}
+use Rattle.steps.specs.Kinds.{OfKind, InSecond}
+use Rattle.runner.proofs.Stages.{InThen}
 use Rattle.steps.specs.Flags.{flagOf}
 use Rattle.steps.specs.Tests.{CanTest, TestRanked}
 use Rattle.steps.specs.Lent.{Lent, lent, Around, Stands, Went, CanRun, HasRun}

@@ -20,9 +20,13 @@ use Rattle.steps.specs.Running.{Rooms, Ready}
 use Rattle.steps.proofs.LoadedNode.{control-argument, freezable-argument}
 use Rattle.steps.proofs.Children.{byte-is, own-in}
 use Rattle.steps.specs.Numbers.{places-of-row, wordsOf, tallyOf}
-use Rattle.steps.specs.Kinds.{OfKind, BothSuspended, NotBoth, Others}
+use Rattle.steps.specs.Kinds.{OfKind, BothSuspended, NotBoth}
 use Rattle.steps.specs.Lent.{Lent, lent, Around, Stands, CanRun, HasRun}
 use Rattle.steps.proofs.Context.{byte-at, byte-in, phase-at, phase-in}
+
+-- the terms of the kinds that are not told apart first
+abbrev pub Others : Term → Type 0
+Others t = (kind (prog t) ≢ par-kind) × (kind (prog t) ≢ await-kind) × (kind (prog t) ≢ seq-kind)
 
 module _ {skip : ℕ} {W : Term → Type 0} {table : List ℕ} {i : ℕ} {state m : List ℕ} {rooms : Rooms} (o : CanRun skip W (lent table state m rooms) i) where
   own-long : (k : ℕ) → k < 4 → k < length (o .1)
@@ -140,9 +144,6 @@ module _ {U : Term → Type 0} {table : List ℕ} {i : ℕ} {state m : List ℕ}
   module _ (x : n ≢ par-kind) (y : n ≢ await-kind) (z : n ≢ seq-kind) where
     pub to-others : CanRun 0 U (lent table state m rooms) i → CanRun 0 Others (lent table state m rooms) i
     to-others o = can-narrow (λ b p q a t h. other a h read x y z) o
-
-    pub by-others : {L′ : Lent} {r : ℕ} → HasRun 0 Others (lent table state m rooms) i L′ r → HasRun 0 U (lent table state m rooms) i L′ r
-    by-others run = widen (λ b p q a t h. other a h read x y z) run
 
 -- a kind that there is, from 12 on
 between : (k : ℕ) → 12 ≤ k → known k ≡ true → k ≢ 13 → k ≢ 14 → k ≢ 15 → k ≡ 12

@@ -1,4 +1,6 @@
 -- The laws, each file named after its subject.
+pub mod Slices
+pub mod Pieces
 pub mod FlagTables
 pub mod Children
 pub mod Done

@@ -43,10 +43,6 @@ module _ {table : List ℕ} {i s : ℕ} where
   unfolding Spells kind argumentLimit
   generate-placed h = omega (arith, event-placed h refl, h .spelled .1)
 
-  pub control-placed : {p : Program} → Placed table i (Control s p) → s < places
-  unfolding Spells kind argumentLimit
-  control-placed h = omega (arith, event-placed h refl, h .spelled .1)
-
   pub local-placed : {p : Program} → Placed table i (Local s p) → s < places
   unfolding Spells kind argumentLimit
   local-placed h = omega (arith, event-placed h refl, h .spelled .1)

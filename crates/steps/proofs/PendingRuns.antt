@@ -55,6 +55,11 @@ module _ {table : List ℕ} {i : ℕ} {state m : List ℕ} {rooms : Rooms} {befo
     counted : tallyOf m₁ ≡ set (tallyOf m) 3 (getD m parked-at 0 + length part)
     counted = ap tallyOf (p .numbers-is) ∙ (tally-3 m _ (o .numbers .long) ∙ ap (λ k. set (tallyOf m) 3 (getD m parked-at 0 + k)) part-long)
 
+-- what the row says of the end is as it was
+pub end-as-was : {table : List ℕ} {i a : ℕ} {state m store state₁ m₁ store₁ : List ℕ} → Parked table i a state m store state₁ m₁ store₁
+    → getD m₁ ended-at 0 ≡ getD m ended-at 0
+end-as-was {m = m} p = rw (p .numbers-is) (getD-set-other m parked-at ended-at _ 0 (λ e. omega arith))
+
 -- in the words of the needs
 module _ {table : List ℕ} {i : ℕ} {state m : List ℕ} {rooms : Rooms} where
   pub pending-placed : CanRun 1 Pending (lent table state m rooms) i → argumentAt table i < places

@@ -4,19 +4,16 @@ use mathlib.Core.Path.{_≡_}
 use mathlib.Core.Logic.{_≢_, _⊎_}
 use Rattle.junior.specs.Program.{kind}
 use Rattle.junior.specs.Term.{Term, prog}
-use Rattle.state.specs.Kinds.{seq-kind, par-kind, loop-kind, await-kind, when-kind, until-kind, freezable-kind, if-kind}
+use Rattle.state.specs.Kinds.{par-kind, when-kind, until-kind, freezable-kind, if-kind}
 use Rattle.state.specs.StateBytes.{head}
 use Rattle.steps.specs.Running.{Phase, KindPhase, Repeating}
 
--- how many of a node's own bytes a function does not look at: none, the phase, all four
+-- how many of a node's own bytes a function does not look at: none, or the phase
 abbrev pub all-seen : ℕ
 all-seen = 0
 
 abbrev pub phase-unseen : ℕ
 phase-unseen = 1
-
-abbrev pub own-unseen : ℕ
-own-unseen = 4
 
 -- those of a kind: each form tests for phase 3 itself
 abbrev pub OfKind : ℕ → Term → Type 0
@@ -26,10 +23,6 @@ OfKind k t = kind (prog t) ≡ k
 abbrev pub Repetition : Term → Type 0
 Repetition t = Repeating (kind (prog t))
 
--- those of the kinds that are not told apart first
-abbrev pub Others : Term → Type 0
-Others t = (kind (prog t) ≢ par-kind) × (kind (prog t) ≢ await-kind) × (kind (prog t) ≢ seq-kind)
-
 -- Pars with both branches suspended, and all others
 abbrev pub BothSuspended : Term → Type 0
 BothSuspended t = OfKind par-kind t × (head t .phase ≡ 0) × (head t .flags ≡ 0)
@@ -37,22 +30,22 @@ BothSuspended t = OfKind par-kind t × (head t .phase ≡ 0) × (head t .flags �
 abbrev pub NotBoth : Term → Type 0
 NotBoth t = OfKind par-kind t × (head t .phase ≡ 0 → head t .flags ≢ 0)
 
--- the kinds of a When and of an If
+-- the kinds of a When and of an If, and those terms; the same of an Until and a Freezable, which look at their test once the body has stopped
 abbrev pub Choosing : ℕ → Type 0
 Choosing k = (k ≡ when-kind) ⊎ (k ≡ if-kind)
 
--- a Seq, When, Until or If in its second child; a When or an If in its first; a Loop whose body begins; an Until*; a Freezable*
+abbrev pub Choice : Term → Type 0
+Choice t = Choosing (kind (prog t))
+
+abbrev pub Breaking : ℕ → Type 0
+Breaking k = (k ≡ until-kind) ⊎ (k ≡ freezable-kind)
+
+abbrev pub Break : Term → Type 0
+Break t = Breaking (kind (prog t))
+
+-- a Seq, When, Until or If in its second child; a Freezable*
 abbrev pub InSecond : Term → Type 0
 InSecond = Phase 2
-
-abbrev pub InThen : Term → Type 0
-InThen t = Choosing (kind (prog t)) × (head t .phase ≡ 1)
-
-abbrev pub Beginning : Term → Type 0
-Beginning = KindPhase loop-kind 0
-
-abbrev pub Starred : Term → Type 0
-Starred = KindPhase until-kind 1
 
 abbrev pub Pending : Term → Type 0
 Pending = KindPhase freezable-kind 1

@@ -1,8 +1,8 @@
 -- What the functions of a pass promise one another, over one record of all that is lent. No contract of a customer's call cites this file.
 use Prim.Native.Nat.{ℕ, _*_, _<_}
 use mathlib.Core.Path.{_≡_}
-use mathlib.Core.List.{List, _++_}
-use lib.ListN.{length}
+use mathlib.Core.List.{List, [], _++_}
+use lib.ListN.{length, getD}
 use denote.Ref.{RefT}
 use Rattle.junior.specs.Term.{Term}
 use Rattle.steps.specs.Running.{Rooms, rooms-of, Live, Runs}
@@ -19,18 +19,25 @@ pub record Lent : Type 0 where
 abbrev pub lent : List ℕ → List ℕ → List ℕ → Rooms → Lent
 lent table state numbers rooms = record { table = table; state = state; numbers = numbers; rooms = rooms }
 
+-- State and store are lent by one reference, to an array of two slices. What stands in a place of it; beyond its places there is nothing.
+abbrev pub slice-at : List (RefT (List ℕ)) → ℕ → RefT (List ℕ)
+slice-at slices place = getD slices place (record { ptr = (0, 0); name = 0; now = [] })
+
+abbrev pub state-in : List (RefT (List ℕ)) → RefT (List ℕ)
+state-in slices = slice-at slices 0
+
+abbrev pub store-in : List (RefT (List ℕ)) → RefT (List ℕ)
+store-in slices = slice-at slices 1
+
 -- what stands behind the references
-abbrev pub held :
-    RefT (RefT (List ℕ)) → RefT (RefT (List ℕ)) → RefT (List ℕ) → RefT (RefT (List ℕ)) → RefT (RefT (List ℕ)) → Lent
-held table state numbers atoms store =
-    lent (table .now .now) (state .now .now) (numbers .now) (rooms-of (atoms .now .now) (store .now .now))
+abbrev pub held : RefT (RefT (List ℕ)) → RefT (List (RefT (List ℕ))) → RefT (List ℕ) → RefT (RefT (List ℕ)) → Lent
+held table bytes numbers atoms =
+    lent (table .now .now) (state-in (bytes .now) .now) (numbers .now) (rooms-of (atoms .now .now) (store-in (bytes .now) .now))
 
--- the same for a node that parks nothing, whatever the store is; and for one that does no atom, whatever the row is
-abbrev pub besides : RefT (RefT (List ℕ)) → RefT (RefT (List ℕ)) → RefT (List ℕ) → RefT (RefT (List ℕ)) → List ℕ → Lent
-besides table state numbers atoms store = lent (table .now .now) (state .now .now) (numbers .now) (rooms-of (atoms .now .now) store)
-
-abbrev pub storing : RefT (RefT (List ℕ)) → RefT (RefT (List ℕ)) → RefT (List ℕ) → RefT (RefT (List ℕ)) → List ℕ → Lent
-storing table state numbers store row = lent (table .now .now) (state .now .now) (numbers .now) (rooms-of row (store .now .now))
+-- the same for a node that does no atom, whatever the row is
+abbrev pub storing : RefT (RefT (List ℕ)) → RefT (List (RefT (List ℕ))) → RefT (List ℕ) → List ℕ → Lent
+storing table bytes numbers row =
+    lent (table .now .now) (state-in (bytes .now) .now) (numbers .now) (rooms-of row (store-in (bytes .now) .now))
 
 -- the bytes `part` of node i and all below it stand in the whole state
 pub record Around (state : List ℕ) (i : ℕ) (before part behind : List ℕ) : Type 0 where
@@ -61,16 +68,19 @@ abbrev pub HasRun : ℕ → (Term → Type 0) → Lent → ℕ → Lent → ℕ 
 HasRun skip W L i L′ r =
     (before part behind : List ℕ) → Stands skip W L i before part behind → Went skip W L i before part behind L′ r
 
--- the same where a room isn't looked at: whatever it is, it stays
+-- the same where the row isn't looked at: whatever it is, it stays
 abbrev pub CanRunBeside : ℕ → (Term → Type 0) → (List ℕ → Lent) → ℕ → Type 0
-CanRunBeside skip W L i = (room : List ℕ) × CanRun skip W (L room) i
+CanRunBeside skip W L i = (row : List ℕ) × CanRun skip W (L row) i
 
 abbrev pub HasRunBeside : ℕ → (Term → Type 0) → (List ℕ → Lent) → ℕ → (List ℕ → Lent) → ℕ → Type 0
-HasRunBeside skip W L i L′ r = (room : List ℕ) → HasRun skip W (L room) i (L′ room) r
+HasRunBeside skip W L i L′ r = (row : List ℕ) → HasRun skip W (L row) i (L′ row) r
 
--- the slices behind the thin references are the same ones
+-- the slices behind a thin reference, or in the two places of the array, are the same ones
 abbrev pub Same : RefT (List ℕ) → RefT (List ℕ) → Type 0
 Same slice slice′ = slice′ .name ≡ slice .name
 
-abbrev pub Named : RefT (List ℕ) → RefT (List ℕ) → RefT (List ℕ) → RefT (List ℕ) → RefT (List ℕ) → RefT (List ℕ) → Type 0
-Named state state′ atoms atoms′ store store′ = Same state state′ × Same atoms atoms′ × Same store store′
+abbrev pub SameBytes : List (RefT (List ℕ)) → List (RefT (List ℕ)) → Type 0
+SameBytes bytes bytes′ = Same (state-in bytes) (state-in bytes′) × Same (store-in bytes) (store-in bytes′)
+
+abbrev pub Named : List (RefT (List ℕ)) → List (RefT (List ℕ)) → RefT (List ℕ) → RefT (List ℕ) → Type 0
+Named bytes bytes′ atoms atoms′ = SameBytes bytes bytes′ × Same atoms atoms′

@@ -6,10 +6,12 @@ use mathlib.Core.List.{List, _∷_}
 use lib.Dec.{eqb}
 use lib.ListN.{getD, drop, set, replicate}
 use borrow.Rule.Slice.PartMut.{midOf, putMid}
+use denote.Ref.{RefT}
 use Rattle.events.specs.Members.{marks}
 use Rattle.table.specs.Records.{argumentAt, sizeAt}
 use Rattle.steps.specs.Running.{end-declared}
 use Rattle.steps.specs.Numbers.{parked-at, wordsOf, tallyOf}
+use Rattle.steps.specs.Lent.{state-in, store-in, SameBytes}
 
 -- node i, in this phase, is pending, the end isn't declared, and its event is absent
 abbrev pub staysPending : List ℕ → ℕ → ℕ → List ℕ → Bool
@@ -26,3 +28,9 @@ pub record Parked (table : List ℕ) (i event : ℕ) (state numbers store state�
   pub store-is :
       store′ ≡ putMid (getD numbers parked-at 0) (4 * sizeAt table i) store (pieceFrom event (i + 1) (midOf (4 * i) (4 * sizeAt table i) state))
   pub numbers-is : numbers′ ≡ set numbers parked-at (getD numbers parked-at 0 + 4 * sizeAt table i)
+
+-- before that, the bytes of so many nodes are copied from the state to the store
+pub record Copied (from to nodes : ℕ) (slices slices′ : List (RefT (List ℕ))) : Type 0 where
+  pub state-is : state-in slices′ .now ≡ state-in slices .now
+  pub store-is : store-in slices′ .now ≡ putMid to (4 * nodes) (store-in slices .now) (midOf from (4 * nodes) (state-in slices .now))
+  pub same : SameBytes slices slices′

@@ -7,7 +7,7 @@ ghost use lib.ListN.{length, getD, set};
 ghost use Rattle.table.specs.Inside.Ranks.{unranked};
 ghost use Rattle.state.specs.Kinds.{nothing-kind, stop-kind, atom-kind, generate-kind, await-kind};
 ghost use Rattle.steps.specs.Kinds.{OfKind, all-seen};
-ghost use Rattle.steps.specs.Lent.{besides, CanRunBeside, HasRunBeside, Same};
+ghost use Rattle.steps.specs.Lent.{state-in, held, storing, CanRun, HasRun, CanRunBeside, HasRunBeside, SameBytes, Named};
 ghost use Rattle.steps.specs.Numbers.{wordsOf, tallyOf};
 ghost use Rattle.steps.specs.Running.{TestRead};
 ghost use Rattle.steps.specs.Tests.{CanTest, TestRanked, loneEvent};
@@ -21,6 +21,7 @@ use crate::numbers::MOVED;
 use crate::numbers::NUMBERS;
 use crate::numbers::put_event;
 use crate::phases::GONE;
+use crate::phases::STATE;
 use events::marked;
 use junior::Verdict;
 use table::reading::read_configuration;
@@ -39,17 +40,16 @@ pub const SAT: u8 = 2;
 pub fn run_nothing(
     table: &&[u8],
     i: usize,
-    state: &mut &mut [u8],
+    bytes: &mut [&mut [u8]; 2],
     numbers: &mut [u64; NUMBERS],
-    atoms: &mut &mut [u16],
 ) -> u8
-    requires { ⌜ CanRunBeside all-seen (OfKind nothing-kind) (besides table state numbers atoms) i ⌝ }
+    requires { ⌜ CanRunBeside all-seen (OfKind nothing-kind) (storing table bytes numbers) i ⌝ }
     ensures { λ r.
-        ⌜ HasRunBeside all-seen (OfKind nothing-kind) (besides (table .entry) (state .entry) (numbers .entry) (atoms .entry)) i
-        (besides (table .exit) (state .exit) (numbers .exit) (atoms .exit)) r ⌝ }
-    ensures { λ r. ⌜ Same (now (state .entry)) (now (state .exit)) × Same (now (atoms .entry)) (now (atoms .exit)) ⌝ }
+        ⌜ HasRunBeside all-seen (OfKind nothing-kind) (storing (table .entry) (bytes .entry) (numbers .entry)) i
+        (storing (table .exit) (bytes .exit) (numbers .exit)) r ⌝ }
+    ensures { λ r. ⌜ SameBytes (now (bytes .entry)) (now (bytes .exit)) ⌝ }
 {
-    state[4 * i] = 0;
+    bytes[STATE][4 * i] = 0;
     TERM
 }
 
@@ -57,21 +57,20 @@ pub fn run_nothing(
 pub fn run_stop(
     table: &&[u8],
     i: usize,
-    state: &mut &mut [u8],
+    bytes: &mut [&mut [u8]; 2],
     numbers: &mut [u64; NUMBERS],
-    atoms: &mut &mut [u16],
 ) -> u8
-    requires { ⌜ CanRunBeside all-seen (OfKind stop-kind) (besides table state numbers atoms) i ⌝ }
+    requires { ⌜ CanRunBeside all-seen (OfKind stop-kind) (storing table bytes numbers) i ⌝ }
     ensures { λ r.
-        ⌜ HasRunBeside all-seen (OfKind stop-kind) (besides (table .entry) (state .entry) (numbers .entry) (atoms .entry)) i
-        (besides (table .exit) (state .exit) (numbers .exit) (atoms .exit)) r ⌝ }
-    ensures { λ r. ⌜ Same (now (state .entry)) (now (state .exit)) × Same (now (atoms .entry)) (now (atoms .exit)) ⌝ }
+        ⌜ HasRunBeside all-seen (OfKind stop-kind) (storing (table .entry) (bytes .entry) (numbers .entry)) i
+        (storing (table .exit) (bytes .exit) (numbers .exit)) r ⌝ }
+    ensures { λ r. ⌜ SameBytes (now (bytes .entry)) (now (bytes .exit)) ⌝ }
 {
-    if state[4 * i] == GONE {
-        state[4 * i] = 0;
+    if bytes[STATE][4 * i] == GONE {
+        bytes[STATE][4 * i] = 0;
         return TERM;
     }
-    state[4 * i] = GONE;
+    bytes[STATE][4 * i] = GONE;
     STOP
 }
 
@@ -79,18 +78,18 @@ pub fn run_stop(
 pub fn run_atom(
     table: &&[u8],
     i: usize,
-    state: &mut &mut [u8],
+    bytes: &mut [&mut [u8]; 2],
     numbers: &mut [u64; NUMBERS],
     atoms: &mut &mut [u16],
 ) -> u8
-    requires { ⌜ CanRunBeside all-seen (OfKind atom-kind) (besides table state numbers atoms) i ⌝ }
+    requires { ⌜ CanRun all-seen (OfKind atom-kind) (held table bytes numbers atoms) i ⌝ }
     ensures { λ r.
-        ⌜ HasRunBeside all-seen (OfKind atom-kind) (besides (table .entry) (state .entry) (numbers .entry) (atoms .entry)) i
-        (besides (table .exit) (state .exit) (numbers .exit) (atoms .exit)) r ⌝ }
-    ensures { λ r. ⌜ Same (now (state .entry)) (now (state .exit)) × Same (now (atoms .entry)) (now (atoms .exit)) ⌝ }
+        ⌜ HasRun all-seen (OfKind atom-kind) (held (table .entry) (bytes .entry) (numbers .entry) (atoms .entry)) i
+        (held (table .exit) (bytes .exit) (numbers .exit) (atoms .exit)) r ⌝ }
+    ensures { λ r. ⌜ Named (now (bytes .entry)) (now (bytes .exit)) (now (atoms .entry)) (now (atoms .exit)) ⌝ }
 {
-    if state[4 * i] == GONE {
-        state[4 * i] = 0;
+    if bytes[STATE][4 * i] == GONE {
+        bytes[STATE][4 * i] = 0;
         return TERM;
     }
     let done = put_atom(*atoms, numbers[ATOMS] as usize, argument_at(*table, i));
@@ -111,18 +110,17 @@ fn put_atom(atoms: &mut [u16], at: usize, atom: usize) -> usize
 pub fn run_generate(
     table: &&[u8],
     i: usize,
-    state: &mut &mut [u8],
+    bytes: &mut [&mut [u8]; 2],
     numbers: &mut [u64; NUMBERS],
-    atoms: &mut &mut [u16],
 ) -> u8
-    requires { ⌜ CanRunBeside all-seen (OfKind generate-kind) (besides table state numbers atoms) i ⌝ }
+    requires { ⌜ CanRunBeside all-seen (OfKind generate-kind) (storing table bytes numbers) i ⌝ }
     ensures { λ r.
-        ⌜ HasRunBeside all-seen (OfKind generate-kind) (besides (table .entry) (state .entry) (numbers .entry) (atoms .entry)) i
-        (besides (table .exit) (state .exit) (numbers .exit) (atoms .exit)) r ⌝ }
-    ensures { λ r. ⌜ Same (now (state .entry)) (now (state .exit)) × Same (now (atoms .entry)) (now (atoms .exit)) ⌝ }
+        ⌜ HasRunBeside all-seen (OfKind generate-kind) (storing (table .entry) (bytes .entry) (numbers .entry)) i
+        (storing (table .exit) (bytes .exit) (numbers .exit)) r ⌝ }
+    ensures { λ r. ⌜ SameBytes (now (bytes .entry)) (now (bytes .exit)) ⌝ }
 {
-    if state[4 * i] == GONE {
-        state[4 * i] = 0;
+    if bytes[STATE][4 * i] == GONE {
+        bytes[STATE][4 * i] = 0;
         return TERM;
     }
     put_event(numbers, argument_at(*table, i), true);
@@ -134,23 +132,22 @@ pub fn run_generate(
 pub fn run_await(
     table: &&[u8],
     i: usize,
-    state: &mut &mut [u8],
+    bytes: &mut [&mut [u8]; 2],
     numbers: &mut [u64; NUMBERS],
-    atoms: &mut &mut [u16],
 ) -> u8
-    requires { ⌜ CanRunBeside all-seen (OfKind await-kind) (besides table state numbers atoms) i ⌝ }
+    requires { ⌜ CanRunBeside all-seen (OfKind await-kind) (storing table bytes numbers) i ⌝ }
     ensures { λ r.
-        ⌜ HasRunBeside all-seen (OfKind await-kind) (besides (table .entry) (state .entry) (numbers .entry) (atoms .entry)) i
-        (besides (table .exit) (state .exit) (numbers .exit) (atoms .exit)) r ⌝ }
-    ensures { λ r. ⌜ Same (now (state .entry)) (now (state .exit)) × Same (now (atoms .entry)) (now (atoms .exit)) ⌝ }
+        ⌜ HasRunBeside all-seen (OfKind await-kind) (storing (table .entry) (bytes .entry) (numbers .entry)) i
+        (storing (table .exit) (bytes .exit) (numbers .exit)) r ⌝ }
+    ensures { λ r. ⌜ SameBytes (now (bytes .entry)) (now (bytes .exit)) ⌝ }
 {
-    let phase = state[4 * i];
+    let phase = bytes[STATE][4 * i];
     if phase == GONE {
-        state[4 * i] = 0;
+        bytes[STATE][4 * i] = 0;
         return TERM;
     }
     if lone_event(*table, i, phase, numbers) {
-        return run_lone(table, i, state, numbers, atoms);
+        return run_lone(table, i, bytes, numbers);
     }
     let rank = rank_of(read_test(table, i, numbers));
     if rank == UNKNOWN {
@@ -162,7 +159,7 @@ pub fn run_await(
     if numbers[ENDED] == 0 {
         return TERM;
     }
-    state[4 * i] = GONE;
+    bytes[STATE][4 * i] = GONE;
     STOP
 }
 
@@ -181,21 +178,20 @@ pub fn lone_event(table: &[u8], i: usize, phase: u8, numbers: &[u64; NUMBERS]) -
 pub fn run_lone(
     table: &&[u8],
     i: usize,
-    state: &mut &mut [u8],
+    bytes: &mut [&mut [u8]; 2],
     numbers: &mut [u64; NUMBERS],
-    atoms: &mut &mut [u16],
 ) -> u8
-    requires { ⌜ CanRunBeside all-seen (OfKind await-kind) (besides table state numbers atoms) i ⌝ }
-    requires { ⌜ loneEvent (now (now table)) i (getD (now (now state)) (4 * i) 0) ≡ true ⌝ }
+    requires { ⌜ CanRunBeside all-seen (OfKind await-kind) (storing table bytes numbers) i ⌝ }
+    requires { ⌜ loneEvent (now (now table)) i (getD (now (state-in (now bytes))) (4 * i) 0) ≡ true ⌝ }
     ensures { λ r.
-        ⌜ HasRunBeside all-seen (OfKind await-kind) (besides (table .entry) (state .entry) (numbers .entry) (atoms .entry)) i
-        (besides (table .exit) (state .exit) (numbers .exit) (atoms .exit)) r ⌝ }
-    ensures { λ r. ⌜ Same (now (state .entry)) (now (state .exit)) × Same (now (atoms .entry)) (now (atoms .exit)) ⌝ }
+        ⌜ HasRunBeside all-seen (OfKind await-kind) (storing (table .entry) (bytes .entry) (numbers .entry)) i
+        (storing (table .exit) (bytes .exit) (numbers .exit)) r ⌝ }
+    ensures { λ r. ⌜ SameBytes (now (bytes .entry)) (now (bytes .exit)) ⌝ }
 {
     let c = numbers[BASE] as usize + 4 * argument_at(*table, i);
     if marked(numbers, part_event(*table, c)) {
         if numbers[ENDED] != 0 {
-            state[4 * i] = GONE;
+            bytes[STATE][4 * i] = GONE;
             return STOP;
         }
         return TERM;

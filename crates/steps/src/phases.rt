@@ -5,11 +5,15 @@ ghost use Prim.Native.Nat.{_+_, _-_, _*_, _<_, _≤_, _/_, _%_};
 ghost use lib.Dec.{eqb};
 ghost use lib.ListN.{length, set, replicate};
 ghost use borrow.Rule.Slice.PartMut.{putMid};
-ghost use Rattle.state.specs.Kinds.{par-kind, seq-kind};
+ghost use Rattle.state.specs.Kinds.{par-kind};
 use crate::kinds::PAR;
-use crate::kinds::SEQ;
 use state::clear;
 use table::records::wide;
+
+// Where the state and the store's free part stand among the bytes that are lent.
+pub const STATE: usize = 0;
+
+pub const STORE: usize = 1;
 
 // Where the flags and the count stand behind the phase.
 pub const FLAGS: usize = 1;
@@ -37,16 +41,6 @@ pub fn both_suspended(phase: u8, flags: u8) -> bool
         return flags == 0;
     }
     false
-}
-
-// Whether a node is a Par or a Seq, by its kind.
-pub fn par_or_seq(kind: usize) -> bool
-    ensures { λ r. ⌜ r ≡ (eqb kind par-kind || eqb kind seq-kind) ⌝ }
-{
-    if kind == PAR {
-        return true;
-    }
-    kind == SEQ
 }
 
 // Whether a node is such a Par.

@@ -1,14 +1,13 @@
--- `run_passes` meets its contract: its MIR is walked by hand, since a slice that is a parameter is lent on as a `&mut &mut`, which the covered
--- way doesn't know (`Thin` in lending has the law of it). The MIR, with the names of the source:
---     _9 = _2; _6 = _9            let mut s = state;
---     _10 = _4; _7 = _10          let mut w = atoms;
---     _11 = _5; _8 = _11          let mut f = free;
---     _12 = &_6; _13 = &_7; _14 = &_8
---     _0 = run_from(_1, _12, _3, _13, _14)
+-- `run_passes` meets its contract: its MIR is walked by hand, since slices that are parameters are lent on as a `&mut [&mut; 2]` and a
+-- `&mut &mut`, which the covered way doesn't know (`Two` and `Thin` in lending have the laws of it). The MIR, with the names of the source:
+--     _8 = _2; _9 = &*_5.0; _10 = [_9, _5.1]; _6 = [_8, _10]      let mut bytes = [state, free];
+--     _11 = _4; _7 = _11                                          let mut w = atoms;
+--     _12 = &_6; _13 = &_7
+--     _0 = run_from(_1, _12, _3, _13)
 --     return
 -- Of `run_from` nothing is known but that it meets its contract; no field of what is handed in or of the answer is walked.
--- Letters: t, s, e, w, f are the table, the state, what is handed in, the row of atoms, the store's free part (also the locals s, w and f); κ a
--- lifetime and its token.
+-- Letters: t, s, e, w, f are the table, the state, what is handed in, the row of atoms, the store's free part, b the array of s and f (also the
+-- locals bytes and w); κ a lifetime and its token.
 -- In brackets stands what is in hand at a point of the walk, counted from 0; `…` is what nothing asks for any more. A local _i is two
 -- items, its memory and the right to free it; a local that is lent leaves the second in its place.
 use mathlib.Core.Path.{_≡_, refl}
@@ -27,14 +26,16 @@ use ghost.Atoms.{Atoms}
 use contract.Monad.{Fun, fact}
 use contract.Running.{givenOf, tables, tablesOf}
 use types.Kit.{Given, Item, ‵, raw, some, later, _⊛_, ⋆, _$_, _∵_, !, qed, by, move, keep, drop, use1, use2, use3, split, join, pick}
-use types.Kit.{fsplit, fjoin, feqL, suffices, frame, await, done}
-use types.Run.{look, init, forget, stop, from, load, addr, of-opd, and-then, no-more, assigns, land, returns}
+use types.Kit.{group, fsplit, fjoin, feqL, suffices, frame, await, done}
+use types.Run.{look, init, forget, stop, hop, fld, from, load, addr, of-opd, and-then, no-more, assigns, land, returns}
 use types.Run.{enter, alloc1, alloc0, params1, pass1, pass0, free1, free0}
+use types.Part.{agg, whole, sub, look-in}
 use sound.WpLaws.{FmC, fmOf, WpFn-mono}
 use denote.RattleType.{owns}
 use denote.Laws.{Is, shows}
 use denote.Builtin.{u8, u16}
 use denote.Ref.{RefT}
+use denote.Array.{arrayVal}
 use denote.Slice.{sliceVal, slice-vals, shr-slice-tells, mut-slice-tells, ShrSlice, MutSlice, Room}
 use denote.Steps.{peeks, heard, nothing}
 use denote.Struct.Laws as LL
@@ -50,8 +51,10 @@ use denote.Triple.Walked.{walk-meets}
 use denote.Exit.{yes}
 use Rattle.events.specs.Members.{members}
 use Rattle.lending.proofs.Thin.{Loan, lifetime, half₁, half₂, Thin, thin, OnLoan, Back, lends-thin, ends-thin}
+use Rattle.lending.proofs.Two.{Loans, Two, two, OnLoan as BothOnLoan, Back as BothBack, lends-two, ends-two}
 use Rattle.kernel.specs.declared.passes.HandedIn.{HandedIn}
 use Rattle.kernel.specs.declared.passes.Ending.{Ending}
+use Rattle.steps.specs.Lent.{state-in, store-in}
 use Rattle.kernel.specs.Passes.{wordValues, Startable, RanFree, RanBehind}
 use Rattle.kernel.proofs.passes.HandedIn as I
 use Rattle.kernel.proofs.passes.HandedIn.Laws as I′
@@ -152,32 +155,29 @@ module _ {M : Type 1} (𝓤 : URA M) (H : Heap 𝓤) (A : Atoms 𝓤) (W : Given
       frame ! $ nothing ! $ move ! (3 ∷ 0 ∷ []) $ fjoin ! $ move ! (2 ∷ 0 ∷ []) $ fjoin ! $ nothing ! $ fjoin ! $ move ! (1 ∷ 0 ∷ []) $ fjoin ! $
       nothing ! $ fjoin ! $ done !
 
-  -- the call, where s stands at block l, w at block m and f at block o, lent by n, k and j
-  module _ (l m o : ℕ) (n k j : Loan) where
-    abbrev s-thin : RefT Slice
-    s-thin = thin u8 κs qs sγ sb so l n state
+  -- the call, where b stands at block l and w at block m, lent by n and k
+  module _ (l m : ℕ) (n : Loans) (k : Loan) where
+    abbrev b-two : RefT (List Slice)
+    b-two = two u8 κs κf qs qf sγ fγ sb so fb fo l n state free
 
     abbrev w-thin : RefT Slice
     w-thin = thin u16 κw qw wγ wb wo m k atoms
 
-    abbrev f-thin : RefT Slice
-    f-thin = thin u8 κf qf fγ fb fo o j free
+    abbrev lives : Lft × (Lft × (Lft × (Lft × (Lft × Unit {0}))))
+    lives = (κt, (lifetime (n .first), (lifetime (n .first), (lifetime k, (lifetime k, tt)))))
 
-    abbrev lives : Lft × (Lft × (Lft × (Lft × (Lft × (Lft × (Lft × Unit {0}))))))
-    lives = (κt, (lifetime n, (lifetime n, (lifetime k, (lifetime k, (lifetime j, (lifetime j, tt)))))))
+    abbrev passed : Slice × (RefT (List Slice) × (HandedIn × (RefT Slice × Unit {0})))
+    passed = (t, (b-two, (handed, (w-thin, tt))))
 
-    abbrev passed : Slice × (RefT Slice × (HandedIn × (RefT Slice × (RefT Slice × Unit {0}))))
-    passed = (t, (s-thin, (handed, (w-thin, (f-thin, tt)))))
-
-    abbrev passed-vals : List Val × (List Val × (List Val × (List Val × (List Val × Unit {0}))))
-    passed-vals = (tv ∷ [], (vptr l 0 ∷ [], (ev ∷ [], (vptr m 0 ∷ [], (vptr o 0 ∷ [], tt)))))
+    abbrev passed-vals : List Val × (List Val × (List Val × (List Val × Unit {0})))
+    passed-vals = (tv ∷ [], (vptr l 0 ∷ [], (ev ∷ [], (vptr m 0 ∷ [], tt))))
 
     abbrev at-call : From 𝓤 H A memory run .Ghost
     at-call = (
       (
         lives,
-        (qt, (half₁, (half₂, (half₁, (half₂, (half₁, (half₂, tt))))))),
-        ((λ i h. h), ((λ i h. h), ((λ i h. h), tt))),
+        (qt, (half₁, (half₂, (half₁, (half₂, tt))))),
+        ((λ i h. h), ((λ i h. h), tt)),
         passed,
         passed-vals,
       ),
@@ -186,14 +186,12 @@ module _ {M : Type 1} (𝓤 : URA M) (H : Heap 𝓤) (A : Atoms 𝓤) (W : Given
 
     abbrev tokens : Item 𝓤
     tokens =
-        ‵ (flft κt qt) ⊛ ‵ (flft (lifetime n) half₁) ⊛ ‵ (flft (lifetime n) half₂) ⊛ ‵ (flft (lifetime k) half₁) ⊛ ‵ (flft (lifetime k) half₂)
-        ⊛ ‵ (flft (lifetime j) half₁) ⊛ ‵ (flft (lifetime j) half₂) ⊛ ‵ ftrue
+        ‵ (flft κt qt) ⊛ ‵ (flft (lifetime (n .first)) half₁) ⊛ ‵ (flft (lifetime (n .first)) half₂) ⊛ ‵ (flft (lifetime k) half₁)
+        ⊛ ‵ (flft (lifetime k) half₂) ⊛ ‵ ftrue
 
     abbrev Given-up : Fml
     Given-up =
-        owns
-        (ShrSlice (named 0) κt u8 ∷ Thin u8 (named 1) (named 2) n ∷ I.the-row ∷ Thin u16 (named 3) (named 4) k ∷ Thin u8 (named 5) (named 6) j ∷ [])
-        passed passed-vals
+        owns (ShrSlice (named 0) κt u8 ∷ Two u8 (named 1) (named 2) n ∷ I.the-row ∷ Thin u16 (named 3) (named 4) k ∷ []) passed passed-vals
 
     asks : Startable (t .now) state atoms free → ent 𝓤 (⋆ 𝓤 H A (tokens ∷ ‵ Given-up ∷ [])) (From 𝓤 H A memory run .pre at-call)
     asks start = qed W (tokens ∷ ‵ Given-up ∷ []) ∵ says ! start $ frame ! $ done !
@@ -204,29 +202,24 @@ module _ {M : Type 1} (𝓤 : URA M) (H : Heap 𝓤) (A : Atoms 𝓤) (W : Given
     abbrev Ensured : Ending → SProp 𝓤
     Ensured r = ensured 𝓤 H A run-from.ended (run-from.clauses 𝓤 H A memory run) lives passed tt r
 
-    -- what is heard of it: x, y and z are what it left in s, in w and in f
-    abbrev Heard : Slice → Slice → Slice → Ending → Type 0
-    Heard x y z r =
-        RanBehind (t .now) (s-thin .now) (members (handed .events)) (wordValues (handed .low) (handed .high)) (w-thin .now) (f-thin .now) x y z r
+    -- what is heard of it: xs and y are what it left in b and in w
+    abbrev Heard : List Slice → Slice → Ending → Type 0
+    Heard xs y r =
+        RanBehind (t .now) (state-in (b-two .now)) (members (handed .events)) (wordValues (handed .low) (handed .high)) (w-thin .now)
+        (store-in (b-two .now)) (state-in xs) y (store-in xs) r
 
-  -- the three loans, of the locals at block l
-  abbrev S-lent : ℕ → Loan → Item 𝓤
-  S-lent l = OnLoan u8 κs qs sγ sb so l 𝓤 H A W (named 1) (named 1) (named 2) state
+  -- the two loans, of the locals at block l
+  abbrev B-lent : ℕ → Loans → Item 𝓤
+  B-lent l = BothOnLoan u8 κs κf qs qf sγ fγ sb so fb fo l 𝓤 H A W (named 1) (named 3) (named 1) (named 2) state free
 
-  abbrev S-back : ℕ → Slice → Item 𝓤
-  S-back l = Back u8 κs qs sγ sb so l 𝓤 H A W (named 1) (named 1) (named 2) state
+  abbrev B-back : ℕ → List Slice → Item 𝓤
+  B-back l = BothBack u8 κs κf qs qf sγ fγ sb so fb fo l 𝓤 H A W (named 1) (named 3) (named 1) (named 2) state free
 
   abbrev W-lent : ℕ → Loan → Item 𝓤
   W-lent l = OnLoan u16 κw qw wγ wb wo l 𝓤 H A W (named 2) (named 3) (named 4) atoms
 
   abbrev W-back : ℕ → Slice → Item 𝓤
   W-back l = Back u16 κw qw wγ wb wo l 𝓤 H A W (named 2) (named 3) (named 4) atoms
-
-  abbrev F-lent : ℕ → Loan → Item 𝓤
-  F-lent l = OnLoan u8 κf qf fγ fb fo l 𝓤 H A W (named 3) (named 5) (named 6) free
-
-  abbrev F-back : ℕ → Slice → Item 𝓤
-  F-back l = Back u8 κf qf fγ fb fo l 𝓤 H A W (named 3) (named 5) (named 6) free
 
   module _ (t-room : Room u8 (length (t .now))) (s-room : Room u8 (length state)) (w-room : Room u16 (length atoms))
       (f-room : Room u8 (length free)) (ev-is : Is I.the-row handed (ev ∷ [])) (C : Calls 𝓤 H) (Λ : Loops 𝓤 H) (fm : FmC 𝓤 H (W .laws) C)
@@ -244,6 +237,9 @@ module _ {M : Type 1} (𝓤 : URA M) (H : Heap 𝓤) (A : Atoms 𝓤) (W : Given
     abbrev f-fits : Unit {0} × WT fv
     f-fits = (tt, (tt, (record { fits = f-room .0 }, tt)))
 
+    abbrev b-fits : Unit {0} × WT (arrayVal (sv ∷ fv ∷ []))
+    b-fits = (tt, (s-fits .1, (f-fits .1, tt)))
+
     walk : Startable (t .now) state atoms free
         → ent 𝓤 (onEntry 𝓤 H A run-passes.signature (κt, (κs, (κw, (κf, tt)))) (qt, (qs, (qw, (qf, tt)))) args vals)
         (WpFn 𝓤 H C Λ code.function (tv ∷ sv ∷ ev ∷ wv ∷ fv ∷ []) Post)
@@ -252,104 +248,95 @@ module _ {M : Type 1} (𝓤 : URA M) (H : Heap 𝓤) (A : Atoms 𝓤) (W : Given
         ∷ ‵ (owns (ShrSlice (named 0) κt u8 ∷ MutSlice (named 1) κs u8 ∷ I.the-row ∷ MutSlice (named 2) κw u16 ∷ MutSlice (named 3) κf u8 ∷ []) args vals)
         ∷ []) ∵
         enter ! C Λ code.function (tv ∷ sv ∷ ev ∷ wv ∷ fv ∷ []) _ $
-        -- room for the locals _0 to _14; each gives two items, and the last stands first: _i at 28 - 2i
+        -- room for the locals _0 to _13; each gives two items, and the last stands first: _i at 26 - 2i
         alloc1 ! (λ l₀. alloc1 ! (λ l₁. alloc1 ! (λ l₂. alloc1 ! (λ l₃. alloc1 ! (λ l₄. alloc1 ! (λ l₅. alloc1 ! (λ l₆.
         alloc1 ! (λ l₇. alloc1 ! (λ l₈. alloc1 ! (λ l₉. alloc1 ! (λ l₁₀. alloc1 ! (λ l₁₁. alloc1 ! (λ l₁₂. alloc1 ! (λ l₁₃.
-        alloc1 ! (λ l₁₄. alloc0 ! $ params1 ! $
+        alloc0 ! $ params1 ! $
         -- the parameters, _1 to _5
-        pass1 ! (init ! 26 refl t-fits) $
-        pass1 ! (init ! 24 refl s-fits) $
-        pass1 ! (init ! 22 refl (LL.lawful I.the-type I′.the-laws 𝓤 H A W .typed handed _ ev-is .0)) $
-        pass1 ! (init ! 20 refl w-fits) $
-        pass1 ! (init ! 18 refl f-fits) $ pass0 ! $
-        -- _9 = _2
-        assigns ! (of-opd ! (load ! (from ! (stop !)) (look ! 24 refl))) (from ! (stop !)) (init ! 10 refl s-fits) $
-        -- _6 = _9
-        assigns ! (of-opd ! (load ! (from ! (stop !)) (look ! 10 refl))) (from ! (stop !)) (init ! 16 refl s-fits) $
-        -- _10 = _4
-        assigns ! (of-opd ! (load ! (from ! (stop !)) (look ! 20 refl))) (from ! (stop !)) (init ! 8 refl w-fits) $
-        -- _7 = _10
-        assigns ! (of-opd ! (load ! (from ! (stop !)) (look ! 8 refl))) (from ! (stop !)) (init ! 14 refl w-fits) $
-        -- _11 = _5
-        assigns ! (of-opd ! (load ! (from ! (stop !)) (look ! 18 refl))) (from ! (stop !)) (init ! 6 refl f-fits) $
-        -- _8 = _11
-        assigns ! (of-opd ! (load ! (from ! (stop !)) (look ! 6 refl))) (from ! (stop !)) (init ! 12 refl f-fits) $
+        pass1 ! (init ! 24 refl t-fits) $
+        pass1 ! (init ! 22 refl s-fits) $
+        pass1 ! (init ! 20 refl (LL.lawful I.the-type I′.the-laws 𝓤 H A W .typed handed _ ev-is .0)) $
+        pass1 ! (init ! 18 refl w-fits) $
+        pass1 ! (init ! 16 refl f-fits) $ pass0 ! $
+        -- _8 = _2
+        assigns ! (of-opd ! (load ! (from ! (stop !)) (look ! 22 refl))) (from ! (stop !)) (init ! 10 refl s-fits) $
+        -- _9 = &*_5.0
+        assigns ! (addr ! (from ! (fld ! refl (hop ! (look-in ! 16 (sub ! 0 refl (whole !))) (stop !))))) (from ! (stop !)) (init ! 8 refl (tt, tt)) $
+        -- _10 = [_9, _5.1]
+        assigns ! (agg ! (and-then ! (load ! (from ! (stop !)) (look ! 8 refl))
+        (and-then ! (load ! (from ! (fld ! refl (stop !))) (look-in ! 16 (sub ! 1 refl (whole !)))) (no-more !))))
+        (from ! (stop !)) (init ! 6 refl f-fits) $
+        -- _6 = [_8, _10]
+        assigns ! (agg ! (and-then ! (load ! (from ! (stop !)) (look ! 10 refl)) (and-then ! (load ! (from ! (stop !)) (look ! 6 refl)) (no-more !))))
+        (from ! (stop !)) (init ! 14 refl b-fits) $
+        -- _11 = _4
+        assigns ! (of-opd ! (load ! (from ! (stop !)) (look ! 18 refl))) (from ! (stop !)) (init ! 4 refl w-fits) $
+        -- _7 = _11
+        assigns ! (of-opd ! (load ! (from ! (stop !)) (look ! 4 refl))) (from ! (stop !)) (init ! 12 refl w-fits) $
         -- _12 = &_6
-        assigns ! (addr ! (from ! (stop !))) (from ! (stop !)) (init ! 4 refl (tt, tt)) $
-        -- _13 = &_7
         assigns ! (addr ! (from ! (stop !))) (from ! (stop !)) (init ! 2 refl (tt, tt)) $
-        -- _14 = &_8
+        -- _13 = &_7
         assigns ! (addr ! (from ! (stop !))) (from ! (stop !)) (init ! 0 refl (tt, tt)) $
         -- what the parameters own, and the tokens, are taken apart
-        move ! (31 ∷ []) $ fsplit ! $ move ! (1 ∷ []) $ fsplit ! $ move ! (1 ∷ []) $ fsplit ! $ move ! (1 ∷ []) $ fsplit ! $ move ! (1 ∷ []) $ fsplit ! $
-        move ! (36 ∷ []) $ split ! $ move ! (1 ∷ []) $ split ! $ move ! (1 ∷ []) $ split ! $ move ! (1 ∷ []) $ split ! $
-        -- [κf; …; κw; κs; κt; the free part; …; the atoms; the events; the state; the table; _14 .. _0 from 11]: _6 is lent
-        move ! (27 ∷ 9 ∷ 3 ∷ []) $
-        use3 W (later (some (S-lent l₆))) (lends-thin u8 κs qs sγ sb so l₆ 𝓤 H A W (named 1) (named 1) (named 2) state) $
+        move ! (29 ∷ []) $ fsplit ! $ move ! (1 ∷ []) $ fsplit ! $ move ! (1 ∷ []) $ fsplit ! $ move ! (1 ∷ []) $ fsplit ! $ move ! (1 ∷ []) $ fsplit ! $
+        move ! (34 ∷ []) $ split ! $ move ! (1 ∷ []) $ split ! $ move ! (1 ∷ []) $ split ! $ move ! (1 ∷ []) $ split ! $
+        -- [κf; …; κw; κs; κt; the free part; …; the atoms; the events; the state; the table; _13 .. _0 from 11]: _6 is lent
+        move ! (25 ∷ 9 ∷ 3 ∷ 5 ∷ 0 ∷ []) $ group ! 5 $
+        use1 W (later (some (B-lent l₆)))
+        (lends-two u8 κs κf qs qf sγ fγ sb so fb fo l₆ 𝓤 H A W (named 1) (named 3) (named 1) (named 2) state free) $
         await ! tt $ pick ! (λ n. split ! $ move ! (1 ∷ []) $ split ! $ fsplit ! $
-        -- [n's halves; what waits for s; s; κf; …; κw; κt; the free part; …; the atoms; the events; the table; _14 .. _0 from 13]: _7 is lent
-        move ! (27 ∷ 10 ∷ 6 ∷ []) $
+        -- [n's halves; what waits for b; b; …; κw; κt; …; the atoms; the events; the table; _13 .. _0 from 11]: _7 is lent
+        move ! (23 ∷ 8 ∷ 5 ∷ []) $
         use3 W (later (some (W-lent l₇))) (lends-thin u16 κw qw wγ wb wo l₇ 𝓤 H A W (named 2) (named 3) (named 4) atoms) $
         await ! tt $ pick ! (λ k. split ! $ move ! (1 ∷ []) $ split ! $ fsplit ! $
-        -- [k's halves; what waits for w; w; n's halves; what waits for s; s; κf; …; κt; the free part; …; the events; the table; _14 .. _0 from 15]:
-        -- _8 is lent
-        move ! (27 ∷ 11 ∷ 8 ∷ []) $
-        use3 W (later (some (F-lent l₈))) (lends-thin u8 κf qf fγ fb fo l₈ 𝓤 H A W (named 3) (named 5) (named 6) free) $
-        await ! tt $ pick ! (λ j. split ! $ move ! (1 ∷ []) $ split ! $ fsplit ! $
-        -- [j's halves; what waits for f; f; k's halves; what waits for w; w; n's halves; what waits for s; s; …; κt; …; the events; the table;
-        -- _14 .. _0 from 17]: what is passed is put together, then the tokens
-        move ! (13 ∷ 8 ∷ 9 ∷ 4 ∷ 5 ∷ 0 ∷ 1 ∷ 16 ∷ 11 ∷ 15 ∷ 7 ∷ 3 ∷ []) $ nothing ! $ move ! (12 ∷ 0 ∷ []) $ fjoin ! $ move ! (11 ∷ 0 ∷ []) $ fjoin ! $
-        move ! (10 ∷ 0 ∷ []) $ fjoin ! $ move ! (9 ∷ 0 ∷ []) $ fjoin ! $ move ! (8 ∷ 0 ∷ []) $ fjoin ! $ nothing ! $
-        move ! (8 ∷ 0 ∷ []) $ join ! $ move ! (7 ∷ 0 ∷ []) $ join ! $ move ! (6 ∷ 0 ∷ []) $ join ! $ move ! (5 ∷ 0 ∷ []) $ join ! $
-        move ! (4 ∷ 0 ∷ []) $ join ! $ move ! (3 ∷ 0 ∷ []) $ join ! $ move ! (2 ∷ 0 ∷ []) $ join ! $
-        use2 W (raw (From 𝓤 H A memory run .pre (at-call l₆ l₇ l₈ n k j))) (asks l₆ l₇ l₈ n k j start) $
-        -- _0 = run_from(_1, _12, _3, _13, _14)
-        calls-at ! fm (From 𝓤 H A memory run) known (at-call l₆ l₇ l₈ n k j)
-        (and-then ! (load ! (from ! (stop !)) (look ! 29 refl)) (and-then ! (load ! (from ! (stop !)) (look ! 10 refl))
-        (and-then ! (load ! (from ! (stop !)) (look ! 25 refl)) (and-then ! (load ! (from ! (stop !)) (look ! 8 refl))
-        (and-then ! (load ! (from ! (stop !)) (look ! 6 refl)) (no-more !)))))) (λ v.
+        -- [k's halves; what waits for w; w; n's halves; what waits for b; b; …; κt; …; the events; the table; _13 .. _0 from 13]: what is passed is
+        -- put together, then the tokens
+        move ! (9 ∷ 4 ∷ 5 ∷ 0 ∷ 1 ∷ 12 ∷ 7 ∷ 11 ∷ 3 ∷ []) $ nothing ! $ move ! (9 ∷ 0 ∷ []) $ fjoin ! $ move ! (8 ∷ 0 ∷ []) $ fjoin ! $
+        move ! (7 ∷ 0 ∷ []) $ fjoin ! $ move ! (6 ∷ 0 ∷ []) $ fjoin ! $ nothing ! $
+        move ! (6 ∷ 0 ∷ []) $ join ! $ move ! (5 ∷ 0 ∷ []) $ join ! $ move ! (4 ∷ 0 ∷ []) $ join ! $ move ! (3 ∷ 0 ∷ []) $ join ! $
+        move ! (2 ∷ 0 ∷ []) $ join ! $
+        use2 W (raw (From 𝓤 H A memory run .pre (at-call l₆ l₇ n k))) (asks l₆ l₇ n k start) $
+        -- _0 = run_from(_1, _12, _3, _13)
+        calls-at ! fm (From 𝓤 H A memory run) known (at-call l₆ l₇ n k)
+        (and-then ! (load ! (from ! (stop !)) (look ! 27 refl)) (and-then ! (load ! (from ! (stop !)) (look ! 7 refl))
+        (and-then ! (load ! (from ! (stop !)) (look ! 23 refl)) (and-then ! (load ! (from ! (stop !)) (look ! 5 refl)) (no-more !))))) (λ v.
         -- the answer, and what `run_from` says of it and of the last slices
-        use1 W (later (some (λ (r : Ending). (tokens l₆ l₇ l₈ n k j ⊛ ‵ (En.the-row .own r (v ∷ []))) ⊛ raw (Ensured l₆ l₇ l₈ n k j r)))) (id⊢ 𝓤 _) $
+        use1 W (later (some (λ (r : Ending). (tokens l₆ l₇ n k ⊛ ‵ (En.the-row .own r (v ∷ []))) ⊛ raw (Ensured l₆ l₇ n k r)))) (id⊢ 𝓤 _) $
         await ! tt $ pick ! (λ r. split ! $ move ! (1 ∷ []) $
-        use1 W (some (λ (z : Last l₆ l₇ l₈ n k j). ‵ (lasts run-from.ended (lives l₆ l₇ l₈ n k j) (passed l₆ l₇ l₈ n k j) z)
-        ⊛ raw (fact 𝓤 (Heard l₆ l₇ l₈ n k j (z .1 .0) (z .1 .1 .1 .0) (z .1 .1 .1 .1 .0) r)))) (id⊢ 𝓤 _) $ pick ! (λ z.
-        let s′ = z .1 .0 in let w′ = z .1 .1 .1 .0 in let f′ = z .1 .1 .1 .1 .0 in
-        split ! $ move ! (1 ∷ []) $ heard ! (Heard l₆ l₇ l₈ n k j s′ w′ f′ r) (λ e.
-        fsplit ! $ drop ! $ fsplit ! $ move ! (1 ∷ []) $ fsplit ! $ drop ! $ fsplit ! $ move ! (1 ∷ []) $ fsplit ! $
-        -- [the last f; …; the last w; the last s; the tokens and the answer; what waits for f; for w; for s; …; …; _14 .. _0 from 10]: the answer
-        -- goes into _0
-        move ! (4 ∷ []) $ split ! $ move ! (1 ∷ []) $ peeks ! En.the-row (Is En.the-row) (shows 𝓤 H A En.the-row) r (v ∷ []) (λ is.
-        land ! (from ! (stop !)) (init ! 36 refl (LL.lawful En.the-type En′.the-laws 𝓤 H A W .typed r _ is .0)) $
+        use1 W (some (λ (z : Last l₆ l₇ n k). ‵ (lasts run-from.ended (lives l₆ l₇ n k) (passed l₆ l₇ n k) z)
+        ⊛ raw (fact 𝓤 (Heard l₆ l₇ n k (z .1 .0) (z .1 .1 .1 .0) r)))) (id⊢ 𝓤 _) $ pick ! (λ z.
+        let b′ = z .1 .0 in let w′ = z .1 .1 .1 .0 in
+        split ! $ move ! (1 ∷ []) $ heard ! (Heard l₆ l₇ n k b′ w′ r) (λ e.
+        fsplit ! $ drop ! $ fsplit ! $ move ! (1 ∷ []) $ fsplit ! $ drop ! $ fsplit ! $
+        -- [the last w; …; the last b; the tokens and the answer; what waits for w; for b; …; …; _13 .. _0 from 8]: the answer goes into _0
+        move ! (3 ∷ []) $ split ! $ move ! (1 ∷ []) $ peeks ! En.the-row (Is En.the-row) (shows 𝓤 H A En.the-row) r (v ∷ []) (λ is.
+        land ! (from ! (stop !)) (init ! 33 refl (LL.lawful En.the-type En′.the-laws 𝓤 H A W .typed r _ is .0)) $
         move ! (1 ∷ []) $ split ! $ move ! (1 ∷ []) $ split ! $ move ! (1 ∷ []) $ split ! $ move ! (1 ∷ []) $ split ! $ move ! (1 ∷ []) $ split ! $
-        move ! (1 ∷ []) $ split ! $ move ! (1 ∷ []) $ split ! $
-        -- [j's second half; …; j's first; k's second; k's first; n's second; n's first; κt; the answer; the last f; …; the last w; the last s; what
-        -- waits for f; for w; for s; …; …; _14 .. _0 from 18]: f's loan is ended
-        move ! (2 ∷ 0 ∷ []) $ fjoin ! $ move ! (0 ∷ 12 ∷ 8 ∷ []) $
-        use3 W (later (F-back l₈ f′))
-        (ends-thin u8 κf qf fγ fb fo l₈ 𝓤 H A W (named 3) (named 5) (named 6) free j f′ (e .same-free) f-room) $
-        await ! tt $ split ! $ move ! (1 ∷ []) $ split ! $ feqL ! (λ f-long. split ! $
-        -- [the free part; κf; _8; …; k's second half; k's first; n's second; n's first; κt; the answer; …; the last w; the last s; what waits for w;
-        -- for s; …; …; _14 .. _0 from 17]: then w's
-        move ! (5 ∷ 4 ∷ []) $ fjoin ! $ move ! (0 ∷ 12 ∷ 10 ∷ []) $
+        -- [k's second half; …; k's first; n's second; n's first; κt; the answer; the last w; …; the last b; what waits for w; for b; …; …;
+        -- _13 .. _0 from 14]: w's loan is ended
+        move ! (2 ∷ 0 ∷ []) $ fjoin ! $ move ! (0 ∷ 9 ∷ 6 ∷ []) $
         use3 W (later (W-back l₇ w′))
         (ends-thin u16 κw qw wγ wb wo l₇ 𝓤 H A W (named 2) (named 3) (named 4) atoms k w′ (e .same-row) w-room) $
         await ! tt $ split ! $ move ! (1 ∷ []) $ split ! $ feqL ! (λ w-long. split ! $
-        -- [the atoms; κw; _7; the free part; κf; _8; …; n's second half; n's first; κt; the answer; …; the last s; what waits for s; …; …;
-        -- _14 .. _0 from 16]: and s's
-        move ! (8 ∷ 7 ∷ []) $ fjoin ! $ move ! (0 ∷ 12 ∷ 11 ∷ []) $
-        use3 W (later (S-back l₆ s′))
-        (ends-thin u8 κs qs sγ sb so l₆ 𝓤 H A W (named 1) (named 1) (named 2) state n s′ (e .same-state) s-room) $
-        await ! tt $ split ! $ move ! (1 ∷ []) $ split ! $ feqL ! (λ s-long. split ! $
-        -- [the state; κs; _6; the atoms; κw; _7; the free part; κf; _8; …; κt; the answer; …; …; …; _14 .. _0 from 15]
+        -- [the atoms; κw; _7; …; n's second half; n's first; κt; the answer; …; the last b; what waits for b; …; …; _13 .. _0 from 13]: and b's
+        move ! (5 ∷ 4 ∷ []) $ fjoin ! $ move ! (0 ∷ 9 ∷ 8 ∷ []) $
+        use3 W (later (B-back l₆ b′))
+        (ends-two u8 κs κf qs qf sγ fγ sb so fb fo l₆ 𝓤 H A W (named 1) (named 3) (named 1) (named 2) state free n b′ (e .same-state) (e .same-free)
+        s-room f-room) $
+        await ! tt $ split ! $ move ! (1 ∷ []) $ split ! $ split ! $ feqL ! (λ s-long. split ! $
+        -- [the state; κs; what is back of f; _6; the atoms; κw; _7; …; κt; the answer; …; …; …; _13 .. _0 from 13]
+        move ! (2 ∷ []) $ split ! $ feqL ! (λ f-long. split ! $
+        -- [the free part; κf; the state; κs; _6; the atoms; κw; _7; …; κt; the answer; …; …; …; _13 .. _0 from 14]
         -- return; what the locals hold is forgotten, and they are freed, _0 first
-        returns ! (look ! 40 refl) $ forget ! 2 refl $ forget ! 5 refl $ forget ! 8 refl $ forget ! 15 refl $ forget ! 17 refl $ forget ! 19 refl $
-        forget ! 21 refl $ forget ! 23 refl $ forget ! 25 refl $ forget ! 30 refl $ forget ! 32 refl $ forget ! 34 refl $ forget ! 36 refl $
-        forget ! 38 refl $ forget ! 40 refl $
-        move ! (40 ∷ 41 ∷ []) $ free1 ! $ move ! (38 ∷ 39 ∷ []) $ free1 ! $ move ! (36 ∷ 37 ∷ []) $ free1 ! $ move ! (34 ∷ 35 ∷ []) $ free1 ! $
-        move ! (32 ∷ 33 ∷ []) $ free1 ! $ move ! (30 ∷ 31 ∷ []) $ free1 ! $ move ! (2 ∷ 29 ∷ []) $ free1 ! $ move ! (4 ∷ 27 ∷ []) $ free1 ! $
-        move ! (6 ∷ 25 ∷ []) $ free1 ! $ move ! (22 ∷ 23 ∷ []) $ free1 ! $ move ! (20 ∷ 21 ∷ []) $ free1 ! $ move ! (18 ∷ 19 ∷ []) $ free1 ! $
-        move ! (16 ∷ 17 ∷ []) $ free1 ! $ move ! (14 ∷ 15 ∷ []) $ free1 ! $ move ! (12 ∷ 13 ∷ []) $ free1 ! $ free0 ! $
-        keep ! (0 ∷ 1 ∷ 2 ∷ 3 ∷ 4 ∷ 5 ∷ 7 ∷ 8 ∷ []) $ by ! (exits r v (s′ .now) (w′ .now) (f′ .now) (e .ran) s-long w-long f-long)))))))))))))))))))))))))))
+        returns ! (look ! 38 refl) $ forget ! 4 refl $ forget ! 7 refl $ forget ! 14 refl $ forget ! 16 refl $ forget ! 18 refl $ forget ! 20 refl $
+        forget ! 22 refl $ forget ! 24 refl $ forget ! 28 refl $ forget ! 30 refl $ forget ! 32 refl $ forget ! 34 refl $ forget ! 36 refl $
+        forget ! 38 refl $
+        move ! (38 ∷ 39 ∷ []) $ free1 ! $ move ! (36 ∷ 37 ∷ []) $ free1 ! $ move ! (34 ∷ 35 ∷ []) $ free1 ! $ move ! (32 ∷ 33 ∷ []) $ free1 ! $
+        move ! (30 ∷ 31 ∷ []) $ free1 ! $ move ! (28 ∷ 29 ∷ []) $ free1 ! $ move ! (4 ∷ 27 ∷ []) $ free1 ! $ move ! (6 ∷ 25 ∷ []) $ free1 ! $
+        move ! (22 ∷ 23 ∷ []) $ free1 ! $ move ! (20 ∷ 21 ∷ []) $ free1 ! $ move ! (18 ∷ 19 ∷ []) $ free1 ! $ move ! (16 ∷ 17 ∷ []) $ free1 ! $
+        move ! (14 ∷ 15 ∷ []) $ free1 ! $ move ! (12 ∷ 13 ∷ []) $ free1 ! $ free0 ! $
+        keep ! (2 ∷ 3 ∷ 4 ∷ 5 ∷ 0 ∷ 1 ∷ 7 ∷ 8 ∷ []) $
+        by ! (exits r v (state-in b′ .now) (w′ .now) (store-in b′ .now) (e .ran) s-long w-long f-long)))))))))))))))))))))))))
 
 module _ {M : Type 1} (𝓤 : URA M) (H : Heap 𝓤) (A : Atoms 𝓤) (W : Given 𝓤 H A) (memory : Memory → SProp 𝓤) (run : Routine → Fun 𝓤) where
   -- the walk, at whatever is passed

@@ -5,7 +5,16 @@ use borrow.Author.Needs.{needs}
 use mathlib.Core.Path.{refl}
 use Rattle.steps.proofs.Dispatch.{phase-reads}
 use Rattle.steps.proofs.Ended.{done-run}
+use Rattle.steps.proofs.Slices.{wrote, same-put}
 use Rattle.steps.proofs.LeafRuns.{event-placed, event-below, generate-run}
+
+-- return TERM;
+returns : tie.Need-returns
+returns c =
+    let start = c .before .before in
+    let if1 = c .if1 in
+    let bytes = start .args .bytes .now in
+    ((λ row. wrote bytes _ _ (done-run (if1 .taken))), same-put bytes _)
 
 -- put_event(numbers, argument_at(*table, i), true);
 put-event-requires : tie.Need-put-event-requires
@@ -23,17 +32,19 @@ returns-2 c =
     let argument-at = c .before .argument-at in
     let put-event = c .put-event in
     let there = event-below (argument-at .ensures .0) (event-placed (if1 .left) (start .pre .1)) in
-    ((λ store. generate-run (if1 .left) _ (argument-at .ensures .0) there (put-event .ensures)), (refl, refl))
+    ((λ row. generate-run (if1 .left) _ (argument-at .ensures .0) there (put-event .ensures)), (refl, refl))
 
 pub run-generate-spec : {M : Type 1} → statement M
 run-generate-spec =
     tie.close (tie.spec
-    (λ c. search needs)  -- mul-if1: if state[4 * i] == GONE {
-    (λ c. phase-reads (c .pre .1))  -- index-1-if1
-    (λ c. search needs)  -- mul-state: state[4 * i] = 0;
-    (λ c. phase-reads (c .before .before .pre .1))  -- index-1-state
-    (λ c. ((λ store. done-run (c .if1 .taken)), (refl, refl)))  -- returns: return TERM;
-    (λ c κs. search needs)  -- argument-at-requires: put_event(numbers, argument_at(*table, i), true);
+    (λ c. search needs)  -- mul-if1: if bytes[STATE][4 * i] == GONE {
+    (λ c. search needs)  -- index-1-if1
+    (λ c. phase-reads (c .pre .1))  -- index-2-if1
+    (λ c. search needs)  -- mul-bytes: bytes[STATE][4 * i] = 0;
+    (λ c. search needs)  -- index-1-bytes
+    (λ c. phase-reads (c .before .before .pre .1))  -- index-2-bytes
+    returns
+    (λ c κs. search needs)  -- argument-at-requires: put_event(numbers, argument_at(*table, i), tr..
     put-event-requires
     (λ c. search needs)  -- element-write-numbers: numbers[MOVED] = 1;
     returns-2)

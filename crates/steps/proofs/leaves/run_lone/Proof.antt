@@ -4,6 +4,7 @@ use Rattle.steps.proofs.leaves.run_lone.Tie as tie
 use borrow.Author.Needs.{needs}
 use mathlib.Core.Path.{refl}
 use Rattle.steps.proofs.Dispatch.{phase-reads}
+use Rattle.steps.proofs.Slices.{wrote, same-put}
 use Rattle.steps.proofs.TestsRead.{test-here, lone-marked}
 use Rattle.steps.proofs.Awaits.{await-tests, lone-is, lone-run, lone-met, lone-met-late}
 
@@ -14,6 +15,12 @@ part-event-requires c κs =
     let (on, k) = lone-is (start .args .table .now .now) (start .args .i) _ (start .pre .1) in
     let can = await-tests on (start .pre .0 .1) in
     search needs
+
+-- bytes[STATE][4 * i] = GONE;
+index-2-bytes : tie.Need-index-2-bytes
+index-2-bytes c =
+    let start = c .before .before .before .before .before .before .before .before .before .before .before in
+    phase-reads (start .pre .0 .1)
 
 -- return STOP;
 returns : tie.Need-returns
@@ -27,7 +34,8 @@ returns c =
     let (on, k) = lone-is (start .args .table .now .now) (start .args .i) _ (start .pre .1) in
     let can = await-tests on (start .pre .0 .1) in
     let here = lone-marked can (test-here can _ (argument-at .ensures .0)) (part-event .ensures) (marked .ensures) (if1 .taken) in
-    ((λ store. lone-met-late on k here (if2 .taken)), (refl, refl))
+    let bytes = start .args .bytes .now in
+    ((λ row. wrote bytes _ _ (lone-met-late on k here (if2 .taken))), same-put bytes _)
 
 -- return TERM;
 returns-2 : tie.Need-returns-2
@@ -41,7 +49,7 @@ returns-2 c =
     let (on, k) = lone-is (start .args .table .now .now) (start .args .i) _ (start .pre .1) in
     let can = await-tests on (start .pre .0 .1) in
     let here = lone-marked can (test-here can _ (argument-at .ensures .0)) (part-event .ensures) (marked .ensures) (if1 .taken) in
-    ((λ store. lone-met on k here (if2 .left)), (refl, refl))
+    ((λ row. lone-met on k here (if2 .left)), (refl, refl))
 
 -- pub fn run_lone
 returns-3 : tie.Need-returns-3
@@ -54,20 +62,21 @@ returns-3 c =
     let (on, k) = lone-is (start .args .table .now .now) (start .args .i) _ (start .pre .1) in
     let can = await-tests on (start .pre .0 .1) in
     let absent = lone-marked can (test-here can _ (argument-at .ensures .0)) (part-event .ensures) (marked .ensures) (if1 .left) in
-    ((λ store. lone-run on k absent), (refl, refl))
+    ((λ row. lone-run on k absent), (refl, refl))
 
 pub run-lone-spec : {M : Type 1} → statement M
 run-lone-spec =
     tie.close (tie.spec
-    (λ c. search needs)  -- element-copy-out-c: let c = numbers[BASE] as usize + 4 * argument_at(*table, i);
+    (λ c. search needs)  -- element-copy-out-c: let c = numbers[BASE] as usize + 4 * argument_at(*..
     (λ c κs. search needs)  -- argument-at-requires
     (λ c. search needs)  -- mul-c
     (λ c. search needs)  -- add-c
     part-event-requires
     (λ c κs. search needs)  -- marked-requires
     (λ c. search needs)  -- element-copy-out-if2: if numbers[ENDED] != 0 {
-    (λ c. search needs)  -- mul-state: state[4 * i] = GONE;
-    (λ c. phase-reads (c .before .before .before .before .before .before .before .before .before .before .before .pre .0 .1))  -- index-1-state
+    (λ c. search needs)  -- mul-bytes: bytes[STATE][4 * i] = GONE;
+    (λ c. search needs)  -- index-1-bytes
+    index-2-bytes
     returns
     returns-2
     (λ c. search needs)  -- element-copy-out-result: numbers[ENDED] as u8
