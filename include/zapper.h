@@ -10,8 +10,8 @@
  * calls, allocates nothing and calls nothing back. It checks the table anew each time.
  *
  * Stack: an instant takes 4,736 bytes on x86-64 for its checks, whatever the table; then its passes take, in the same place, some 810 bytes, at most 96
- * for each level of nesting (a Par or a Repeat; 80 an Until, 64 or less the other forms) and 32 to read a configuration of any height: 6,888 for a table
- * of 64 levels, all Pars or Repeats but the last. A check takes 4,016. So deep did the library change bytes below a caller that had filled its stack with
+ * for each level of nesting (a Par; 80 a Repeat, an Until or a Freezable, 64 or less the other forms) and 32 to read a configuration of any height:
+ * 6,888 for a table of 64 levels, all Pars but the last. A check takes 4,016. So deep did the library change bytes below a caller that had filled its stack with
  * a pattern; nothing proves it.
  *
  * Pointers are not null, each with as many elements as its length says, and nothing that a call writes overlaps anything else that it is lent.
