@@ -26,7 +26,8 @@ use Rattle.state.specs.StateBytes.{Own, head, code, before, in-phase, ze
 use Rattle.state.specs.Resting.{phaseAt, firstZero, secondZero, belowZero, phaseRests, flagsRest, countRests, rests, blamed}
 use Rattle.state.proofs.Parts.{blank, len-bytes, fresh-zeros, own-phase}
 use Rattle.state.proofs.Frames.{Side, only-part, first-part, second-part, Frame, size-in, spells-in, seq-first, seq-second, loop-body}
-use Rattle.state.proofs.Frames.{repeat-body, when-first, when-second, until-first, until-second, if-first, if-second, control-body, local-body, freezable-body}
+use Rattle.state.proofs.Frames.{repeat-body, when-first, when-second, until-first, until-second, if-first, if-second}
+use Rattle.state.proofs.Frames.{control-body, local-body, freezable-body}
 use Rattle.state.proofs.Zeros.{Owns, zero-each}
 use Rattle.state.proofs.Firsts.{Hold, hold-more, hold-join, first-at, first-lowest}
 use Rattle.state.proofs.Fresh.{zero-rests}

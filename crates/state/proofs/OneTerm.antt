@@ -11,7 +11,8 @@ use Rattle.junior.specs.declared.Flag.{Flag}
 use Rattle.junior.specs.declared.Flag.the-variants.{SUSP, STOP, TERM}
 use Rattle.junior.specs.Program.{Program, One, loop, repeat, control, local, freezable, Two, seq, par, when, until, if}
 use Rattle.junior.specs.Program.{Parts, no-part, one-part, two-parts, parts, size}
-use Rattle.junior.specs.Term.{Term, done, seq0, seq2, loop0, loop1, repeat0, repeat1, when0, when1, when2, until0, until*, until2, freezable0, freezable*, if0, if1, if2}
+use Rattle.junior.specs.Term.{Term, done, seq0, seq2, loop0, loop1, repeat0, repeat1, when0, when1, when2}
+use Rattle.junior.specs.Term.{until0, until*, until2, freezable0, freezable*, if0, if1, if2}
 use Rattle.junior.specs.Term.{prog, fresh}
 use Rattle.junior.specs.Term
 use Rattle.state.specs.StateBytes.{code, zeros, below, stateBytes}

@@ -17,12 +17,17 @@ use table::records::size_at;
 use table::records::wide;
 use table::records::word_at;
 
+// A phase of 1 and a flags byte of 1, in a node's own bytes as one number.
+const PHASE: usize = 16777216;
+
+const FLAGS: usize = 65536;
+
 // Node i's own bytes as one number.
 fn own_at(state: &[u8], i: usize) -> usize
     requires { ⌜ 4 * i + 3 < length (now state) ⌝ }
     ensures { λ r. ⌜ Number (now (state .entry)) i r ⌝ }
 {
-    wide(state[4 * i]) * 16777216 + wide(state[4 * i + 1]) * 65536 + word_at(state, 4 * i + 2)
+    wide(state[4 * i]) * PHASE + wide(state[4 * i + 1]) * FLAGS + word_at(state, 4 * i + 2)
 }
 
 // Those of nodes i and i + 1.
@@ -120,10 +125,10 @@ fn flag_rests(table: &[u8], state: &[u8], i: usize, own: usize) -> bool
     requires { ⌜ (i < sizeAt (now table) 0) × (kindAt (now table) i ≡ 4) ⌝ }
     ensures { λ r. ⌜ r ≡ oneEnded (now (table .entry)) (now (state .entry)) i own ⌝ }
 {
-    if own == 2 * 65536 {
+    if own == 2 * FLAGS {
         return state[4 * (i + 1)] == 3;
     }
-    if own == 8 * 65536 {
+    if own == 8 * FLAGS {
         return state[4 * second_at(table, i)] == 3;
     }
     false
@@ -134,7 +139,7 @@ fn counted(own: usize, most: usize) -> bool
     requires { ⌜ most < 65536 ⌝ }
     ensures { λ r. ⌜ r ≡ countedBelow own most ⌝ }
 {
-    16777216 < own && own < 16777216 + most
+    PHASE < own && own < PHASE + most
 }
 
 // Whether node i, of kind k, rests with such a count.
@@ -155,14 +160,14 @@ fn rests_at(table: &[u8], state: &[u8], i: usize, near: usize) -> bool
     ensures { λ r. ⌜ r ≡ rests (now (table .entry)) (now (state .entry)) i ⌝ }
 {
     let own = own_at(state, i);
-    if own == 3 * 16777216 {
+    if own == 3 * PHASE {
         return i + size_at(table, i) <= near;
     }
     let k = kind_at(table, i);
-    if own == 2 * 16777216 {
+    if own == 2 * PHASE {
         return second_rests(table, state, i, near, k);
     }
-    if own == 16777216 {
+    if own == PHASE {
         return begun_rests(table, state, i, near, k);
     }
     if k == 4 {
