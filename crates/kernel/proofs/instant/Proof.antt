@@ -104,8 +104,9 @@ part-run-passes-start c =
 -- let ending = run_passes(
 run-passes-requires : tie.Need-run-passes-requires
 run-passes-requires c κs =
-    let start = c .before .before .before .before .before .before .before .before .before .before .before .before .before .before .before .before .before .before in
-    let slice-known = c .before .before .before .before .before .before .before .before .before .before .before .before .before .before .before .before .slice-known in
+    let c16 = c .before .before .before .before .before .before .before .before .before .before .before .before .before .before .before .before in
+    let start = c16 .before .before in
+    let slice-known = c16 .slice-known in
     let outcome-of = c .before .before .before .before .before .before .before .before .before .before .outcome-of in
     let enum-told = c .before .before .before .before .before .before .before .before .enum-told in
     let word-at = c .before .before .before .before .before .before .before .word-at in
@@ -120,10 +121,11 @@ run-passes-requires c κs =
 -- put_in_use(store, used + ending.parked);
 add-put-in-use : tie.Need-add-put-in-use
 add-put-in-use c =
-    let start = c .before .before .before .before .before .before .before .before .before .before .before .before .before .before .before .before .before .before .before .before .before .before .before .before .before .before .before in
-    let slice-known3 = c .before .before .before .before .before .before .before .before .before .before .before .before .before .before .before .before .before .before .before .before .before .before .before .slice-known3 in
-    let outcome-of = c .before .before .before .before .before .before .before .before .before .before .before .before .before .before .before .before .before .before .before .outcome-of in
-    let enum-told = c .before .before .before .before .before .before .before .before .before .before .before .before .before .before .before .before .before .enum-told in
+    let c16 = c .before .before .before .before .before .before .before .before .before .before .before .before .before .before .before .before in
+    let start = c16 .before .before .before .before .before .before .before .before .before .before .before in
+    let slice-known3 = c16 .before .before .before .before .before .before .before .slice-known3 in
+    let outcome-of = c16 .before .before .before .outcome-of in
+    let enum-told = c16 .before .enum-told in
     let word-at2 = c .before .before .before .before .before .before .before .before .before .before .before .before .before .before .word-at2 in
     let run-passes = c .before .before .before .before .before .before .before .before .run-passes in
     let A = start .args in
@@ -153,13 +155,14 @@ put-in-use-requires c κs =
 -- pub fn instant
 returns : tie.Need-returns
 returns c =
-    let start = c .before .before .before .before .before .before .before .before .before .before .before .before .before .before .before .before .before .before .before .before .before .before .before .before .before .before .before .before .before .before .before in
-    let outcome-of = c .before .before .before .before .before .before .before .before .before .before .before .before .before .before .before .before .before .before .before .before .before .before .before .outcome-of in
-    let enum-told = c .before .before .before .before .before .before .before .before .before .before .before .before .before .before .before .before .before .before .before .before .before .enum-told in
-    let word-at = c .before .before .before .before .before .before .before .before .before .before .before .before .before .before .before .before .before .before .before .before .word-at in
-    let word-at2 = c .before .before .before .before .before .before .before .before .before .before .before .before .before .before .before .before .before .before .word-at2 in
-    let eight-from = c .before .before .before .before .before .before .before .before .before .before .before .before .before .before .before .before .before .eight-from in
-    let eight-from2 = c .before .before .before .before .before .before .before .before .before .before .before .before .before .before .before .before .eight-from2 in
+    let c16 = c .before .before .before .before .before .before .before .before .before .before .before .before .before .before .before .before in
+    let start = c16 .before .before .before .before .before .before .before .before .before .before .before .before .before .before .before in
+    let outcome-of = c16 .before .before .before .before .before .before .before .outcome-of in
+    let enum-told = c16 .before .before .before .before .before .enum-told in
+    let word-at = c16 .before .before .before .before .word-at in
+    let word-at2 = c16 .before .before .word-at2 in
+    let eight-from = c16 .before .eight-from in
+    let eight-from2 = c16 .eight-from2 in
     let run-passes = c .before .before .before .before .before .before .before .before .before .before .before .before .run-passes in
     let put-in-use = c .before .before .before .put-in-use in
     let A = start .args in

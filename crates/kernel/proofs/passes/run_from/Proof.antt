@@ -22,7 +22,8 @@ use Rattle.runner.proofs.Names.{named-then, beside-named}
 use Rattle.kernel.specs.declared.passes.HandedIn.{HandedIn}
 use Rattle.kernel.specs.Passes.{Startable}
 use Rattle.kernel.proofs.passes.HandedIn as I
-use Rattle.kernel.proofs.Passing.{Underway, few-passes, handed-words, handed-values, begins-by, can-pass, ran-by, row-holds, can-look, goes-by, Names, next-row-holds, some-flag, left-bytes, some-bytes, finished-by, run-of}
+use Rattle.kernel.proofs.Passing.{Underway, few-passes, handed-words, handed-values, begins-by, can-pass, ran-by, row-holds, can-look}
+use Rattle.kernel.proofs.Passing.{goes-by, Names, next-row-holds, some-flag, left-bytes, some-bytes, finished-by, run-of}
 
 abbrev Inv-loop : tie.InvT-loop
 Inv-loop t1 bytes₀ atoms₀ table nodes row₀ passes₀ waits₀ bytes atoms row passes waits =
