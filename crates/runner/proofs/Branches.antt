@@ -7,14 +7,13 @@ use mathlib.Core.List.{List}
 use lib.Dec.{eqb}
 use lib.ListN.{getD}
 use borrow.Author.Tests.{eqb-true, eqb-false}
-use Rattle.junior.specs.Program.{kind}
-use Rattle.junior.specs.Term.{Term, prog}
+use Rattle.junior.specs.Term.{Term}
 use Rattle.state.specs.Kinds.{when-kind, if-kind}
 use Rattle.state.specs.StateBytes.{head}
 use Rattle.state.proofs.Shape.{Shape, is-done, is-when0, is-when1, is-when2, is-if0, is-if1, is-if2, shape-by}
 use Rattle.steps.specs.Running.{Rooms}
 use Rattle.table.specs.Records.{kindAt}
-use Rattle.steps.specs.Kinds.{OfKind, Choosing, InSecond}
+use Rattle.steps.specs.Kinds.{OfKind, Choice, InSecond}
 use Rattle.runner.proofs.Stages.{InThen}
 use Rattle.steps.specs.Lent.{Lent, lent, CanRun}
 use Rattle.steps.proofs.Dispatch.{phase-is}
@@ -45,11 +44,11 @@ if-in-first (is-if1 v x q) a b d = refl
 if-in-first (is-if2 v p x) a b d = absurd (d refl)
 if-in-first (is-done p e) a b d = absurd (a refl)
 
-in-first : (t : Term) → Choosing (kind (prog t)) → head t .phase ≢ 3 → head t .phase ≢ 0 → head t .phase ≢ 2 → head t .phase ≡ 1
+in-first : (t : Term) → Choice t → head t .phase ≢ 3 → head t .phase ≢ 0 → head t .phase ≢ 2 → head t .phase ≡ 1
 in-first t (inl e) a b d = when-in-first (shape-by t e refl) a b d
 in-first t (inr e) a b d = if-in-first (shape-by t e refl) a b d
 
-module _ {U : Term → Type 0} (are : (t : Term) → U t → Choosing (kind (prog t))) {table : List ℕ} {i : ℕ} {state m : List ℕ} {rooms : Rooms}
+module _ {U : Term → Type 0} (are : (t : Term) → U t → Choice t) {table : List ℕ} {i : ℕ} {state m : List ℕ} {rooms : Rooms}
     (on : getD state (4 * i) 0 ≢ 3) (chose : getD state (4 * i) 0 ≢ 0) (o : CanRun 0 U (lent table state m rooms) i) where
   first-phase : getD state (4 * i) 0 ≢ 2 → getD state (4 * i) 0 ≡ 1
   first-phase other =

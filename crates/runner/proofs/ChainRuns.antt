@@ -1,12 +1,11 @@
 -- A chain of Pars, each the second branch of the one above it, whose first branch is suspended: what the last of them answers is heard by the one above
 -- it alone, which is suspended itself, so that nothing is to be done further up (rule 8).
-use Prim.Native.Nat.{ℕ, zero, suc, _+_, _*_, _≤_, _<_}
+use Prim.Native.Nat.{ℕ, _+_, _*_, _≤_, _<_}
 use mathlib.Core.Path.{_≡_, refl, ap, sym, _∙_}
 use mathlib.Core.Logic.{_≢_}
 use mathlib.Core.List.{List}
 use mir.Syntax.{w64}
 use mir.Val.{Fits}
-use denote.Ref.{RefT}
 use native.Mathlib.Omega.{arith}
 use lib.ListN.{length, getD}
 use Rattle.junior.specs.declared.Flag.{Flag}
@@ -17,10 +16,9 @@ use Rattle.table.specs.Records.{sizeAt, secondAt}
 use Rattle.steps.specs.Running.{Rooms, Any}
 use Rattle.steps.specs.Kinds.{BothSuspended}
 use Rattle.steps.specs.Flags.{flagOf, ParEnds, Heard}
-use Rattle.steps.specs.Lent.{Lent, lent, state-in, CanRun, HasRun}
+use Rattle.steps.specs.Lent.{Lent, lent, CanRun, HasRun}
 use Rattle.steps.proofs.FlagNumbers.{code-of, second-stays}
 use Rattle.steps.proofs.Dispatch.{few-nodes}
-use Rattle.steps.proofs.Slices.{put, state-back}
 use Rattle.runner.proofs.Falling.{weigh, child-rank, form-rank}
 use Rattle.runner.proofs.ParRuns.{par-first, par-second, par-joins, par-done}
 
@@ -100,8 +98,3 @@ module _ {L₀ : Lent} {i : ℕ} {table state m : List ℕ} {rooms : Rooms} {abo
         → {state₃ : List ℕ} {q : ℕ} → ParEnds 0 g (4 * at) (4 * second) state₂ state₃ q
         → HasRun 0 BothSuspended L₀ i (lent table state₃ m₂ rooms₂) q
     second-done z then e = suspends (par-done run is then (rw z e)) (suspended e)
-
--- `above` hears of it in the same state, which is back in its place with as many bytes
-pub byte-back : (slices : List (RefT (List ℕ))) (bytes : List ℕ) {k : ℕ} → length bytes ≡ length (state-in slices .now)
-    → k < length (state-in slices .now) → k < length (state-in (put slices 0 bytes) .now)
-byte-back slices bytes e l = rw (state-back slices bytes e, e) l

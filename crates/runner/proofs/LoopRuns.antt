@@ -8,7 +8,7 @@ use lib.Dec.{lit<}
 use lib.ListN.{length, getD, take, drop, set}
 use borrow.Rule.Slice.PartMut.{midOf, putMid}
 use Rattle.junior.specs.Term.{Term}
-use Rattle.table.specs.Records.{kindAt, sizeAt}
+use Rattle.table.specs.Records.{sizeAt}
 use Rattle.state.specs.Kinds.{loop-kind}
 use Rattle.state.proofs.Shape.{Shape, is-done, is-loop0, is-loop1, shape-by}
 use Rattle.steps.specs.Running.{Rooms, Ready, Any}
@@ -19,7 +19,7 @@ use Rattle.steps.specs.Lent.{Lent, lent, Around, Stands, Went, CanRun, HasRun}
 use Rattle.steps.proofs.Context.{outer, phase-at, phase-in, put-phase}
 use Rattle.steps.proofs.Row.{kept-same, kept-then, still}
 use Rattle.steps.proofs.FlagNumbers.{is-term, not-term}
-use Rattle.steps.proofs.Dispatch.{phase-is, to-kind}
+use Rattle.steps.proofs.Dispatch.{phase-is}
 use Rattle.steps.proofs.ChildContext.{child-stands}
 use Rattle.runner.proofs.Loop.{Begins, begins-by, begin-asks, begin-writes, begin-ran}
 use Rattle.runner.proofs.Loop.{Loops, loops-by, loop-asks, loop-waits, anew-asks, loop-again}
@@ -176,12 +176,6 @@ module _ {table : List ℕ} {i : ℕ} {state m : List ℕ} {rooms : Rooms} where
     pub loop-body : CanRun 0 (OfKind loop-kind) (lent table state m rooms) i → {k : ℕ} → weigh table i form-rank ≡ k
         → (weigh table (i + 1) child-rank < k) × CanRun 0 Any (lent table state m rooms) (i + 1)
     loop-body (before, part, behind, o) e = (omega (arith, rest-smaller begun o), (_, _, _, rest-stands begun o))
-
-    -- a Loop in a Loop, by its kind as it was read
-    pub loop-nested : {n : ℕ} → n ≡ kindAt table (i + 1) → n ≡ loop-kind → CanRun 0 (OfKind loop-kind) (lent table state m rooms) i
-        → {k : ℕ} → weigh table i form-rank ≡ k
-        → (weigh table (i + 1) form-rank < k) × CanRun 0 (OfKind loop-kind) (lent table state m rooms) (i + 1)
-    loop-nested read is o e = let (l, s) = loop-body o e in (omega (arith, l), to-kind read is s)
 
     module _ {state₁ m₁ : List ℕ} {rooms₁ : Rooms} {f : ℕ} (run : HasRun 0 Any (lent table state m rooms) (i + 1) (lent table state₁ m₁ rooms₁) f) where
       pub loop-stays : f ≢ 2 → HasRun 0 (OfKind loop-kind) (lent table state m rooms) i (lent table state₁ m₁ rooms₁) f

@@ -1,7 +1,7 @@
 -- A Repeat or a RepeatExt, rules 14 and 15 when it begins, 4 and 5 in the rest of a run of its body, k runs being still to begin.
 use Prim.Native.Nat.{ℕ, zero, suc, _+_, _-_, _/_, _%_, _≤_, _<_, min}
 use mathlib.Core.Path.{_≡_, refl, ap, ap₂, sym, subst, _∙_}
-use mathlib.Core.Logic.{_≢_, inl, inr}
+use mathlib.Core.Logic.{_≢_, _⊎_, inl, inr}
 use mathlib.Core.List.{List, [], _++_, append-nil}
 use native.Mathlib.Omega.{arith}
 use native.Mathlib.Nat.{div-add-mod'}
@@ -31,7 +31,7 @@ use Rattle.state.specs.StateBytes.{head, below, zeros}
 use Rattle.state.proofs.Parts.{fresh-zeros, blank-below, own-of, own-phase, own-flags}
 use Rattle.state.proofs.Shape.{Shape, is-done, is-repeat0, is-repeat1, is-ext0, is-ext1, shape-by}
 use Rattle.state.proofs.Frames.{repeat-body}
-use Rattle.steps.specs.Running.{Rooms, Ready, Ran, Live, Runs, Any, Repeating, Times, valuesIn, timesAt}
+use Rattle.steps.specs.Running.{Rooms, Ready, Ran, Live, Runs, Any, Times, valuesIn, timesAt}
 use Rattle.steps.specs.Kinds.{Repetition}
 use Rattle.steps.proofs.LoadedNode.{repeat-below}
 use Rattle.steps.proofs.Children.{at-node, falling, byte-is, only-cut, put-back, first-at, phase-is, unseen}
@@ -46,7 +46,7 @@ pub data Unbegun (value : Values) (a : ℕ) : Term → Type 0 where
   unbegun : (n : Number) (p : Program) → runs-of value n ≡ a → Unbegun value a (repeat0 n p)
 
 -- its kind
-repeating : (n : Number) (p : Program) → Repeating (kind (Repeat n p))
+repeating : (n : Number) (p : Program) → (kind (Repeat n p) ≡ repeat-kind) ⊎ (kind (Repeat n p) ≡ repeat-ext-kind)
 unfolding kind
 repeating (exactly n) p = inl refl
 repeating (asked v m) p = inr refl

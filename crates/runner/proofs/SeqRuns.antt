@@ -22,7 +22,7 @@ use Rattle.steps.proofs.Dispatch.{run-at, phase-is}
 use Rattle.steps.proofs.ChildContext.{child-stands}
 use Rattle.runner.proofs.Seq.{Second, second-by, second-reads, second-fits, second-asks, second-writes, second-ran}
 use Rattle.runner.proofs.Seq.{Seq0, seq0-by, first-reads, first-asks, seq-waits, over-asks, seq-goes-over}
-use Rattle.runner.proofs.GoesOn.{to-phase, by-phase, went-as}
+use Rattle.runner.proofs.GoesOn.{GoesOnAs, to-phase, by-phase, went-as}
 use Rattle.runner.proofs.Falling.{weigh, child-rank, lighter, smaller-by, form-rank}
 
 -- gone over: the second child runs
@@ -174,9 +174,8 @@ module _ {table : List ℕ} {i : ℕ} {state m : List ℕ} {rooms : Rooms} (on :
     pub seq-stays : f ≢ 2 → HasRun 0 (OfKind seq-kind) (lent table state m rooms) i (lent table state₁ m₁ rooms₁) f
     seq-stays n before part behind o = seq-went on in-first o run n
 
-    pub seq-over : CanRun 0 (OfKind seq-kind) (lent table state m rooms) i → f ≡ 2 → CanRun 1 InSecond (lent table state₁ m₁ rooms₁) i
-    seq-over (before, part, behind, o) e = (_, _, _, now-over on in-first o run e)
-
-    pub seq-goes-on : {L′ : Lent} {r : ℕ} → f ≡ 2 → HasRun 1 InSecond (lent table state₁ m₁ rooms₁) i L′ r
-        → HasRun 0 (OfKind seq-kind) (lent table state m rooms) i L′ r
-    seq-goes-on e then before part behind o = over-went-on on in-first o run e then
+    -- its first child has ended
+    pub seq-goes-on : f ≡ 2 → CanRun 0 (OfKind seq-kind) (lent table state m rooms) i
+        → GoesOnAs InSecond (OfKind seq-kind) (lent table state m rooms) i (lent table state₁ m₁ rooms₁)
+    seq-goes-on e (before, part, behind, o) =
+        record { can = (_, _, _, now-over on in-first o run e); has = λ then before part behind o. over-went-on on in-first o run e then }

@@ -6,7 +6,7 @@ use mathlib.Core.List.{List, _++_}
 use native.Mathlib.Omega.{arith}
 use lib.Dec.{lit<}
 use lib.ListN.{length, getD, take, drop, set, replicate}
-use borrow.Rule.Slice.PartMut.{putMid, mid-len}
+use borrow.Rule.Slice.PartMut.{mid-len}
 use Rattle.junior.specs.declared.Verdict.{Verdict}
 use Rattle.junior.specs.declared.Verdict.the-variants.{Sat, Unsat, Unknown}
 use Rattle.junior.specs.Term.{Term}
@@ -15,13 +15,14 @@ use Rattle.state.specs.Kinds.{until-kind}
 use Rattle.state.proofs.Parts.{first-of, with-first}
 use Rattle.steps.specs.Running.{Rooms, Ready, Any, TestRead}
 use Rattle.steps.proofs.Children.{own-in}
+use Rattle.steps.proofs.Awaits.{ranked-0, ranked-1, ranked-2}
 use Rattle.steps.proofs.Tally.{not-ended, is-ended}
 use Rattle.steps.specs.Numbers.{ended-at, wordsOf, tallyOf}
 use Rattle.steps.specs.Kinds.{OfKind, InSecond}
 use Rattle.runner.proofs.Stages.{Starred}
-use Rattle.steps.specs.Tests.{CanTest}
+use Rattle.steps.specs.Tests.{CanTest, TestRanked, bodyCleared, StarRead, waits, refused, satisfied-late, satisfied}
 use Rattle.steps.specs.Lent.{Lent, lent, Around, Stands, Went, CanRun, HasRun}
-use Rattle.steps.proofs.Context.{inner, outer, phase-at, phase-in, put-phase, byte-in, put-part}
+use Rattle.steps.proofs.Context.{inner, outer, phase-at, put-phase, byte-in, put-part}
 use Rattle.steps.proofs.Row.{kept-same, still}
 use Rattle.steps.proofs.FlagNumbers.{is-stop, not-stop}
 use Rattle.steps.proofs.Dispatch.{phase-is}
@@ -115,11 +116,6 @@ pub starred-already : {table : List ℕ} {i : ℕ} {state m : List ℕ} {rooms :
     → GoesOnAs Starred (OfKind until-kind) (lent table state m rooms) i (lent table state m rooms)
 starred-already starred o = goes-by-phase (λ t k p. (k, p)) starred o
 
--- the whole state with the body of an Until at node i cleared
-abbrev pub Cleared : List ℕ → ℕ → List ℕ → List ℕ → Type 0
-Cleared table i state state₁ =
-    let long = 4 * sizeAt table (i + 1) in state₁ ≡ putMid (4 * (i + 1)) long state (replicate long 0)
-
 -- Until*
 module _ {table : List ℕ} {i : ℕ} {state m : List ℕ} {rooms : Rooms} {before part behind : List ℕ}
     (o : Stands 1 Starred (lent table state m rooms) i before part behind) where
@@ -151,37 +147,46 @@ module _ {table : List ℕ} {i : ℕ} {state m : List ℕ} {rooms : Rooms} {befo
   zeros-are : zeros ≡ replicate (length (first-of part size)) 0
   zeros-are = ap (λ (k : ℕ). replicate {A = ℕ} k 0) (sym body-long)
 
-  module _ {state₁ : List ℕ} (clear : Cleared table i state state₁) where
-    around-cleared : Around state₁ i before cleared behind
+  module _ {second : ℕ} (is : second ≡ secondAt table i) where
+    around-cleared : Around (bodyCleared (4 * i) (4 * second) state) i before cleared behind
     around-cleared =
         let body = inner (o .around) 4 (4 + 4 * size - 4) {j = i + 1} (omega (arith, fits)) (omega arith) in
-        rw clear (outer (o .around) 4 (4 + 4 * size - 4) (rw body-long at (put-part body zeros)))
+        let from : 4 * i + 4 ≡ 4 * (i + 1) = omega arith in
+        let long : 4 * second - 4 * (i + 1) ≡ 4 * size = omega arith in
+        rw (from, long) (outer (o .around) 4 (4 + 4 * size - 4) (rw body-long at (put-part body zeros)))
 
     module _ {v : Verdict} (reads : TestRead table i (wordsOf m) (tallyOf m) v) where
-      handler-stands : Stands 1 InSecond (lent table state₁ m rooms) i before cleared behind
+      handler-stands : Stands 1 InSecond (lent table (bodyCleared (4 * i) (4 * second) state) m rooms) i before cleared behind
       handler-stands =
           record { around = around-cleared; numbers = o .numbers; live = handler-live reads refl zeros-are the-star (o .live .2) }
 
-      own-cleared : 0 < length cleared
-      own-cleared = handler-writes reads refl zeros-are the-star (o .live .2)
-
-      module _ (is : v ≡ Sat) where
-        handler-went : getD m ended-at 0 ≡ 0 → {L′ : Lent} {r : ℕ} → HasRun 1 InSecond (lent table state₁ m rooms) i L′ r
+      module _ (sat : v ≡ Sat) where
+        handler-went : getD m ended-at 0 ≡ 0 → {L′ : Lent} {r : ℕ}
+            → HasRun 1 InSecond (lent table (bodyCleared (4 * i) (4 * second) state) m rooms) i L′ r
             → Went 1 Starred (lent table state m rooms) i before part behind L′ r
         handler-went z run =
             let g = run before cleared behind handler-stands in
-            went-as (kept-same m) g (λ t w h. handler-goes reads refl zeros-are (star-by t w) h is (not-ended z) (g .runs))
+            went-as (kept-same m) g (λ t w h. handler-goes reads refl zeros-are (star-by t w) h sat (not-ended z) (g .runs))
 
         next-went : getD m ended-at 0 ≢ 0
-            → Went 1 Starred (lent table state m rooms) i before part behind (lent table (set state₁ (4 * i) 2) m rooms) 1
+            → Went 1 Starred (lent table state m rooms) i before part behind
+            (lent table (set (bodyCleared (4 * i) (4 * second) state) (4 * i) 2) m rooms) 1
         next-went z =
             record {
               part′ = set cleared 0 2;
-              around = put-phase around-cleared 2 own-cleared;
+              around = put-phase around-cleared 2 (handler-writes reads refl zeros-are the-star (o .live .2));
               kept = kept-same m;
               below = lit< tt;
-              runs = λ t w h. handler-later reads refl zeros-are (star-by t w) h is (is-ended z);
+              runs = λ t w h. handler-later reads refl zeros-are (star-by t w) h sat (is-ended z);
             }
+
+-- node i, of which U holds in L and whose test has been read, has answered f in L₁; where f is TERM, it goes on there in its handler
+pub record AfterTest (U : Term → Type 0) (L : Lent) (i : ℕ) (L₁ : Lent) (f : ℕ) : Type 0 where
+  pub answers : f ≢ 2 → HasRun 0 U L i L₁ f
+  pub to-handler : f ≡ 2 → GoesOnAs InSecond U L i L₁
+
+answered : {U : Term → Type 0} {L : Lent} {i : ℕ} {L₁ : Lent} {f : ℕ} → f ≢ 2 → HasRun 0 U L i L₁ f → AfterTest U L i L₁ f
+answered n run = record { answers = λ _. run; to-handler = λ e. absurd (n e) }
 
 -- in the words of the needs
 module _ {table : List ℕ} {i : ℕ} {state m : List ℕ} {rooms : Rooms} where
@@ -200,16 +205,8 @@ module _ {table : List ℕ} {i : ℕ} {state m : List ℕ} {rooms : Rooms} where
     pub star-body : CanRun 1 Starred (lent table state m rooms) i → (4 * i + 4 ≤ 4 * second) × (4 * second ≤ length state)
     star-body (before, part, behind, o) = (omega arith, omega (arith, body-ends o))
 
-    pub star-cleared : CanRun 1 Starred (lent table state m rooms) i → {state₁ : List ℕ}
-        → state₁ ≡ putMid (4 * i + 4) (4 * second - (4 * i + 4)) state (replicate (4 * second - (4 * i + 4)) 0)
-        → Cleared table i state state₁
-    star-cleared o e =
-        let from : 4 * i + 4 ≡ 4 * (i + 1) = omega arith in
-        let long : 4 * second - 4 * (i + 1) ≡ 4 * sizeAt table (i + 1) = omega arith in
-        rw (from, long) at e
-
   module _ {v : Verdict} (reads : TestRead table i (wordsOf m) (tallyOf m) v) where
-    pub star-suspends : v ≡ Unknown → HasRun 1 Starred (lent table state m rooms) i (lent table (set state (4 * i) 1) m rooms) 0
+    star-suspends : v ≡ Unknown → HasRun 1 Starred (lent table state m rooms) i (lent table (set state (4 * i) 1) m rooms) 0
     star-suspends is before part behind o =
         record {
           part′ = set part 0 1;
@@ -219,7 +216,7 @@ module _ {table : List ℕ} {i : ℕ} {state m : List ℕ} {rooms : Rooms} where
           runs = λ t w h. star-waits reads (star-by t w) h is;
         }
 
-    pub star-refused : v ≡ Unsat → HasRun 1 Starred (lent table state m rooms) i (lent table (set state (4 * i) 0) m rooms) 1
+    star-refused : v ≡ Unsat → HasRun 1 Starred (lent table state m rooms) i (lent table (set state (4 * i) 0) m rooms) 1
     star-refused is before part behind o =
         record {
           part′ = set part 0 0;
@@ -229,16 +226,20 @@ module _ {table : List ℕ} {i : ℕ} {state m : List ℕ} {rooms : Rooms} where
           runs = λ t w h. star-fails reads (star-by t w) h is;
         }
 
-    -- the handler begins, or waits for the next instant
-    module _ {state₁ : List ℕ} (clear : Cleared table i state state₁) where
-      pub now-handler : CanRun 1 Starred (lent table state m rooms) i → CanRun 1 InSecond (lent table state₁ m rooms) i
-      now-handler (before, part, behind, o) = (_, _, _, handler-stands o clear reads)
-
-      module _ (is : v ≡ Sat) where
-        pub handler-begins : getD m ended-at 0 ≡ 0 → {L′ : Lent} {r : ℕ} → HasRun 1 InSecond (lent table state₁ m rooms) i L′ r
-            → HasRun 1 Starred (lent table state m rooms) i L′ r
-        handler-begins z run before part behind o = handler-went o clear reads is z run
-
-        pub handler-next : getD m ended-at 0 ≢ 0
-            → HasRun 1 Starred (lent table state m rooms) i (lent table (set state₁ (4 * i) 2) m rooms) 1
-        handler-next z before part behind o = next-went o clear reads is z
+  -- by the rules: it answers, or the handler begins
+  module _ {U : Term → Type 0} {L : Lent} (on : GoesOnAs Starred U L i (lent table state m rooms)) {rank : ℕ} (reads : TestRanked table i m rank)
+      {second : ℕ} (is : second ≡ secondAt table i) where
+    pub star-read : {state₁ : List ℕ} {f : ℕ} → StarRead rank (getD m ended-at 0) (4 * i) (4 * second) state state₁ f
+        → AfterTest U L i (lent table state₁ m rooms) f
+    star-read (waits e) = answered (λ n. omega arith) (on .has (star-suspends reads (ranked-1 e)))
+    star-read (refused e) = answered (λ n. omega arith) (on .has (star-refused reads (ranked-0 e)))
+    star-read (satisfied-late a b z) = answered (λ n. omega arith) (on .has (λ before part behind o. next-went o is reads (ranked-2 a b) z))
+    star-read (satisfied a b z) =
+        let (before, part, behind, o) = on .can in
+        record {
+          answers = λ n. absurd (n refl);
+          to-handler = λ e. record {
+            can = (_, _, _, handler-stands o is reads);
+            has = λ run. on .has (λ before part behind o. handler-went o is reads (ranked-2 a b) z run);
+          };
+        }

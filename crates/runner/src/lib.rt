@@ -1,6 +1,6 @@
 // A pass: a function for each form, or for two that differ in one step; a child is run by `run_child`. A node that answers TERM leaves its subtree's
 // bytes all zero; whoever keeps it in sight marks it as phase 3. What `run_child` goes on to has to stay apart from it in the compiled code, so that a
-// leaf doesn't pay for the registers of the largest form: each is called from two places, or runs a nested node of its own form by itself.
+// leaf doesn't pay for the registers of the largest form: the larger ones are called from two places, or run a nested node of their own form themselves.
 ghost use Rattle.state.specs.Kinds.{seq-kind, loop-kind, control-kind, local-kind};
 ghost use Rattle.steps.specs.Running.{Any};
 ghost use Rattle.steps.specs.Kinds.{all-seen, phase-unseen, OfKind, Repetition, Choice, Break, BothSuspended, NotBoth, InSecond};
@@ -18,11 +18,10 @@ use steps::flags::sign_after;
 use steps::kinds;
 use steps::leaves::UNKNOWN;
 use steps::leaves::UNSAT;
-use steps::leaves::lone_event;
+use steps::leaves::read_star;
 use steps::leaves::run_atom;
 use steps::leaves::run_await;
 use steps::leaves::run_generate;
-use steps::leaves::run_lone;
 use steps::leaves::run_nothing;
 use steps::leaves::run_stop;
 use steps::leaves::test_rank;
@@ -46,16 +45,13 @@ use steps::phases::THEN;
 use steps::phases::begin_turn;
 use steps::phases::both_suspended;
 use steps::phases::chosen;
-use steps::phases::clear_part;
 use steps::phases::end_turns;
-use steps::phases::fresh_par;
-use steps::phases::half_par;
 use steps::phases::turns_left;
 use table::records::argument_at;
 use table::records::kind_at;
 use table::records::second_at;
 
-// Runs node i once. The most frequent kinds are told apart first, and an Await of a lone event costs no call.
+// Runs node i once. The most frequent kinds are told apart first.
 pub fn run_child(
     table: &&[u8],
     i: usize,
@@ -78,13 +74,6 @@ pub fn run_child(
         return run_half(table, i, bytes, numbers, atoms);
     }
     if kind == kinds::AWAIT {
-        let phase = bytes[STATE][4 * i];
-        if phase == GONE {
-            return run_await(table, i, bytes, numbers);
-        }
-        if lone_event(*table, i, phase, numbers) {
-            return run_lone(table, i, bytes, numbers);
-        }
         return run_await(table, i, bytes, numbers);
     }
     if kind == kinds::SEQ {
@@ -133,21 +122,18 @@ fn run_par(
     loop {
         let f = run_child(table, at + 1, bytes, numbers, atoms);
         let second = second_at(*table, at);
-        if fresh_par(
-            kind_at(*table, second),
-            bytes[STATE][4 * second],
-            bytes[STATE][4 * second + FLAGS],
-        ) {
+        let g = if kind_at(*table, second) != kinds::PAR {
+            run_child(table, second, bytes, numbers, atoms)
+        } else if both_suspended(bytes[STATE][4 * second], bytes[STATE][4 * second + FLAGS]) {
             if f == SUSP {
                 above = at;
                 at = second;
                 continue;
             }
-            let g = run_par(table, second, bytes, numbers, atoms);
-            let r = both_ran(bytes[STATE], 4 * at, 4 * second, f, g);
-            return heard_above(bytes[STATE], 4 * above, 4 * at, r);
-        }
-        let g = run_child(table, second, bytes, numbers, atoms);
+            run_par(table, second, bytes, numbers, atoms)
+        } else {
+            run_half(table, second, bytes, numbers, atoms)
+        };
         if f == SUSP {
             return second_ran(bytes[STATE], 4 * at, 4 * second, g);
         }
@@ -183,14 +169,6 @@ fn run_half(
         let f = run_child(table, i + 1, bytes, numbers, atoms);
         return first_ran(bytes[STATE], 4 * i, 4 * second, f, g);
     }
-    if half_par(
-        kind_at(*table, second),
-        bytes[STATE][4 * second],
-        bytes[STATE][4 * second + FLAGS],
-    ) {
-        let g = run_half(table, second, bytes, numbers, atoms);
-        return par_end(bytes[STATE], 4 * i, 4 * second, f, g);
-    }
     let g = run_child(table, second, bytes, numbers, atoms);
     par_end(bytes[STATE], 4 * i, 4 * second, f, g)
 }
@@ -223,12 +201,11 @@ fn run_seq(
         return f;
     }
     let second = second_at(*table, i);
-    if kind_at(*table, second) == kinds::SEQ {
-        let g = run_seq(table, second, bytes, numbers, atoms);
-        bytes[STATE][4 * i] = phase_after(g, SECOND);
-        return g;
-    }
-    let g = run_child(table, second, bytes, numbers, atoms);
+    let g = if kind_at(*table, second) == kinds::SEQ {
+        run_seq(table, second, bytes, numbers, atoms)
+    } else {
+        run_child(table, second, bytes, numbers, atoms)
+    };
     bytes[STATE][4 * i] = phase_after(g, SECOND);
     g
 }
@@ -249,12 +226,11 @@ fn run_second(
         ⌜ Named (now (bytes .entry)) (now (bytes .exit)) (now (atoms .entry)) (now (atoms .exit)) ⌝ }
 {
     let second = second_at(*table, i);
-    if bytes[STATE][4 * second] == SECOND {
-        let f = run_second(table, second, bytes, numbers, atoms);
-        bytes[STATE][4 * i] = phase_after(f, SECOND);
-        return f;
-    }
-    let f = run_child(table, second, bytes, numbers, atoms);
+    let f = if bytes[STATE][4 * second] == SECOND {
+        run_second(table, second, bytes, numbers, atoms)
+    } else {
+        run_child(table, second, bytes, numbers, atoms)
+    };
     bytes[STATE][4 * i] = phase_after(f, SECOND);
     f
 }
@@ -281,11 +257,7 @@ fn run_loop(
         return TERM;
     }
     if phase == BEGUN {
-        let f = if kind_at(*table, i + 1) == kinds::LOOP {
-            run_loop(table, i + 1, bytes, numbers, atoms)
-        } else {
-            run_child(table, i + 1, bytes, numbers, atoms)
-        };
+        let f = run_child(table, i + 1, bytes, numbers, atoms);
         if f != TERM {
             return f;
         }
@@ -421,20 +393,17 @@ fn run_until(
         return run_pending(table, i, bytes, numbers);
     }
     let rank = test_rank(table, i, numbers);
-    if rank == UNKNOWN {
-        bytes[STATE][4 * i] = STARRED;
-        return SUSP;
+    let f = read_star(
+        bytes[STATE],
+        4 * i,
+        4 * second_at(*table, i),
+        rank,
+        numbers[ENDED],
+    );
+    if f != TERM {
+        return f;
     }
-    if rank == UNSAT {
-        bytes[STATE][4 * i] = 0;
-        return STOP;
-    }
-    clear_part(bytes[STATE], 4 * i + 4, 4 * second_at(*table, i));
-    if numbers[ENDED] == 0 {
-        return run_second(table, i, bytes, numbers, atoms);
-    }
-    bytes[STATE][4 * i] = SECOND;
-    STOP
+    run_second(table, i, bytes, numbers, atoms)
 }
 
 // Rules 26 to 28.
@@ -484,12 +453,6 @@ fn run_local(
     }
     let event = argument_at(*table, i);
     let outside = exchange_event(numbers, event, phase == PLUS);
-    if kind_at(*table, i + 1) == kinds::LOCAL {
-        let f = run_local(table, i + 1, bytes, numbers, atoms);
-        let inside = exchange_event(numbers, event, outside);
-        bytes[STATE][4 * i] = sign_after(f, inside);
-        return f;
-    }
     let f = run_child(table, i + 1, bytes, numbers, atoms);
     let inside = exchange_event(numbers, event, outside);
     bytes[STATE][4 * i] = sign_after(f, inside);

@@ -7,7 +7,7 @@ use mathlib.Core.List.{List}
 use native.Mathlib.Omega.{arith}
 use lib.Dec.{lit<, ltb}
 use lib.ListN.{getD, set}
-use borrow.Author.Tests.{eqb-true, eqb-false, ne-eqb, not-true}
+use borrow.Author.Tests.{eqb-true, ne-eqb}
 use Rattle.events.specs.Members.{marks}
 use Rattle.junior.specs.declared.Verdict.the-variants.{Sat, Unsat, Unknown}
 use Rattle.junior.specs.Configuration.{Config, Event, Not, And, Or, test, fixed, eval, verdict}
@@ -27,7 +27,6 @@ use Rattle.steps.specs.Flags.{flagOf}
 use Rattle.steps.specs.Lent.{lent, CanRun, HasRun}
 use Rattle.steps.proofs.Context.{put-phase}
 use Rattle.steps.proofs.Row.{kept-same}
-use Rattle.steps.proofs.Tested.{both-true}
 use Rattle.steps.proofs.Dispatch.{phase-is}
 
 -- ranks as verdicts
@@ -53,15 +52,15 @@ lone-read table c words (Not d) h k b a eoi moved = absurd (omega (arith, h .0))
 lone-read table c words (And d e) h k b a eoi moved = absurd (omega (arith, h .0))
 lone-read table c words (Or d e) h k b a eoi moved = absurd (omega (arith, h .0))
 
-lone-ranked : (table : List ℕ) (i : ℕ) (m : List ℕ) → partKind table (tested table i) ≡ 0
+lone-ranked : (table : List ℕ) (i : ℕ) (m : List ℕ) → loneEvent table i ≡ true
     → (b : Bool) → marks (wordsOf m) (partEvent table (tested table i)) ≡ b
     → TestRead table i (wordsOf m) (tallyOf m) (verdict (b || ltb 0 (getD m ended-at 0)) b)
-lone-ranked table i m k b a d h = lone-read table (tested table i) (wordsOf m) d h k b a _ _
+lone-ranked table i m lone b a d h = lone-read table (tested table i) (wordsOf m) d h (eqb-true _ _ lone) b a _ _
 
-lone-sat : (table : List ℕ) (i : ℕ) (m : List ℕ) → partKind table (tested table i) ≡ 0
+lone-sat : (table : List ℕ) (i : ℕ) (m : List ℕ) → loneEvent table i ≡ true
     → marks (wordsOf m) (partEvent table (tested table i)) ≡ true → TestRanked table i m 2
 unfolding unranked
-lone-sat table i m k here = lone-ranked table i m k true here
+lone-sat table i m lone here = lone-ranked table i m lone true here
 
 module _ {table : List ℕ} {i : ℕ} {state m : List ℕ} {rooms : Rooms} (on : getD state (4 * i) 0 ≢ 3) where
   pub await-tests : CanRun 0 (OfKind await-kind) (lent table state m rooms) i → CanTest table i m
@@ -70,15 +69,15 @@ module _ {table : List ℕ} {i : ℕ} {state m : List ℕ} {rooms : Rooms} (on :
       record { has = await-has (shape-by t w refl) (λ e. on (phase-is (o .around) h ∙ e)) h; row = o .numbers }
 
   -- a lone event that is absent: it answers whether the end is declared
-  pub lone-run : partKind table (tested table i) ≡ 0 → marks (wordsOf m) (partEvent table (tested table i)) ≡ false
+  pub lone-run : loneEvent table i ≡ true → marks (wordsOf m) (partEvent table (tested table i)) ≡ false
       → HasRun 0 (OfKind await-kind) (lent table state m rooms) i (lent table state m rooms) (getD m ended-at 0)
-  lone-run k a before part behind o =
+  lone-run lone a before part behind o =
       record {
         part′ = part;
         around = o .around;
         kept = kept-same m;
         below = omega (arith, o .numbers .ended-below);
-        runs = go (getD m ended-at 0) (o .numbers .ended-below) (lone-ranked table i m k false a);
+        runs = go (getD m ended-at 0) (o .numbers .ended-below) (lone-ranked table i m lone false a);
       }
     where
       go : (n : ℕ) → n < 2 → TestRead table i (wordsOf m) (tallyOf m) (verdict (ltb 0 n) false)
@@ -132,16 +131,10 @@ module _ {table : List ℕ} {i : ℕ} {state m : List ℕ} {rooms : Rooms} (on :
         }
 
   -- one that is present
-  module _ (k : partKind table (tested table i) ≡ 0) (here : marks (wordsOf m) (partEvent table (tested table i)) ≡ true) where
+  module _ (lone : loneEvent table i ≡ true) (here : marks (wordsOf m) (partEvent table (tested table i)) ≡ true) where
     pub lone-met : getD m ended-at 0 ≡ 0 → HasRun 0 (OfKind await-kind) (lent table state m rooms) i (lent table state m rooms) 2
-    lone-met z = await-met (lone-sat table i m k here) (λ e. omega arith) (λ e. omega arith) z
+    lone-met z = await-met (lone-sat table i m lone here) (λ e. omega arith) (λ e. omega arith) z
 
     pub lone-met-late : getD m ended-at 0 ≢ 0
         → HasRun 0 (OfKind await-kind) (lent table state m rooms) i (lent table (set state (4 * i) 3) m rooms) 1
-    lone-met-late z = await-met-late (lone-sat table i m k here) (λ e. omega arith) (λ e. omega arith) z
-
--- what the test for a lone event says
-pub lone-is : (table : List ℕ) (i phase : ℕ) → loneEvent table i phase ≡ true → (phase ≢ 3) × (partKind table (tested table i) ≡ 0)
-lone-is table i phase e =
-    let (on, k) = both-true _ _ e in
-    (eqb-false phase 3 (not-true _ on), eqb-true _ _ k)
+    lone-met-late z = await-met-late (lone-sat table i m lone here) (λ e. omega arith) (λ e. omega arith) z

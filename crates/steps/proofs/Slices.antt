@@ -27,10 +27,6 @@ pub wrote : {skip : ℕ} {W : Term → Type 0} {L : Lent} {i r : ℕ} {table m r
 wrote [] k v h = h
 wrote (s ∷ slices) k v h = h
 
-pub same-put : (slices : List (RefT (List ℕ))) (bytes : List ℕ) → SameBytes slices (put slices 0 bytes)
-same-put [] bytes = (refl, refl)
-same-put (s ∷ slices) bytes = (refl, refl)
-
 -- the same of the whole answer of a function of the cycle: the slices have the names that they had, and so has the row
 pub written : {skip : ℕ} {W : Term → Type 0} {L : Lent} {i r : ℕ} {table m row : List ℕ} {x y : GName} {B : Type 0}
     (slices : List (RefT (List ℕ))) (k v : ℕ)
@@ -72,6 +68,11 @@ pub state-back : (slices : List (RefT (List ℕ))) (bytes : List ℕ) → length
 state-back [] bytes e = no-bytes bytes e
 state-back (s ∷ slices) bytes e = refl
 
+-- with as many bytes, so that each is still there
+pub byte-back : (slices : List (RefT (List ℕ))) (bytes : List ℕ) {k : ℕ} → length bytes ≡ length (state-in slices .now)
+    → k < length (state-in slices .now) → k < length (state-in (put slices 0 bytes) .now)
+byte-back slices bytes e l = rw (state-back slices bytes e, e) l
+
 pub store-back : (slices : List (RefT (List ℕ))) (bytes : List ℕ) → length bytes ≡ length (store-in slices .now)
     → store-in (put slices 1 bytes) .now ≡ bytes
 store-back [] bytes e = no-bytes bytes e
@@ -87,6 +88,9 @@ state-stays (s ∷ slices) bytes = refl
 pub same-state-back : (first slices : List (RefT (List ℕ))) (bytes : List ℕ) → SameBytes first slices → SameBytes first (put slices 0 bytes)
 same-state-back first [] bytes p = p
 same-state-back first (s ∷ slices) bytes p = p
+
+pub same-put : (slices : List (RefT (List ℕ))) (bytes : List ℕ) → SameBytes slices (put slices 0 bytes)
+same-put slices bytes = same-state-back slices slices bytes (refl, refl)
 
 pub same-store-back : (first slices : List (RefT (List ℕ))) (bytes : List ℕ) → SameBytes first slices → SameBytes first (put slices 1 bytes)
 same-store-back first [] bytes p = p

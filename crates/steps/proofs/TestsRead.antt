@@ -2,7 +2,6 @@
 use Prim.Native.Nat.{ℕ, zero, suc, _+_, _*_, _<_}
 use mathlib.Core.Bool.{Bool, not}
 use mathlib.Core.Path.{_≡_, refl, sym, _∙_}
-use mathlib.Core.Logic.{_≢_}
 use mathlib.Core.List.{List}
 use native.Mathlib.Omega.{arith}
 use lib.Dec.{eqb, ltb}
@@ -30,9 +29,9 @@ module _ {table : List ℕ} {i : ℕ} {m : List ℕ} (h : CanTest table i m) whe
   table-short = let f = h .has .loaded .framed in omega (arith, f .long, f .n-most, f .m-most)
 
 module _ {table : List ℕ} {i : ℕ} {m : List ℕ} (h : CanTest table i m) {c : ℕ} (at : c ≡ tested table i) where
-  -- whether it is a lone event, read at a node that isn't in phase 3
-  pub lone-found : {k phase : ℕ} → k ≡ partKind table c → phase ≢ 3 → eqb k 0 ≡ loneEvent table i phase
-  lone-found {k} {phase} p on = rw (ne-eqb phase 3 on, ← at, ← p)
+  -- whether it is a lone event
+  pub lone-found : {k : ℕ} → k ≡ partKind table c → eqb k 0 ≡ loneEvent table i
+  lone-found p = rw (← at, ← p)
 
   -- and whether that is present
   pub lone-marked : {e : ℕ} {x b : Bool} → (e ≡ partEvent table c) × (e < places) → x ≡ marks m e → x ≡ b

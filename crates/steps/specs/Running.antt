@@ -125,12 +125,13 @@ Phase ph t = head t .phase ≡ ph
 abbrev pub KindPhase : ℕ → ℕ → Term → Type 0
 KindPhase k ph t = (kind (prog t) ≡ k) × (head t .phase ≡ ph)
 
--- the kinds of a Repeat and of a RepeatExt; begun ones with k runs still to begin
-abbrev pub Repeating : ℕ → Type 0
-Repeating k = (k ≡ repeat-kind) ⊎ (k ≡ repeat-ext-kind)
+-- those of the one kind or of the other
+abbrev pub Either : ℕ → ℕ → Term → Type 0
+Either a b t = (kind (prog t) ≡ a) ⊎ (kind (prog t) ≡ b)
 
+-- a begun Repeat or RepeatExt with k runs still to begin
 abbrev pub Times : ℕ → Term → Type 0
-Times k t = Repeating (kind (prog t)) × (head t .phase ≡ 1) × (head t .count ≡ k)
+Times k t = Either repeat-kind repeat-ext-kind t × (head t .phase ≡ 1) × (head t .count ≡ k)
 
 -- Pars of which only the first branch is suspended, or only the second
 abbrev pub LeftSuspended : Term → Type 0

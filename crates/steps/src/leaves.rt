@@ -1,8 +1,8 @@
-// What a pass does at nodes without children. Each tests for phase 3 itself: it then reads as Nothing, rule 1.
+// What a pass does at nodes without children, and what a test comes to. Each node tests for phase 3 itself: it then reads as Nothing, rule 1.
 ghost use mathlib.Core.Path.{_≡_};
 ghost use mathlib.Core.Bool.{true};
 ghost use mathlib.Core.Logic.{_≢_};
-ghost use Prim.Native.Nat.{_+_, _*_, _<_};
+ghost use Prim.Native.Nat.{_+_, _*_, _<_, _≤_};
 ghost use lib.ListN.{length, getD, set};
 ghost use Rattle.table.specs.Inside.Ranks.{unranked};
 ghost use Rattle.state.specs.Kinds.{nothing-kind, stop-kind, atom-kind, generate-kind, await-kind};
@@ -10,7 +10,7 @@ ghost use Rattle.steps.specs.Kinds.{OfKind, all-seen};
 ghost use Rattle.steps.specs.Lent.{state-in, held, storing, CanRun, HasRun, CanRunBeside, HasRunBeside, SameBytes, Named};
 ghost use Rattle.steps.specs.Numbers.{wordsOf, tallyOf};
 ghost use Rattle.steps.specs.Running.{TestRead};
-ghost use Rattle.steps.specs.Tests.{CanTest, TestRanked, loneEvent};
+ghost use Rattle.steps.specs.Tests.{CanTest, TestRanked, StarRead, loneEvent};
 use crate::flags::STOP;
 use crate::flags::SUSP;
 use crate::flags::TERM;
@@ -21,7 +21,10 @@ use crate::numbers::MOVED;
 use crate::numbers::NUMBERS;
 use crate::numbers::put_event;
 use crate::phases::GONE;
+use crate::phases::SECOND;
+use crate::phases::STARRED;
 use crate::phases::STATE;
+use crate::phases::clear_part;
 use events::marked;
 use junior::Verdict;
 use table::reading::read_configuration;
@@ -128,7 +131,7 @@ pub fn run_generate(
     TERM
 }
 
-// Rules 22 to 25.
+// Rules 22 to 25. A lone event, the most frequent test, is looked at here; the rest stays apart, so that what runs an Await needs no room for it.
 pub fn run_await(
     table: &&[u8],
     i: usize,
@@ -141,13 +144,31 @@ pub fn run_await(
         (storing (table .exit) (bytes .exit) (numbers .exit)) r ⌝ }
     ensures { λ r. ⌜ SameBytes (now (bytes .entry)) (now (bytes .exit)) ⌝ }
 {
-    let phase = bytes[STATE][4 * i];
-    if phase == GONE {
+    if bytes[STATE][4 * i] == GONE {
+        return run_tested(table, i, bytes, numbers);
+    }
+    if lone_event(*table, i, numbers) {
+        return run_lone(table, i, bytes, numbers);
+    }
+    run_tested(table, i, bytes, numbers)
+}
+
+// Any Await, by what its test is read as.
+fn run_tested(
+    table: &&[u8],
+    i: usize,
+    bytes: &mut [&mut [u8]; 2],
+    numbers: &mut [u64; NUMBERS],
+) -> u8
+    requires { ⌜ CanRunBeside all-seen (OfKind await-kind) (storing table bytes numbers) i ⌝ }
+    ensures { λ r.
+        ⌜ HasRunBeside all-seen (OfKind await-kind) (storing (table .entry) (bytes .entry) (numbers .entry)) i
+        (storing (table .exit) (bytes .exit) (numbers .exit)) r ⌝ }
+    ensures { λ r. ⌜ SameBytes (now (bytes .entry)) (now (bytes .exit)) ⌝ }
+{
+    if bytes[STATE][4 * i] == GONE {
         bytes[STATE][4 * i] = 0;
         return TERM;
-    }
-    if lone_event(*table, i, phase, numbers) {
-        return run_lone(table, i, bytes, numbers);
     }
     let rank = rank_of(read_test(table, i, numbers));
     if rank == UNKNOWN {
@@ -163,26 +184,18 @@ pub fn run_await(
     STOP
 }
 
-// Whether node i, in this phase, tests a lone event.
-pub fn lone_event(table: &[u8], i: usize, phase: u8, numbers: &[u64; NUMBERS]) -> bool
-    requires { ⌜ (phase ≢ 3 → CanTest (now table) i (now numbers)) ⌝ }
-    ensures { λ r. ⌜ r ≡ loneEvent (now (table .entry)) i phase ⌝ }
+// Whether node i tests a lone event.
+fn lone_event(table: &[u8], i: usize, numbers: &[u64; NUMBERS]) -> bool
+    requires { ⌜ CanTest (now table) i (now numbers) ⌝ }
+    ensures { λ r. ⌜ r ≡ loneEvent (now (table .entry)) i ⌝ }
 {
-    if phase == GONE {
-        return false;
-    }
     part_kind(table, numbers[BASE] as usize + 4 * argument_at(table, i)) == 0
 }
 
 // An Await of a lone event: absent, it leaves the Await waiting, or stopped once the end is declared.
-pub fn run_lone(
-    table: &&[u8],
-    i: usize,
-    bytes: &mut [&mut [u8]; 2],
-    numbers: &mut [u64; NUMBERS],
-) -> u8
+fn run_lone(table: &&[u8], i: usize, bytes: &mut [&mut [u8]; 2], numbers: &mut [u64; NUMBERS]) -> u8
     requires { ⌜ CanRunBeside all-seen (OfKind await-kind) (storing table bytes numbers) i ⌝ }
-    requires { ⌜ loneEvent (now (now table)) i (getD (now (state-in (now bytes))) (4 * i) 0) ≡ true ⌝ }
+    requires { ⌜ (getD (now (state-in (now bytes))) (4 * i) 0 ≢ 3) × (loneEvent (now (now table)) i ≡ true) ⌝ }
     ensures { λ r.
         ⌜ HasRunBeside all-seen (OfKind await-kind) (storing (table .entry) (bytes .entry) (numbers .entry)) i
         (storing (table .exit) (bytes .exit) (numbers .exit)) r ⌝ }
@@ -207,7 +220,28 @@ pub fn test_rank(table: &&[u8], i: usize, numbers: &[u64; NUMBERS]) -> u8
     rank_of(read_test(table, i, numbers))
 }
 
-// The same as a verdict. An Await reads its test by this and not by `test_rank`: so the compiler puts the reading into `run_await`, and that
+// An Until* at byte `at`, its handler at byte `second`, whose test has been read by its rank: rules 31 to 34. TERM where the handler is now to be run.
+pub fn read_star(state: &mut [u8], at: usize, second: usize, rank: u8, ended: u64) -> u8
+    requires { ⌜ (at + 4 ≤ second) × (second ≤ length (now state)) ⌝ }
+    ensures { λ r. ⌜ StarRead rank ended at second (now (state .entry)) (now (state .exit)) r ⌝ }
+{
+    if rank == UNKNOWN {
+        state[at] = STARRED;
+        return SUSP;
+    }
+    if rank == UNSAT {
+        state[at] = 0;
+        return STOP;
+    }
+    clear_part(state, at + 4, second);
+    if ended == 0 {
+        return TERM;
+    }
+    state[at] = SECOND;
+    STOP
+}
+
+// The same as a verdict. An Await reads its test by this and not by `test_rank`: so the compiler puts the reading into `run_tested`, and that
 // into nothing.
 fn read_test(table: &&[u8], i: usize, numbers: &[u64; NUMBERS]) -> Verdict
     requires { ⌜ CanTest (now (now table)) i (now numbers) ⌝ }

@@ -1,12 +1,10 @@
 // A node's own four bytes in the whole state, node i's from byte 4i on: the phase, a Par's flags, a Repeat's count (16, big-endian).
 ghost use mathlib.Core.Path.{_≡_};
-ghost use mathlib.Core.Bool.{_&&_, _||_, not, cond};
+ghost use mathlib.Core.Bool.{_&&_, cond};
 ghost use Prim.Native.Nat.{_+_, _-_, _*_, _<_, _≤_, _/_, _%_};
 ghost use lib.Dec.{eqb};
 ghost use lib.ListN.{length, set, replicate};
 ghost use borrow.Rule.Slice.PartMut.{putMid};
-ghost use Rattle.state.specs.Kinds.{par-kind};
-use crate::kinds::PAR;
 use state::clear;
 use table::records::wide;
 
@@ -39,29 +37,6 @@ pub fn both_suspended(phase: u8, flags: u8) -> bool
 {
     if phase == 0 {
         return flags == 0;
-    }
-    false
-}
-
-// Whether a node is such a Par.
-pub fn fresh_par(kind: usize, phase: u8, flags: u8) -> bool
-    ensures { λ r. ⌜ r ≡ (eqb kind par-kind && (eqb phase 0 && eqb flags 0)) ⌝ }
-{
-    if kind == PAR {
-        return both_suspended(phase, flags);
-    }
-    false
-}
-
-// Whether a node is a Par, and not such a one.
-pub fn half_par(kind: usize, phase: u8, flags: u8) -> bool
-    ensures { λ r. ⌜ r ≡ (eqb kind par-kind && not (eqb phase 0 && eqb flags 0)) ⌝ }
-{
-    if kind == PAR {
-        if both_suspended(phase, flags) {
-            return false;
-        }
-        return true;
     }
     false
 }

@@ -8,8 +8,6 @@ use cycle.Proof.Measures.{μ-run-until, μ-run-when}
 use Rattle.table.proofs.records.kind_at.Reads as kind-at-reads
 use Rattle.steps.proofs.phases.both_suspended.Reads as both-suspended-reads
 use Rattle.steps.proofs.leaves.run_await.Reads as run-await-reads
-use Rattle.steps.proofs.leaves.lone_event.Reads as lone-event-reads
-use Rattle.steps.proofs.leaves.run_lone.Reads as run-lone-reads
 use Rattle.steps.proofs.leaves.run_nothing.Reads as run-nothing-reads
 use Rattle.steps.proofs.leaves.run_stop.Reads as run-stop-reads
 use Rattle.steps.proofs.leaves.run_atom.Reads as run-atom-reads
@@ -21,16 +19,14 @@ use borrow.Author.Needs.{needs}
 use mathlib.Core.Path.{refl, sym, _∙_}
 use mathlib.Core.Logic.{inl, inr}
 use lib.Dec.{lit<}
-use Rattle.steps.specs.Running.{Repeating}
-use Rattle.steps.specs.Kinds.{Choosing, Breaking}
 use Rattle.steps.proofs.Tested.{both-zero, not-both-zero}
 use Rattle.steps.proofs.Dispatch.{kind-reads, phase-reads, own-reads, to-kind, by-kind, to-both, by-both, to-half, by-half, to-others}
 use Rattle.steps.proofs.Dispatch.{freezable-event, the-last}
-use Rattle.steps.proofs.Awaits.{await-tests}
 use Rattle.steps.proofs.PendingRuns.{pending-stays}
 use proofs.Indices.{own-fits}
 use proofs.Names.{beside-named}
-use proofs.Told.{to-kinds, by-kinds, each-told}
+use proofs.EitherKind.{to-kinds, by-kinds}
+use proofs.Told.{each-told}
 use Rattle.runner.proofs.Falling.{lower-rank, child-rank, form-rank}
 
 module _ (t : ℕ) where
@@ -46,10 +42,6 @@ module _ (t : ℕ) where
     proofs.run_half.Reads.Post,
     run-await-reads.Asked,
     run-await-reads.Learnt,
-    lone-event-reads.Asked,
-    lone-event-reads.Learnt,
-    run-lone-reads.Asked,
-    run-lone-reads.Learnt,
     smaller proofs.run_seq.Kinds.ps μ-run-seq proofs.run_seq.Reads.Pre t,
     proofs.run_seq.Reads.Post,
     run-nothing-reads.Asked,
@@ -124,72 +116,32 @@ module _ (t : ℕ) where
   -- return run_await(table, i, bytes, numbers);
   run-await-requires : Of lts.Need-run-await-requires
   run-await-requires c κs =
-      let start = c .before .before .before .before .before .before .before .before in
-      let kind-at = c .before .before .before .before .before .before .kind-at in
-      let if3 = c .before .before .before .before .if3 in
+      let start = c .before .before .before .before .before .before in
+      let kind-at = c .before .before .before .before .kind-at in
+      let if3 = c .before .before .if3 in
       (_, to-kind (kind-at .ensures .0) (if3 .taken) (start .pre .1))
 
   returns-3 : Of lts.Need-returns-3
   returns-3 c =
-      let kind-at = c .before .before .before .before .before .before .before .kind-at in
-      let if3 = c .before .before .before .before .before .if3 in
+      let kind-at = c .before .before .before .before .before .kind-at in
+      let if3 = c .before .before .before .if3 in
       let run-await = c .run-await in
       (by-kind (kind-at .ensures .0) (if3 .taken) (run-await .ensures .0 _), beside-named (run-await .ensures .1))
-
-  -- if lone_event(*table, i, phase, numbers) {
-  lone-event-requires : Of lts.Need-lone-event-requires
-  lone-event-requires c κs =
-      let start = c .before .before .before .before .before .before .before .before in
-      let kind-at = c .before .before .before .before .before .before .kind-at in
-      let if3 = c .before .before .before .before .if3 in
-      λ on. await-tests on (to-kind (kind-at .ensures .0) (if3 .taken) (start .pre .1))
-
-  -- return run_lone(table, i, bytes, numbers);
-  run-lone-requires : Of lts.Need-run-lone-requires
-  run-lone-requires c κs =
-      let start = c .before .before .before .before .before .before .before .before .before .before .before .before in
-      let kind-at = c .before .before .before .before .before .before .before .before .before .before .kind-at in
-      let if3 = c .before .before .before .before .before .before .before .before .if3 in
-      let lone-event = c .before .before .before .lone-event in
-      let if5 = c .before .before .if5 in
-      ((_, to-kind (kind-at .ensures .0) (if3 .taken) (start .pre .1)), sym (lone-event .ensures) ∙ if5 .taken)
-
-  returns-4 : Of lts.Need-returns-4
-  returns-4 c =
-      let kind-at = c .before .before .before .before .before .before .before .before .before .before .before .kind-at in
-      let if3 = c .before .before .before .before .before .before .before .before .before .if3 in
-      let run-lone = c .run-lone in
-      (by-kind (kind-at .ensures .0) (if3 .taken) (run-lone .ensures .0 _), beside-named (run-lone .ensures .1))
-
-  -- return run_await(table, i, bytes, numbers);
-  run-await-requires-2 : Of lts.Need-run-await-requires-2
-  run-await-requires-2 c κs =
-      let start = c .before .before .before .before .before .before .before .before .before .before .before .before in
-      let kind-at = c .before .before .before .before .before .before .before .before .before .before .kind-at in
-      let if3 = c .before .before .before .before .before .before .before .before .if3 in
-      (_, to-kind (kind-at .ensures .0) (if3 .taken) (start .pre .1))
-
-  returns-5 : Of lts.Need-returns-5
-  returns-5 c =
-      let kind-at = c .before .before .before .before .before .before .before .before .before .before .before .kind-at in
-      let if3 = c .before .before .before .before .before .before .before .before .before .if3 in
-      let run-await2 = c .run-await2 in
-      (by-kind (kind-at .ensures .0) (if3 .taken) (run-await2 .ensures .0 _), beside-named (run-await2 .ensures .1))
 
   -- return run_seq(table, i, bytes, numbers, atoms);
   run-seq-requires : Of lts.Need-run-seq-requires
   run-seq-requires c κs =
       let start = c .before .before .before .before .before .before .before .before in
       let kind-at = c .before .before .before .before .before .before .kind-at in
-      let if6 = c .before .before .before .if6 in
-      (lower-rank _ child-rank form-rank (lit< tt) (start .pre .0), to-kind (kind-at .ensures .0) (if6 .taken) (start .pre .1))
+      let if4 = c .before .before .before .if4 in
+      (lower-rank _ child-rank form-rank (lit< tt) (start .pre .0), to-kind (kind-at .ensures .0) (if4 .taken) (start .pre .1))
 
-  returns-6 : Of lts.Need-returns-6
-  returns-6 c =
+  returns-4 : Of lts.Need-returns-4
+  returns-4 c =
       let kind-at = c .before .before .before .before .before .before .before .kind-at in
-      let if6 = c .before .before .before .before .if6 in
+      let if4 = c .before .before .before .before .if4 in
       let run-seq = c .run-seq in
-      (by-kind (kind-at .ensures .0) (if6 .taken) (run-seq .ensures .0), run-seq .ensures .1)
+      (by-kind (kind-at .ensures .0) (if4 .taken) (run-seq .ensures .0), run-seq .ensures .1)
 
   -- kinds::NOTHING => run_nothing(table, i, bytes, numbers),
   run-nothing-requires : Of lts.Need-run-nothing-requires
@@ -229,7 +181,7 @@ module _ (t : ℕ) where
       let start = c .before .before .before .before .before .before .before .before .before in
       let kind-at = c .before .before .before .before .before .before .before .kind-at in
       let match = c .before .before .before .match in
-      (lower-rank _ child-rank form-rank (lit< tt) (start .pre .0), to-kinds Repeating (kind-at .ensures .0) (inl (match .keys5)) (start .pre .1))
+      (lower-rank _ child-rank form-rank (lit< tt) (start .pre .0), to-kinds (kind-at .ensures .0) (inl (match .keys5)) (start .pre .1))
 
   -- kinds::REPEAT_EXT => run_repeat(table, i, bytes, numbers, atoms),
   run-repeat-requires-2 : Of lts.Need-run-repeat-requires-2
@@ -237,7 +189,7 @@ module _ (t : ℕ) where
       let start = c .before .before .before .before .before .before .before .before .before in
       let kind-at = c .before .before .before .before .before .before .before .kind-at in
       let match = c .before .before .before .match in
-      (lower-rank _ child-rank form-rank (lit< tt) (start .pre .0), to-kinds Repeating (kind-at .ensures .0) (inr (match .keys6)) (start .pre .1))
+      (lower-rank _ child-rank form-rank (lit< tt) (start .pre .0), to-kinds (kind-at .ensures .0) (inr (match .keys6)) (start .pre .1))
 
   -- kinds::GENERATE => run_generate(table, i, bytes, numbers),
   run-generate-requires : Of lts.Need-run-generate-requires
@@ -253,7 +205,7 @@ module _ (t : ℕ) where
       let start = c .before .before .before .before .before .before .before .before .before in
       let kind-at = c .before .before .before .before .before .before .before .kind-at in
       let match = c .before .before .before .match in
-      (lower-rank _ child-rank form-rank (lit< tt) (start .pre .0), to-kinds Choosing (kind-at .ensures .0) (inl (match .keys8)) (start .pre .1))
+      (lower-rank _ child-rank form-rank (lit< tt) (start .pre .0), to-kinds (kind-at .ensures .0) (inl (match .keys8)) (start .pre .1))
 
   -- kinds::UNTIL => run_until(table, i, bytes, numbers, atoms),
   run-until-requires : Of lts.Need-run-until-requires
@@ -261,7 +213,7 @@ module _ (t : ℕ) where
       let start = c .before .before .before .before .before .before .before .before .before in
       let kind-at = c .before .before .before .before .before .before .before .kind-at in
       let match = c .before .before .before .match in
-      (lower-rank _ child-rank form-rank (lit< tt) (start .pre .0), to-kinds Breaking (kind-at .ensures .0) (inl (match .keys9)) (start .pre .1))
+      (lower-rank _ child-rank form-rank (lit< tt) (start .pre .0), to-kinds (kind-at .ensures .0) (inl (match .keys9)) (start .pre .1))
 
   -- kinds::CONTROL => run_control(table, i, bytes, numbers, atoms),
   run-control-requires : Of lts.Need-run-control-requires
@@ -280,13 +232,13 @@ module _ (t : ℕ) where
       freezable-event (to-kind (kind-at .ensures .0) (match .keys11) (start .pre .1))
 
   -- return SUSP;
-  returns-7 : Of lts.Need-returns-7
-  returns-7 c =
+  returns-5 : Of lts.Need-returns-5
+  returns-5 c =
       let kind-at = c .before .before .before .before .before .before .before .before .before .kind-at in
       let match = c .before .before .before .before .before .match in
       let stays-pending = c .before .stays-pending in
-      let if7 = c .if7 in
-      let stays = pending-stays (sym (stays-pending .ensures) ∙ if7 .taken) in
+      let if5 = c .if5 in
+      let stays = pending-stays (sym (stays-pending .ensures) ∙ if5 .taken) in
       (by-kind (kind-at .ensures .0) (match .keys11) stays, ((refl, refl), refl))
 
   -- run_until(table, i, bytes, numbers, atoms)
@@ -295,7 +247,7 @@ module _ (t : ℕ) where
       let start = c .before .before .before .before .before .before .before .before .before .before .before .before .before .before in
       let kind-at = c .before .before .before .before .before .before .before .before .before .before .before .before .kind-at in
       let match = c .before .before .before .before .before .before .before .before .match in
-      (lower-rank _ child-rank form-rank (lit< tt) (start .pre .0), to-kinds Breaking (kind-at .ensures .0) (inr (match .keys11)) (start .pre .1))
+      (lower-rank _ child-rank form-rank (lit< tt) (start .pre .0), to-kinds (kind-at .ensures .0) (inr (match .keys11)) (start .pre .1))
 
   -- kinds::IF => run_when(table, i, bytes, numbers, atoms),
   run-when-requires-2 : Of lts.Need-run-when-requires-2
@@ -303,7 +255,7 @@ module _ (t : ℕ) where
       let start = c .before .before .before .before .before .before .before .before .before in
       let kind-at = c .before .before .before .before .before .before .before .kind-at in
       let match = c .before .before .before .match in
-      (lower-rank _ child-rank form-rank (lit< tt) (start .pre .0), to-kinds Choosing (kind-at .ensures .0) (inr (match .keys12)) (start .pre .1))
+      (lower-rank _ child-rank form-rank (lit< tt) (start .pre .0), to-kinds (kind-at .ensures .0) (inr (match .keys12)) (start .pre .1))
 
   -- _ => run_local(table, i, bytes, numbers, atoms),
   run-local-requires : Of lts.Need-run-local-requires
@@ -312,107 +264,107 @@ module _ (t : ℕ) where
       let kind-at = c .before .before .before .before .before .before .before .kind-at in
       let if1 = c .before .before .before .before .before .before .if1 in
       let if3 = c .before .before .before .before .before .if3 in
-      let if6 = c .before .before .before .before .if6 in
+      let if4 = c .before .before .before .before .if4 in
       let match = c .before .before .before .match in
-      let others = to-others (kind-at .ensures .0) (if1 .left) (if3 .left) (if6 .left) (start .pre .1) in
+      let others = to-others (kind-at .ensures .0) (if1 .left) (if3 .left) (if4 .left) (start .pre .1) in
       let local = the-last others (kind-at .ensures .0) (each-told (match .rest)) in
       (lower-rank _ child-rank form-rank (lit< tt) (start .pre .0), to-kind (kind-at .ensures .0) local (start .pre .1))
 
   -- pub fn run_child
-  returns-8 : Of lts.Need-returns-8
-  returns-8 c =
+  returns-6 : Of lts.Need-returns-6
+  returns-6 c =
       let kind-at = c .before .before .before .before .before .before .before .kind-at in
       let match = c .before .before .before .match in
       let run-nothing = c .run-nothing in
       (by-kind (kind-at .ensures .0) (match .keys1) (run-nothing .ensures .0 _), beside-named (run-nothing .ensures .1))
 
-  returns-9 : Of lts.Need-returns-9
-  returns-9 c =
+  returns-7 : Of lts.Need-returns-7
+  returns-7 c =
       let kind-at = c .before .before .before .before .before .before .before .kind-at in
       let match = c .before .before .before .match in
       let run-stop = c .run-stop in
       (by-kind (kind-at .ensures .0) (match .keys2) (run-stop .ensures .0 _), beside-named (run-stop .ensures .1))
 
-  returns-10 : Of lts.Need-returns-10
-  returns-10 c =
+  returns-8 : Of lts.Need-returns-8
+  returns-8 c =
       let kind-at = c .before .before .before .before .before .before .before .before .kind-at in
       let match = c .before .before .before .before .match in
       let run-atom = c .run-atom in
       (by-kind (kind-at .ensures .0) (match .keys3) (run-atom .ensures .0), run-atom .ensures .1)
 
-  returns-11 : Of lts.Need-returns-11
-  returns-11 c =
+  returns-9 : Of lts.Need-returns-9
+  returns-9 c =
       let kind-at = c .before .before .before .before .before .before .before .before .kind-at in
       let match = c .before .before .before .before .match in
       let run-loop = c .run-loop in
       (by-kind (kind-at .ensures .0) (match .keys4) (run-loop .ensures .0), run-loop .ensures .1)
 
-  returns-12 : Of lts.Need-returns-12
-  returns-12 c =
+  returns-10 : Of lts.Need-returns-10
+  returns-10 c =
       let kind-at = c .before .before .before .before .before .before .before .before .kind-at in
       let match = c .before .before .before .before .match in
       let run-repeat = c .run-repeat in
-      (by-kinds Repeating (kind-at .ensures .0) (inl (match .keys5)) (run-repeat .ensures .0), run-repeat .ensures .1)
+      (by-kinds (kind-at .ensures .0) (inl (match .keys5)) (run-repeat .ensures .0), run-repeat .ensures .1)
 
-  returns-13 : Of lts.Need-returns-13
-  returns-13 c =
+  returns-11 : Of lts.Need-returns-11
+  returns-11 c =
       let kind-at = c .before .before .before .before .before .before .before .before .kind-at in
       let match = c .before .before .before .before .match in
       let run-repeat2 = c .run-repeat2 in
-      (by-kinds Repeating (kind-at .ensures .0) (inr (match .keys6)) (run-repeat2 .ensures .0), run-repeat2 .ensures .1)
+      (by-kinds (kind-at .ensures .0) (inr (match .keys6)) (run-repeat2 .ensures .0), run-repeat2 .ensures .1)
 
-  returns-14 : Of lts.Need-returns-14
-  returns-14 c =
+  returns-12 : Of lts.Need-returns-12
+  returns-12 c =
       let kind-at = c .before .before .before .before .before .before .before .kind-at in
       let match = c .before .before .before .match in
       let run-generate = c .run-generate in
       (by-kind (kind-at .ensures .0) (match .keys7) (run-generate .ensures .0 _), beside-named (run-generate .ensures .1))
 
-  returns-15 : Of lts.Need-returns-15
-  returns-15 c =
+  returns-13 : Of lts.Need-returns-13
+  returns-13 c =
       let kind-at = c .before .before .before .before .before .before .before .before .kind-at in
       let match = c .before .before .before .before .match in
       let run-when = c .run-when in
-      (by-kinds Choosing (kind-at .ensures .0) (inl (match .keys8)) (run-when .ensures .0), run-when .ensures .1)
+      (by-kinds (kind-at .ensures .0) (inl (match .keys8)) (run-when .ensures .0), run-when .ensures .1)
 
-  returns-16 : Of lts.Need-returns-16
-  returns-16 c =
+  returns-14 : Of lts.Need-returns-14
+  returns-14 c =
       let kind-at = c .before .before .before .before .before .before .before .before .kind-at in
       let match = c .before .before .before .before .match in
       let run-until = c .run-until in
-      (by-kinds Breaking (kind-at .ensures .0) (inl (match .keys9)) (run-until .ensures .0), run-until .ensures .1)
+      (by-kinds (kind-at .ensures .0) (inl (match .keys9)) (run-until .ensures .0), run-until .ensures .1)
 
-  returns-17 : Of lts.Need-returns-17
-  returns-17 c =
+  returns-15 : Of lts.Need-returns-15
+  returns-15 c =
       let kind-at = c .before .before .before .before .before .before .before .before .kind-at in
       let match = c .before .before .before .before .match in
       let run-control = c .run-control in
       (by-kind (kind-at .ensures .0) (match .keys10) (run-control .ensures .0), run-control .ensures .1)
 
-  returns-18 : Of lts.Need-returns-18
-  returns-18 c =
+  returns-16 : Of lts.Need-returns-16
+  returns-16 c =
       let kind-at = c .before .before .before .before .before .before .before .before .before .before .before .before .before .kind-at in
       let match = c .before .before .before .before .before .before .before .before .before .match in
       let run-until2 = c .run-until2 in
-      (by-kinds Breaking (kind-at .ensures .0) (inr (match .keys11)) (run-until2 .ensures .0), run-until2 .ensures .1)
+      (by-kinds (kind-at .ensures .0) (inr (match .keys11)) (run-until2 .ensures .0), run-until2 .ensures .1)
 
-  returns-19 : Of lts.Need-returns-19
-  returns-19 c =
+  returns-17 : Of lts.Need-returns-17
+  returns-17 c =
       let kind-at = c .before .before .before .before .before .before .before .before .kind-at in
       let match = c .before .before .before .before .match in
       let run-when2 = c .run-when2 in
-      (by-kinds Choosing (kind-at .ensures .0) (inr (match .keys12)) (run-when2 .ensures .0), run-when2 .ensures .1)
+      (by-kinds (kind-at .ensures .0) (inr (match .keys12)) (run-when2 .ensures .0), run-when2 .ensures .1)
 
-  returns-20 : Of lts.Need-returns-20
-  returns-20 c =
+  returns-18 : Of lts.Need-returns-18
+  returns-18 c =
       let start = c .before .before .before .before .before .before .before .before .before .before in
       let kind-at = c .before .before .before .before .before .before .before .before .kind-at in
       let if1 = c .before .before .before .before .before .before .before .if1 in
       let if3 = c .before .before .before .before .before .before .if3 in
-      let if6 = c .before .before .before .before .before .if6 in
+      let if4 = c .before .before .before .before .before .if4 in
       let match = c .before .before .before .before .match in
       let run-local = c .run-local in
-      let others = to-others (kind-at .ensures .0) (if1 .left) (if3 .left) (if6 .left) (start .pre .1) in
+      let others = to-others (kind-at .ensures .0) (if1 .left) (if3 .left) (if4 .left) (start .pre .1) in
       let local = the-last others (kind-at .ensures .0) (each-told (match .rest)) in
       (by-kind (kind-at .ensures .0) local (run-local .ensures .0), run-local .ensures .1)
 
@@ -431,18 +383,10 @@ module _ (t : ℕ) where
       returns
       run-half-requires
       returns-2
-      (λ c. own-fits (c .before .before .before .before .pre .1))  -- mul-phase: let phase = bytes[STATE][4 * i];
-      (λ c. search needs)  -- index-1-phase
-      (λ c. phase-reads (c .before .before .before .before .pre .1))  -- index-2-phase
       run-await-requires
       returns-3
-      lone-event-requires
-      run-lone-requires
-      returns-4
-      run-await-requires-2
-      returns-5
       run-seq-requires
-      returns-6
+      returns-4
       run-nothing-requires
       run-stop-requires
       run-atom-requires
@@ -457,10 +401,12 @@ module _ (t : ℕ) where
       (λ c. search needs)  -- index-1-stays-pending
       (λ c. phase-reads (c .before .before .before .before .before .before .before .pre .1))  -- index-2-stays-pending
       stays-pending-requires
-      returns-7
+      returns-5
       run-until-requires-2
       run-when-requires-2
       run-local-requires
+      returns-6
+      returns-7
       returns-8
       returns-9
       returns-10
@@ -472,5 +418,3 @@ module _ (t : ℕ) where
       returns-16
       returns-17
       returns-18
-      returns-19
-      returns-20

@@ -1,14 +1,14 @@
 -- A Control meets its contract: rules 26 to 28.
 use Rattle.runner.proofs as proofs
-use proofs.+run_child+run_control+run_half+run_local+run_loop+run_par+run_repeat+run_second+run_seq+run_until+run_when.Lts-run_control as lts
+use proofs.+run_child+run_control+run_half+run_local+run_loop+run_par+run_repeat+run_second+run_seq+run_until+run_when as cycle
+use cycle.Lts-run_control as lts
 use proofs.run_control.Reads.{Pre, Post}
-use proofs.+run_child+run_control+run_half+run_local+run_loop+run_par+run_repeat+run_second+run_seq+run_until+run_when.Proof.Measures.{exactly, smaller, μ-run-child, μ-run-control}
+use cycle.Proof.Measures.{exactly, smaller, μ-run-child, μ-run-control}
 use Rattle.table.proofs.records.argument_at.Reads as argument-at-reads
 use Rattle.steps.proofs.numbers.has_event.Reads as has-event-reads
 use borrow.Fn.Kinds.{In, Out}
 use Prim.Native.Nat.{ℕ}
 use borrow.Author.Needs.{needs}
-use proofs.+run_child+run_control+run_half+run_local+run_loop+run_par+run_repeat+run_second+run_seq+run_until+run_when as cycle
 use mathlib.Core.Path.{refl, sym, _∙_}
 use Rattle.steps.proofs.Ended.{done-run}
 use Rattle.steps.proofs.Slices.{written}

@@ -1,29 +1,27 @@
 -- A Par of which one branch is run meets its contract: rules 10 and 11.
 use Rattle.runner.proofs as proofs
-use proofs.+run_child+run_control+run_half+run_local+run_loop+run_par+run_repeat+run_second+run_seq+run_until+run_when.Lts-run_half as lts
+use proofs.+run_child+run_control+run_half+run_local+run_loop+run_par+run_repeat+run_second+run_seq+run_until+run_when as cycle
+use cycle.Lts-run_half as lts
 use proofs.run_half.Reads.{Pre, Post}
-use proofs.+run_child+run_control+run_half+run_local+run_loop+run_par+run_repeat+run_second+run_seq+run_until+run_when.Proof.Measures.{exactly, smaller, μ-run-child, μ-run-half}
+use cycle.Proof.Measures.{exactly, smaller, μ-run-child, μ-run-half}
 use Rattle.table.proofs.records.second_at.Reads as second-at-reads
 use Rattle.steps.proofs.flags.first_ran.Reads as first-ran-reads
-use Rattle.table.proofs.records.kind_at.Reads as kind-at-reads
-use Rattle.steps.proofs.phases.half_par.Reads as half-par-reads
 use Rattle.steps.proofs.flags.par_end.Reads as par-end-reads
 use borrow.Fn.Kinds.{In, Out}
 use Prim.Native.Nat.{ℕ}
 use borrow.Author.Needs.{needs}
-use proofs.+run_child+run_control+run_half+run_local+run_loop+run_par+run_repeat+run_second+run_seq+run_until+run_when as cycle
-use mathlib.Core.Path.{refl, sym, _∙_}
+use mathlib.Core.Path.{refl}
 use lib.Dec.{lit<}
 use native.Mathlib.Omega.{arith}
-use Rattle.steps.proofs.Tested.{half-pair}
 use Rattle.steps.proofs.Ended.{done-run}
 use Rattle.steps.proofs.Slices.{written, rewritten}
-use Rattle.steps.proofs.Dispatch.{kind-reads, phase-reads, own-reads, to-half, by-half}
+use Rattle.steps.proofs.Dispatch.{phase-reads, own-reads}
 use Rattle.steps.specs.Running.{rooms-of}
 use Rattle.steps.specs.Lent.{state-in, store-in}
 use proofs.Indices.{own-fits, byte-fits}
 use proofs.Falling.{lighter, child-rank, form-rank}
-use proofs.HalfRuns.{half-second-in, half-left, half-left-joins, half-left-keeps, half-left-done, half-right, half-right-joins, half-right-done, half-second-few}
+use proofs.HalfRuns.{half-second-in, half-second-few, half-left, half-left-joins, half-left-keeps, half-left-done}
+use proofs.HalfRuns.{half-right, half-right-joins, half-right-done}
 
 module _ (t : ℕ) where
   abbrev given : lts.Claims
@@ -34,12 +32,6 @@ module _ (t : ℕ) where
     proofs.run_child.Reads.Post,
     first-ran-reads.Asked,
     first-ran-reads.Learnt,
-    kind-at-reads.Asked,
-    kind-at-reads.Learnt,
-    half-par-reads.Asked,
-    half-par-reads.Learnt,
-    smaller proofs.run_half.Kinds.ps μ-run-half proofs.run_half.Reads.Pre t,
-    proofs.run_half.Reads.Post,
     par-end-reads.Asked,
     par-end-reads.Learnt,
   )
@@ -113,162 +105,31 @@ module _ (t : ℕ) where
       (if1 .left) (if2 .taken) (second-at .ensures) (run-child .ensures .0) (first-ran .ensures) in
       rewritten slices (first-ran .last .0) (joins .2) (done, run-child .ensures .1)
 
-  -- kind_at(*table, second),
-  kind-at-requires : Of lts.Need-kind-at-requires
-  kind-at-requires c κs =
-      let start = c .before .before .before .before .before .before .before in
-      let if1 = c .before .before .before .before .before .if1 in
-      let second-at = c .before .before .second-at in
-      let if2 = c .before .if2 in
-      kind-reads (half-right (if1 .left) (if2 .left) (second-at .ensures) (start .pre .1) .1)
-
-  -- bytes[STATE][4 * second],
-  mul-half-par : Of lts.Need-mul-half-par
-  mul-half-par c =
-      let start = c .before .before .before .before .before .before .before .before in
-      let if1 = c .before .before .before .before .before .before .if1 in
-      let second-at = c .before .before .before .second-at in
-      let if2 = c .before .before .if2 in
-      own-fits (half-right (if1 .left) (if2 .left) (second-at .ensures) (start .pre .1) .1)
-
-  index-2-half-par : Of lts.Need-index-2-half-par
-  index-2-half-par c =
-      let start = c .before .before .before .before .before .before .before .before in
-      let if1 = c .before .before .before .before .before .before .if1 in
-      let second-at = c .before .before .before .second-at in
-      let if2 = c .before .before .if2 in
-      phase-reads (half-right (if1 .left) (if2 .left) (second-at .ensures) (start .pre .1) .1)
-
-  -- bytes[STATE][4 * second + FLAGS],
-  mul-half-par-2 : Of lts.Need-mul-half-par-2
-  mul-half-par-2 c =
-      let start = c .before .before .before .before .before .before .before .before .before in
-      let if1 = c .before .before .before .before .before .before .before .if1 in
-      let second-at = c .before .before .before .before .second-at in
-      let if2 = c .before .before .before .if2 in
-      own-fits (half-right (if1 .left) (if2 .left) (second-at .ensures) (start .pre .1) .1)
-
-  add-half-par : Of lts.Need-add-half-par
-  add-half-par c =
-      let start = c .before .before .before .before .before .before .before .before .before in
-      let if1 = c .before .before .before .before .before .before .before .if1 in
-      let second-at = c .before .before .before .before .second-at in
-      let if2 = c .before .before .before .if2 in
-      byte-fits (half-right (if1 .left) (if2 .left) (second-at .ensures) (start .pre .1) .1) 1 (lit< tt)
-
-  index-2-half-par-2 : Of lts.Need-index-2-half-par-2
-  index-2-half-par-2 c =
-      let start = c .before .before .before .before .before .before .before .before .before in
-      let if1 = c .before .before .before .before .before .before .before .if1 in
-      let second-at = c .before .before .before .before .second-at in
-      let if2 = c .before .before .before .if2 in
-      own-reads (half-right (if1 .left) (if2 .left) (second-at .ensures) (start .pre .1) .1) 1 (lit< tt)
-
-  -- let g = run_half(table, second, bytes, numbers, atoms);
-  run-half-requires : Of lts.Need-run-half-requires
-  run-half-requires c κs =
-      let start = c .before .before .before .before .before .before .before .before .before .before .before .before .before .before .before in
-      let if1 = c .before .before .before .before .before .before .before .before .before .before .before .before .before .if1 in
-      let second-at = c .before .before .before .before .before .before .before .before .before .before .second-at in
-      let if2 = c .before .before .before .before .before .before .before .before .before .if2 in
-      let kind-at = c .before .before .before .before .before .before .before .kind-at in
-      let half-par = c .before .before .before .before .half-par in
-      let if3 = c .before .before .before .if3 in
-      let (l, s) = half-right (if1 .left) (if2 .left) (second-at .ensures) (start .pre .1) in
-      let (k, z) = half-pair _ _ _ (sym (half-par .ensures) ∙ if3 .taken) in
-      (lighter form-rank form-rank (lit< tt) l (start .pre .0), to-half (kind-at .ensures .0) k z s)
-
-  -- return par_end(bytes[STATE], 4 * i, 4 * second, f, g);
-  mul-par-end : Of lts.Need-mul-par-end
-  mul-par-end c =
-      let c8 = c .before .before .before .before .before .before .before .before in
-      let start = c8 .before .before .before .before .before .before .before .before .before in
-      own-fits (start .pre .1)
-
-  mul-par-end-2 : Of lts.Need-mul-par-end-2
-  mul-par-end-2 c =
-      let c8 = c .before .before .before .before .before .before .before .before in
-      let start = c8 .before .before .before .before .before .before .before .before .before in
-      let if1 = c8 .before .before .before .before .before .before .before .if1 in
-      let second-at = c8 .before .before .before .before .second-at in
-      let if2 = c8 .before .before .before .if2 in
-      own-fits (half-right (if1 .left) (if2 .left) (second-at .ensures) (start .pre .1) .1)
-
-  par-end-requires : Of lts.Need-par-end-requires
-  par-end-requires c κs =
-      let c8 = c .before .before .before .before .before .before .before .before in
-      let start = c8 .before .before .before .before .before .before .before .before .before in
-      let if1 = c8 .before .before .before .before .before .before .before .if1 in
-      let second-at = c8 .before .before .before .before .second-at in
-      let if2 = c8 .before .before .before .if2 in
-      let kind-at = c8 .before .kind-at in
-      let half-par = c .before .before .before .before .before .before .half-par in
-      let if3 = c .before .before .before .before .before .if3 in
-      let run-half = c .before .run-half in
-      let A = start .args in
-      let (k, z) = half-pair _ _ _ (sym (half-par .ensures) ∙ if3 .taken) in
-      let second = by-half (kind-at .ensures .0) k z (run-half .ensures .0) in
-      half-right-joins {table = A .table .now .now} {i = A .i} {state = state-in (A .bytes .now) .now} {m = A .numbers .now}
-      {rooms = rooms-of (A .atoms .now .now) (store-in (A .bytes .now) .now)}
-      (if1 .left) (if2 .left) (second-at .ensures) second (start .pre .1)
-
-  returns-3 : Of lts.Need-returns-3
-  returns-3 c =
-      let c8 = c .before .before .before .before .before .before .before .before in
-      let start = c8 .before .before .before .before .before .before .before .before .before .before in
-      let if1 = c8 .before .before .before .before .before .before .before .before .if1 in
-      let second-at = c8 .before .before .before .before .before .second-at in
-      let if2 = c8 .before .before .before .before .if2 in
-      let kind-at = c8 .before .before .kind-at in
-      let half-par = c .before .before .before .before .before .before .before .half-par in
-      let if3 = c .before .before .before .before .before .before .if3 in
-      let run-half = c .before .before .run-half in
-      let par-end = c .par-end in
-      let A = start .args in
-      let (k, z) = half-pair _ _ _ (sym (half-par .ensures) ∙ if3 .taken) in
-      let second = by-half (kind-at .ensures .0) k z (run-half .ensures .0) in
-      let slices = run-half .last .1 .1 .0 in
-      let joins = half-right-joins {table = A .table .now .now} {i = A .i} {state = state-in (A .bytes .now) .now} {m = A .numbers .now}
-      {rooms = rooms-of (A .atoms .now .now) (store-in (A .bytes .now) .now)}
-      (if1 .left) (if2 .left) (second-at .ensures) second (start .pre .1) in
-      let done = half-right-done {table = A .table .now .now} {i = A .i} {state = state-in (A .bytes .now) .now} {m = A .numbers .now}
-      {rooms = rooms-of (A .atoms .now .now) (store-in (A .bytes .now) .now)}
-      (if1 .left) (if2 .left) (second-at .ensures) second (par-end .ensures) in
-      rewritten slices (par-end .last .0) (joins .2) (done, run-half .ensures .1)
-
   -- let g = run_child(table, second, bytes, numbers, atoms);
   run-child-requires-2 : Of lts.Need-run-child-requires-2
   run-child-requires-2 c κs =
-      let start = c .before .before .before .before .before .before .before .before .before .before .before .before .before .before .before in
-      let if1 = c .before .before .before .before .before .before .before .before .before .before .before .before .before .if1 in
-      let second-at = c .before .before .before .before .before .before .before .before .before .before .second-at in
-      let if2 = c .before .before .before .before .before .before .before .before .before .if2 in
+      let start = c .before .before .before .before .before .before .before .before .before in
+      let if1 = c .before .before .before .before .before .before .before .if1 in
+      let second-at = c .before .before .before .before .second-at in
+      let if2 = c .before .before .before .if2 in
       let (l, s) = half-right (if1 .left) (if2 .left) (second-at .ensures) (start .pre .1) in
       (lighter form-rank child-rank (lit< tt) l (start .pre .0), s)
 
   -- par_end(bytes[STATE], 4 * i, 4 * second, f, g)
-  mul-par-end-3 : Of lts.Need-mul-par-end-3
-  mul-par-end-3 c =
-      let c8 = c .before .before .before .before .before .before .before .before in
-      let start = c8 .before .before .before .before .before .before .before .before .before in
-      own-fits (start .pre .1)
-
-  mul-par-end-4 : Of lts.Need-mul-par-end-4
-  mul-par-end-4 c =
-      let c8 = c .before .before .before .before .before .before .before .before in
-      let start = c8 .before .before .before .before .before .before .before .before .before in
-      let if1 = c8 .before .before .before .before .before .before .before .if1 in
-      let second-at = c8 .before .before .before .before .second-at in
-      let if2 = c8 .before .before .before .if2 in
+  mul-par-end-2 : Of lts.Need-mul-par-end-2
+  mul-par-end-2 c =
+      let start = c .before .before .before .before .before .before .before .before .before .before .before in
+      let if1 = c .before .before .before .before .before .before .before .before .before .if1 in
+      let second-at = c .before .before .before .before .before .before .second-at in
+      let if2 = c .before .before .before .before .before .if2 in
       own-fits (half-right (if1 .left) (if2 .left) (second-at .ensures) (start .pre .1) .1)
 
-  par-end-requires-2 : Of lts.Need-par-end-requires-2
-  par-end-requires-2 c κs =
-      let c8 = c .before .before .before .before .before .before .before .before in
-      let start = c8 .before .before .before .before .before .before .before .before .before in
-      let if1 = c8 .before .before .before .before .before .before .before .if1 in
-      let second-at = c8 .before .before .before .before .second-at in
-      let if2 = c8 .before .before .before .if2 in
+  par-end-requires : Of lts.Need-par-end-requires
+  par-end-requires c κs =
+      let start = c .before .before .before .before .before .before .before .before .before .before .before in
+      let if1 = c .before .before .before .before .before .before .before .before .before .if1 in
+      let second-at = c .before .before .before .before .before .before .second-at in
+      let if2 = c .before .before .before .before .before .if2 in
       let run-child2 = c .before .run-child2 in
       let A = start .args in
       half-right-joins {table = A .table .now .now} {i = A .i} {state = state-in (A .bytes .now) .now} {m = A .numbers .now}
@@ -276,15 +137,14 @@ module _ (t : ℕ) where
       (if1 .left) (if2 .left) (second-at .ensures) (run-child2 .ensures .0) (start .pre .1)
 
   -- fn run_half
-  returns-4 : Of lts.Need-returns-4
-  returns-4 c =
-      let c8 = c .before .before .before .before .before .before .before .before in
-      let start = c8 .before .before .before .before .before .before .before .before .before .before in
-      let if1 = c8 .before .before .before .before .before .before .before .before .if1 in
-      let second-at = c8 .before .before .before .before .before .second-at in
-      let if2 = c8 .before .before .before .before .if2 in
+  returns-3 : Of lts.Need-returns-3
+  returns-3 c =
+      let start = c .before .before .before .before .before .before .before .before .before .before .before .before in
+      let if1 = c .before .before .before .before .before .before .before .before .before .before .if1 in
+      let second-at = c .before .before .before .before .before .before .before .second-at in
+      let if2 = c .before .before .before .before .before .before .if2 in
       let run-child2 = c .before .before .run-child2 in
-      let par-end2 = c .par-end2 in
+      let par-end = c .par-end in
       let A = start .args in
       let slices = run-child2 .last .1 .1 .0 in
       let joins = half-right-joins {table = A .table .now .now} {i = A .i} {state = state-in (A .bytes .now) .now} {m = A .numbers .now}
@@ -292,8 +152,8 @@ module _ (t : ℕ) where
       (if1 .left) (if2 .left) (second-at .ensures) (run-child2 .ensures .0) (start .pre .1) in
       let done = half-right-done {table = A .table .now .now} {i = A .i} {state = state-in (A .bytes .now) .now} {m = A .numbers .now}
       {rooms = rooms-of (A .atoms .now .now) (store-in (A .bytes .now) .now)}
-      (if1 .left) (if2 .left) (second-at .ensures) (run-child2 .ensures .0) (par-end2 .ensures) in
-      rewritten slices (par-end2 .last .0) (joins .2) (done, run-child2 .ensures .1)
+      (if1 .left) (if2 .left) (second-at .ensures) (run-child2 .ensures .0) (par-end .ensures) in
+      rewritten slices (par-end .last .0) (joins .2) (done, run-child2 .ensures .1)
 
   pub closed : {M : Type 1} → lts.Closed given (exactly lts.ps μ-run-half Pre t) Post M
   closed = lts.spec given (exactly lts.ps μ-run-half Pre t) Post
@@ -318,28 +178,11 @@ module _ (t : ℕ) where
       mul-first-ran-2
       first-ran-requires
       returns-2
-      kind-at-requires
-      mul-half-par
-      (λ c. search needs)  -- index-1-half-par
-      index-2-half-par
-      mul-half-par-2
-      add-half-par
-      (λ c. search needs)  -- index-1-half-par-2
-      index-2-half-par-2
-      (λ c κs. tt)  -- half-par-requires: if half_par(
-      run-half-requires
-      (λ c. search needs)  -- element-copy-out-par-end: return par_end(bytes[STATE], 4 * i, 4 * seco..
+      run-child-requires-2
+      (λ c. search needs)  -- element-copy-out-par-end: par_end(bytes[STATE], 4 * i, 4 * second, f..
       (λ c. search needs)  -- index-1-par-end
       (λ c. search needs)  -- slice-aggregate-par-end
-      mul-par-end
+      (λ c. own-fits (c .before .before .before .before .before .before .before .before .before .before .before .pre .1))  -- mul-par-end
       mul-par-end-2
       par-end-requires
       returns-3
-      run-child-requires-2
-      (λ c. search needs)  -- element-copy-out-par-end-2: par_end(bytes[STATE], 4 * i, 4 * second, f..
-      (λ c. search needs)  -- index-1-par-end-2
-      (λ c. search needs)  -- slice-aggregate-par-end-2
-      mul-par-end-3
-      mul-par-end-4
-      par-end-requires-2
-      returns-4

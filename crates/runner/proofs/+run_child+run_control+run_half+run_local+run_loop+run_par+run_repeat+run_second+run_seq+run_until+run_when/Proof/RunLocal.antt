@@ -1,21 +1,20 @@
 -- A Local meets its contract: rules 35 to 39.
 use Rattle.runner.proofs as proofs
-use proofs.+run_child+run_control+run_half+run_local+run_loop+run_par+run_repeat+run_second+run_seq+run_until+run_when.Lts-run_local as lts
+use proofs.+run_child+run_control+run_half+run_local+run_loop+run_par+run_repeat+run_second+run_seq+run_until+run_when as cycle
+use cycle.Lts-run_local as lts
 use proofs.run_local.Reads.{Pre, Post}
-use proofs.+run_child+run_control+run_half+run_local+run_loop+run_par+run_repeat+run_second+run_seq+run_until+run_when.Proof.Measures.{exactly, smaller, μ-run-child, μ-run-local}
+use cycle.Proof.Measures.{exactly, smaller, μ-run-child, μ-run-local}
 use Rattle.table.proofs.records.argument_at.Reads as argument-at-reads
 use Rattle.steps.proofs.numbers.exchange_event.Reads as exchange-event-reads
-use Rattle.table.proofs.records.kind_at.Reads as kind-at-reads
 use Rattle.steps.proofs.flags.sign_after.Reads as sign-after-reads
 use borrow.Fn.Kinds.{In, Out}
 use Prim.Native.Nat.{ℕ}
 use borrow.Author.Needs.{needs}
-use proofs.+run_child+run_control+run_half+run_local+run_loop+run_par+run_repeat+run_second+run_seq+run_until+run_when as cycle
 use mathlib.Core.Path.{refl}
 use lib.Dec.{lit<}
 use Rattle.steps.proofs.Ended.{done-run}
 use Rattle.steps.proofs.Slices.{written}
-use Rattle.steps.proofs.Dispatch.{kind-reads, argument-reads, phase-reads, to-kind, by-kind}
+use Rattle.steps.proofs.Dispatch.{argument-reads, phase-reads}
 use proofs.Indices.{own-fits}
 use proofs.Falling.{lighter, child-rank, form-rank}
 use proofs.LocalRuns.{local-enters, local-body, local-leaves, local-flag, local-writes-in, local-done}
@@ -27,14 +26,10 @@ module _ (t : ℕ) where
     argument-at-reads.Learnt,
     exchange-event-reads.Asked,
     exchange-event-reads.Learnt,
-    kind-at-reads.Asked,
-    kind-at-reads.Learnt,
-    smaller proofs.run_local.Kinds.ps μ-run-local proofs.run_local.Reads.Pre t,
-    proofs.run_local.Reads.Post,
-    sign-after-reads.Asked,
-    sign-after-reads.Learnt,
     smaller proofs.run_child.Kinds.ps μ-run-child proofs.run_child.Reads.Pre t,
     proofs.run_child.Reads.Post,
+    sign-after-reads.Asked,
+    sign-after-reads.Learnt,
   )
 
   abbrev Of : (lts.Claims → In 7 lts.ps → Out 7 lts.ps lts.r → Type 0) → Type 0
@@ -56,147 +51,66 @@ module _ (t : ℕ) where
       let argument-at = c .before .argument-at in
       local-enters (if1 .left) (argument-at .ensures .0) (start .pre .1)
 
-  -- if kind_at(*table, i + 1) == kinds::LOCAL {
-  kind-at-requires : Of lts.Need-kind-at-requires
-  kind-at-requires c κs =
-      let start = c .before .before .before .before .before .before .before in
-      let if1 = c .before .before .before .before .before .if1 in
-      let argument-at = c .before .before .before .argument-at in
-      let exchange-event = c .before .exchange-event in
-      kind-reads (local-body (if1 .left) (argument-at .ensures .0) (exchange-event .ensures .1) (start .pre .1) .1)
-
-  -- let f = run_local(table, i + 1, bytes, numbers, atoms);
-  run-local-requires : Of lts.Need-run-local-requires
-  run-local-requires c κs =
-      let start = c .before .before .before .before .before .before .before .before .before .before .before .before in
-      let if1 = c .before .before .before .before .before .before .before .before .before .before .if1 in
-      let argument-at = c .before .before .before .before .before .before .before .before .argument-at in
-      let exchange-event = c .before .before .before .before .before .before .exchange-event in
-      let kind-at = c .before .before .before .before .kind-at in
-      let if2 = c .before .before .before .if2 in
-      let (l, s) = local-body (if1 .left) (argument-at .ensures .0) (exchange-event .ensures .1) (start .pre .1) in
-      (lighter form-rank form-rank (lit< tt) l (start .pre .0), to-kind (kind-at .ensures .0) (if2 .taken) s)
-
-  -- let inside = exchange_event(numbers, event, outside);
-  exchange-event-requires-2 : Of lts.Need-exchange-event-requires-2
-  exchange-event-requires-2 c κs =
-      let start = c .before .before .before .before .before .before .before .before .before .before .before .before .before .before in
-      let if1 = c .before .before .before .before .before .before .before .before .before .before .before .before .if1 in
-      let argument-at = c .before .before .before .before .before .before .before .before .before .before .argument-at in
-      let exchange-event = c .before .before .before .before .before .before .before .before .exchange-event in
-      let kind-at = c .before .before .before .before .before .before .kind-at in
-      let if2 = c .before .before .before .before .before .if2 in
-      let run-local = c .before .run-local in
-      let body = by-kind (kind-at .ensures .0) (if2 .taken) (run-local .ensures .0) in
-      local-leaves (if1 .left) (argument-at .ensures .0) (exchange-event .ensures .1) body (start .pre .1)
-
-  -- bytes[STATE][4 * i] = sign_after(f, inside);
-  sign-after-requires : Of lts.Need-sign-after-requires
-  sign-after-requires c κs =
-      let start = c .before .before .before .before .before .before .before .before .before .before .before .before .before .before .before in
-      let if1 = c .before .before .before .before .before .before .before .before .before .before .before .before .before .if1 in
-      let argument-at = c .before .before .before .before .before .before .before .before .before .before .before .argument-at in
-      let exchange-event = c .before .before .before .before .before .before .before .before .before .exchange-event in
-      let kind-at = c .before .before .before .before .before .before .before .kind-at in
-      let if2 = c .before .before .before .before .before .before .if2 in
-      let run-local = c .before .before .run-local in
-      let body = by-kind (kind-at .ensures .0) (if2 .taken) (run-local .ensures .0) in
-      local-flag (if1 .left) (argument-at .ensures .0) (exchange-event .ensures .1) body (start .pre .1)
-
-  mul-bytes-2 : Of lts.Need-mul-bytes-2
-  mul-bytes-2 c =
-      let start = c .before .before .before .before .before .before .before .before .before .before .before .before .before .before .before .before in
-      own-fits (start .pre .1)
-
-  index-2-bytes-2 : Of lts.Need-index-2-bytes-2
-  index-2-bytes-2 c =
-      let start = c .before .before .before .before .before .before .before .before .before .before .before .before .before .before .before .before in
-      let if1 = c .before .before .before .before .before .before .before .before .before .before .before .before .before .before .if1 in
-      let argument-at = c .before .before .before .before .before .before .before .before .before .before .before .before .argument-at in
-      let exchange-event = c .before .before .before .before .before .before .before .before .before .before .exchange-event in
-      let kind-at = c .before .before .before .before .before .before .before .before .kind-at in
-      let if2 = c .before .before .before .before .before .before .before .if2 in
-      let run-local = c .before .before .before .run-local in
-      let body = by-kind (kind-at .ensures .0) (if2 .taken) (run-local .ensures .0) in
-      local-writes-in (if1 .left) (argument-at .ensures .0) (exchange-event .ensures .1) body (start .pre .1)
-
-  -- return f;
-  returns-2 : Of lts.Need-returns-2
-  returns-2 c =
-      let if1 = c .before .before .before .before .before .before .before .before .before .before .before .before .before .before .if1 in
-      let argument-at = c .before .before .before .before .before .before .before .before .before .before .before .before .argument-at in
-      let exchange-event = c .before .before .before .before .before .before .before .before .before .before .exchange-event in
-      let kind-at = c .before .before .before .before .before .before .before .before .kind-at in
-      let if2 = c .before .before .before .before .before .before .before .if2 in
-      let run-local = c .before .before .before .run-local in
-      let exchange-event2 = c .before .exchange-event2 in
-      let sign-after = c .sign-after in
-      let body = by-kind (kind-at .ensures .0) (if2 .taken) (run-local .ensures .0) in
-      let (was, marked) = exchange-event .ensures in
-      let slices = run-local .last .1 .1 .0 in
-      let done = local-done (if1 .left) (argument-at .ensures .0) marked body was (exchange-event2 .ensures) (sign-after .ensures) in
-      written slices _ _ (done, run-local .ensures .1)
-
   -- let f = run_child(table, i + 1, bytes, numbers, atoms);
   run-child-requires : Of lts.Need-run-child-requires
   run-child-requires c κs =
-      let start = c .before .before .before .before .before .before .before .before .before .before .before .before in
-      let if1 = c .before .before .before .before .before .before .before .before .before .before .if1 in
-      let argument-at = c .before .before .before .before .before .before .before .before .argument-at in
-      let exchange-event = c .before .before .before .before .before .before .exchange-event in
+      let start = c .before .before .before .before .before .before .before .before .before in
+      let if1 = c .before .before .before .before .before .before .before .if1 in
+      let argument-at = c .before .before .before .before .before .argument-at in
+      let exchange-event = c .before .before .before .exchange-event in
       let (l, s) = local-body (if1 .left) (argument-at .ensures .0) (exchange-event .ensures .1) (start .pre .1) in
       (lighter form-rank child-rank (lit< tt) l (start .pre .0), s)
 
   -- let inside = exchange_event(numbers, event, outside);
-  exchange-event-requires-3 : Of lts.Need-exchange-event-requires-3
-  exchange-event-requires-3 c κs =
-      let start = c .before .before .before .before .before .before .before .before .before .before .before .before .before .before in
-      let if1 = c .before .before .before .before .before .before .before .before .before .before .before .before .if1 in
-      let argument-at = c .before .before .before .before .before .before .before .before .before .before .argument-at in
-      let exchange-event = c .before .before .before .before .before .before .before .before .exchange-event in
+  exchange-event-requires-2 : Of lts.Need-exchange-event-requires-2
+  exchange-event-requires-2 c κs =
+      let start = c .before .before .before .before .before .before .before .before .before .before .before in
+      let if1 = c .before .before .before .before .before .before .before .before .before .if1 in
+      let argument-at = c .before .before .before .before .before .before .before .argument-at in
+      let exchange-event = c .before .before .before .before .before .exchange-event in
       let run-child = c .before .run-child in
       let body = run-child .ensures .0 in
       local-leaves (if1 .left) (argument-at .ensures .0) (exchange-event .ensures .1) body (start .pre .1)
 
   -- bytes[STATE][4 * i] = sign_after(f, inside);
-  sign-after-requires-2 : Of lts.Need-sign-after-requires-2
-  sign-after-requires-2 c κs =
-      let start = c .before .before .before .before .before .before .before .before .before .before .before .before .before .before .before in
-      let if1 = c .before .before .before .before .before .before .before .before .before .before .before .before .before .if1 in
-      let argument-at = c .before .before .before .before .before .before .before .before .before .before .before .argument-at in
-      let exchange-event = c .before .before .before .before .before .before .before .before .before .exchange-event in
+  sign-after-requires : Of lts.Need-sign-after-requires
+  sign-after-requires c κs =
+      let start = c .before .before .before .before .before .before .before .before .before .before .before .before in
+      let if1 = c .before .before .before .before .before .before .before .before .before .before .if1 in
+      let argument-at = c .before .before .before .before .before .before .before .before .argument-at in
+      let exchange-event = c .before .before .before .before .before .before .exchange-event in
       let run-child = c .before .before .run-child in
       let body = run-child .ensures .0 in
       local-flag (if1 .left) (argument-at .ensures .0) (exchange-event .ensures .1) body (start .pre .1)
 
-  mul-bytes-3 : Of lts.Need-mul-bytes-3
-  mul-bytes-3 c =
-      let start = c .before .before .before .before .before .before .before .before .before .before .before .before .before .before .before .before in
+  mul-bytes-2 : Of lts.Need-mul-bytes-2
+  mul-bytes-2 c =
+      let start = c .before .before .before .before .before .before .before .before .before .before .before .before .before in
       own-fits (start .pre .1)
 
-  index-2-bytes-3 : Of lts.Need-index-2-bytes-3
-  index-2-bytes-3 c =
-      let start = c .before .before .before .before .before .before .before .before .before .before .before .before .before .before .before .before in
-      let if1 = c .before .before .before .before .before .before .before .before .before .before .before .before .before .before .if1 in
-      let argument-at = c .before .before .before .before .before .before .before .before .before .before .before .before .argument-at in
-      let exchange-event = c .before .before .before .before .before .before .before .before .before .before .exchange-event in
+  index-2-bytes-2 : Of lts.Need-index-2-bytes-2
+  index-2-bytes-2 c =
+      let start = c .before .before .before .before .before .before .before .before .before .before .before .before .before in
+      let if1 = c .before .before .before .before .before .before .before .before .before .before .before .if1 in
+      let argument-at = c .before .before .before .before .before .before .before .before .before .argument-at in
+      let exchange-event = c .before .before .before .before .before .before .before .exchange-event in
       let run-child = c .before .before .before .run-child in
       let body = run-child .ensures .0 in
       local-writes-in (if1 .left) (argument-at .ensures .0) (exchange-event .ensures .1) body (start .pre .1)
 
   -- fn run_local
-  returns-3 : Of lts.Need-returns-3
-  returns-3 c =
-      let if1 = c .before .before .before .before .before .before .before .before .before .before .before .before .before .before .if1 in
-      let argument-at = c .before .before .before .before .before .before .before .before .before .before .before .before .argument-at in
-      let exchange-event = c .before .before .before .before .before .before .before .before .before .before .exchange-event in
+  returns-2 : Of lts.Need-returns-2
+  returns-2 c =
+      let if1 = c .before .before .before .before .before .before .before .before .before .before .before .if1 in
+      let argument-at = c .before .before .before .before .before .before .before .before .before .argument-at in
+      let exchange-event = c .before .before .before .before .before .before .before .exchange-event in
       let run-child = c .before .before .before .run-child in
-      let exchange-event3 = c .before .exchange-event3 in
-      let sign-after2 = c .sign-after2 in
+      let exchange-event2 = c .before .exchange-event2 in
+      let sign-after = c .sign-after in
       let body = run-child .ensures .0 in
       let (was, marked) = exchange-event .ensures in
       let slices = run-child .last .1 .1 .0 in
-      let done = local-done (if1 .left) (argument-at .ensures .0) marked body was (exchange-event3 .ensures) (sign-after2 .ensures) in
+      let done = local-done (if1 .left) (argument-at .ensures .0) marked body was (exchange-event2 .ensures) (sign-after .ensures) in
       written slices _ _ (done, run-child .ensures .1)
 
   pub closed : {M : Type 1} → lts.Closed given (exactly lts.ps μ-run-local Pre t) Post M
@@ -210,21 +124,11 @@ module _ (t : ℕ) where
       returns
       (λ c κs. argument-reads (c .before .before .before .pre .1))  -- argument-at-requires: let eve..
       exchange-event-requires
-      (λ c. search needs)  -- add-kind-at: if kind_at(*table, i + 1) == kinds::LOCAL {
-      kind-at-requires
-      (λ c. search needs)  -- add-run-local: let f = run_local(table, i + 1, bytes, numbers, atoms);
-      run-local-requires
+      (λ c. search needs)  -- add-run-child: let f = run_child(table, i + 1, bytes, numbers, atoms);
+      run-child-requires
       exchange-event-requires-2
       sign-after-requires
       mul-bytes-2
       (λ c. search needs)  -- index-1-bytes-2
       index-2-bytes-2
       returns-2
-      (λ c. search needs)  -- add-run-child: let f = run_child(table, i + 1, bytes, numbers, atoms);
-      run-child-requires
-      exchange-event-requires-3
-      sign-after-requires-2
-      mul-bytes-3
-      (λ c. search needs)  -- index-1-bytes-3
-      index-2-bytes-3
-      returns-3

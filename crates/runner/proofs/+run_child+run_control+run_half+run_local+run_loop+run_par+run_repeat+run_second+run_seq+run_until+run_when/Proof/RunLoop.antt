@@ -4,32 +4,26 @@ use proofs.+run_child+run_control+run_half+run_local+run_loop+run_par+run_repeat
 use cycle.Lts-run_loop as lts
 use proofs.run_loop.Reads.{Pre, Post}
 use cycle.Proof.Measures.{exactly, smaller, μ-run-child, μ-run-loop}
-use Rattle.table.proofs.records.kind_at.Reads as kind-at-reads
 use borrow.Fn.Kinds.{In, Out}
-use Prim.Native.Nat.{ℕ, _+_}
+use Prim.Native.Nat.{ℕ}
 use borrow.Author.Needs.{needs}
 use mathlib.Core.Path.{refl}
 use mathlib.Core.Logic.{⊎-elim}
 use Rattle.state.specs.Kinds.{loop-kind}
-use Rattle.steps.specs.Running.{Any}
 use Rattle.steps.specs.Kinds.{OfKind}
 use proofs.Stages.{Beginning}
-use Rattle.steps.specs.Lent.{held, HasRun, Named}
+use Rattle.steps.specs.Lent.{held, Named}
 use Rattle.steps.proofs.Slices.{written}
 use Rattle.steps.proofs.Ended.{done-run}
-use Rattle.steps.proofs.Dispatch.{phase-reads, kind-reads, by-kind}
+use Rattle.steps.proofs.Dispatch.{phase-reads}
 use proofs.Indices.{own-fits}
 use proofs.Names.{named-then}
 use proofs.GoesOn.{GoesOnAs, met}
-use proofs.LoopRuns.{begin-body, begin-writes-in, loop-begun, loop-begins, loop-body, loop-nested, loop-stays, loop-anew}
+use proofs.LoopRuns.{begin-body, begin-writes-in, loop-begun, loop-begins, loop-body, loop-stays, loop-anew}
 
 module _ (t : ℕ) where
   abbrev given : lts.Claims
   given = (
-    kind-at-reads.Asked,
-    kind-at-reads.Learnt,
-    smaller proofs.run_loop.Kinds.ps μ-run-loop proofs.run_loop.Reads.Pre t,
-    proofs.run_loop.Reads.Post,
     smaller proofs.run_child.Kinds.ps μ-run-child proofs.run_child.Reads.Pre t,
     proofs.run_child.Reads.Post,
   )
@@ -44,48 +38,20 @@ module _ (t : ℕ) where
       let if1 = c .if1 in
       written (start .args .bytes .now) _ _ (done-run (if1 .taken), ((refl, refl), refl))
 
-  -- let f = if kind_at(*table, i + 1) == kinds::LOOP {
-  kind-at-requires : Of lts.Need-kind-at-requires
-  kind-at-requires c κs =
-      let start = c .before .before .before .before in
-      let if2 = c .before .if2 in
-      kind-reads (loop-body (if2 .taken) (start .pre .1) (start .pre .0) .1)
-
-  -- run_loop(table, i + 1, bytes, numbers, atoms)
-  run-loop-requires : Of lts.Need-run-loop-requires
-  run-loop-requires c κs =
-      let start = c .before .before .before .before .before .before .before .before .before in
-      let if2 = c .before .before .before .before .before .before .if2 in
-      let kind-at = c .before .before .before .before .kind-at in
-      let if3 = c .before .before .before .if3 in
-      loop-nested (if2 .taken) (kind-at .ensures .0) (if3 .taken) (start .pre .1) (start .pre .0)
-
-  -- run_child(table, i + 1, bytes, numbers, atoms)
+  -- let f = run_child(table, i + 1, bytes, numbers, atoms);
   run-child-requires : Of lts.Need-run-child-requires
   run-child-requires c κs =
-      let start = c .before .before .before .before .before .before .before .before .before in
-      let if2 = c .before .before .before .before .before .before .if2 in
+      let start = c .before .before .before .before .before .before in
+      let if2 = c .before .before .before .if2 in
       loop-body (if2 .taken) (start .pre .1) (start .pre .0)
-
-  -- the body has run, by the one or the other
-  body-ran : (c : Of lts.Joined3) → let a = c .before .before .before .before .before .before .args in let if3 = c .if3 in
-      HasRun 0 Any (held (a .table) (a .bytes) (a .numbers) (a .atoms)) (a .i + 1)
-      (met (a .table) (if3 .bytes) (if3 .numbers) (if3 .atoms)) (if3 .f)
-      × Named (a .bytes .now) (if3 .bytes) (a .atoms .now) (if3 .atoms)
-  body-ran c =
-      let kind-at = c .before .kind-at in
-      ⊎-elim
-      (λ w. rw (w .5, w .6, w .7, w .8) (by-kind (kind-at .ensures .0) (w .0 .taken) (w .4 .ensures .0), w .4 .ensures .1))
-      (λ w. rw (w .5, w .6, w .7, w .8) (w .4 .ensures))
-      (c .if3 .came)
 
   -- return f;
   returns-2 : Of lts.Need-returns-2
   returns-2 c =
-      let if2 = c .before .before .before .before .if2 in
-      let if4 = c .if4 in
-      let (ran, same) = body-ran (c .before) in
-      (loop-stays (if2 .taken) ran (if4 .taken), same)
+      let if2 = c .before .before .before .before .before .if2 in
+      let run-child = c .before .run-child in
+      let if3 = c .if3 in
+      (loop-stays (if2 .taken) (run-child .ensures .0) (if3 .taken), run-child .ensures .1)
 
   -- the body begins, at once or since it has ended
   begins : (c : Of lts.Joined2) → let a = c .before .before .before .args in let if2 = c .if2 in
@@ -96,14 +62,7 @@ module _ (t : ℕ) where
       let start = c .before .before .before in
       let if1 = c .before .if1 in
       ⊎-elim
-      (λ w.
-      let joined : Of lts.Joined3 =
-      record {
-        before = record { before = record { before = record { before = c .before; if2 = w .0 }; kind-at-arg = w .1 }; kind-at = w .2 };
-        if3 = w .3;
-      } in
-      let (ran, same) = body-ran joined in
-      rw (w .5, w .6, w .7) (loop-anew (w .0 .taken) ran (w .4 .left) (start .pre .1), same))
+      (λ w. rw (w .6, w .7, w .8) (loop-anew (w .0 .taken) (w .4 .ensures .0) (w .5 .left) (start .pre .1), w .4 .ensures .1))
       (λ w. rw (w .1, w .2, w .3) (loop-begins (if1 .left) (w .0 .left) (start .pre .1), ((refl, refl), refl)))
       (c .if2 .came)
 
@@ -135,11 +94,7 @@ module _ (t : ℕ) where
       (λ c. search needs)  -- index-1-bytes
       (λ c. phase-reads (c .before .before .pre .1))  -- index-2-bytes
       returns
-      (λ c. search needs)  -- add-kind-at: let f = if kind_at(*table, i + 1) == kinds::LOOP {
-      kind-at-requires
-      (λ c. search needs)  -- add-run-loop: run_loop(table, i + 1, bytes, numbers, atoms)
-      run-loop-requires
-      (λ c. search needs)  -- add-run-child: run_child(table, i + 1, bytes, numbers, atoms)
+      (λ c. search needs)  -- add-run-child: let f = run_child(table, i + 1, bytes, numbers, atoms);
       run-child-requires
       returns-2
       (λ c. search needs)  -- add-run-child-2: let f = run_child(table, i + 1, bytes, numbers, atoms);

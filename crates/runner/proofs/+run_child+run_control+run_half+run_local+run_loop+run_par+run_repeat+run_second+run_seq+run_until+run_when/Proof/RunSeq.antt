@@ -1,24 +1,31 @@
 -- A Seq in its first child meets its contract: rules 4 and 5.
 use Rattle.runner.proofs as proofs
-use proofs.+run_child+run_control+run_half+run_local+run_loop+run_par+run_repeat+run_second+run_seq+run_until+run_when.Lts-run_seq as lts
+use proofs.+run_child+run_control+run_half+run_local+run_loop+run_par+run_repeat+run_second+run_seq+run_until+run_when as cycle
+use cycle.Lts-run_seq as lts
 use proofs.run_seq.Reads.{Pre, Post}
-use proofs.+run_child+run_control+run_half+run_local+run_loop+run_par+run_repeat+run_second+run_seq+run_until+run_when.Proof.Measures.{exactly, smaller, μ-run-child, μ-run-second, μ-run-seq}
+use cycle.Proof.Measures.{exactly, smaller, μ-run-child, μ-run-second, μ-run-seq}
 use Rattle.table.proofs.records.second_at.Reads as second-at-reads
 use Rattle.table.proofs.records.kind_at.Reads as kind-at-reads
 use Rattle.steps.proofs.flags.phase_after.Reads as phase-after-reads
 use borrow.Fn.Kinds.{In, Out}
 use Prim.Native.Nat.{ℕ}
 use borrow.Author.Needs.{needs}
-use proofs.+run_child+run_control+run_half+run_local+run_loop+run_par+run_repeat+run_second+run_seq+run_until+run_when as cycle
 use mathlib.Core.Path.{refl}
+use mathlib.Core.Logic.{⊎-elim}
 use lib.Dec.{lit<}
+use Rattle.state.specs.Kinds.{seq-kind}
+use Rattle.steps.specs.Running.{Any}
+use Rattle.steps.specs.Kinds.{OfKind, InSecond}
+use Rattle.steps.specs.Lent.{Lent, held, HasRun, Named}
 use Rattle.steps.proofs.Ended.{done-run}
 use Rattle.steps.proofs.Slices.{written}
 use Rattle.steps.proofs.Dispatch.{kind-reads, phase-reads, to-kind, by-kind}
 use proofs.Indices.{own-fits}
 use proofs.Names.{named-then}
 use proofs.Falling.{lower-rank, lighter, child-rank, form-rank, last-rank}
-use proofs.SeqRuns.{goes-into, second-writes-in, second-below, second-done, to-second, by-second, seq-first, seq-second-in, seq-stays, seq-over, seq-goes-on}
+use proofs.GoesOn.{GoesOnAs, met}
+use proofs.SeqRuns.{goes-into, second-writes-in, second-below, second-done, to-second, by-second}
+use proofs.SeqRuns.{seq-first, seq-second-in, seq-stays, seq-goes-on}
 
 module _ (t : ℕ) where
   abbrev given : lts.Claims
@@ -86,152 +93,86 @@ module _ (t : ℕ) where
       let if2 = c .before .before .before .before .before .before .if2 in
       seq-second-in (if1 .left) (if2 .left) (start .pre .1)
 
-  -- if kind_at(*table, second) == kinds::SEQ {
+  -- what is lent when the first child has run
+  abbrev since : Of lts.After-run-child → Lent
+  since c =
+      let a = c .before .before .before .before .before .before .before .args in
+      let last = c .run-child .last .1 .1 in
+      met (a .table) (last .0) (last .1 .0) (last .1 .1 .0)
+
+  -- it has ended: the Seq goes over into its second
+  over : (c : Of lts.Else3) → let a = c .before .before .before .before .before .before .before .before .args in
+      GoesOnAs InSecond (OfKind seq-kind) (held (a .table) (a .bytes) (a .numbers) (a .atoms)) (a .i) (since (c .before))
+  over c =
+      let start = c .before .before .before .before .before .before .before .before in
+      let if1 = c .before .before .before .before .before .before .if1 in
+      let if2 = c .before .before .before .before .before .if2 in
+      let run-child = c .before .run-child in
+      let if3 = c .if3 in
+      seq-goes-on (if1 .left) (if2 .left) (run-child .ensures .0) (if3 .left) (start .pre .1)
+
+  -- let g = if kind_at(*table, second) == kinds::SEQ {
   kind-at-requires : Of lts.Need-kind-at-requires
   kind-at-requires c κs =
-      let start = c .before .before .before .before .before .before .before .before .before .before .before in
-      let if1 = c .before .before .before .before .before .before .before .before .before .if1 in
-      let if2 = c .before .before .before .before .before .before .before .before .if2 in
-      let run-child = c .before .before .before .before .run-child in
-      let if3 = c .before .before .before .if3 in
       let second-at = c .before .second-at in
-      let over = seq-over (if1 .left) (if2 .left) (run-child .ensures .0) (start .pre .1) (if3 .left) in
-      kind-reads (goes-into (second-at .ensures) over .1)
+      kind-reads (goes-into (second-at .ensures) (over (c .before .before .before) .can) .1)
 
-  -- let g = run_seq(table, second, bytes, numbers, atoms);
+  -- run_seq(table, second, bytes, numbers, atoms)
   run-seq-requires : Of lts.Need-run-seq-requires
   run-seq-requires c κs =
       let start = c .before .before .before .before .before .before .before .before .before .before .before .before .before .before .before .before in
-      let if1 = c .before .before .before .before .before .before .before .before .before .before .before .before .before .before .if1 in
-      let if2 = c .before .before .before .before .before .before .before .before .before .before .before .before .before .if2 in
-      let run-child = c .before .before .before .before .before .before .before .before .before .run-child in
-      let if3 = c .before .before .before .before .before .before .before .before .if3 in
       let second-at = c .before .before .before .before .before .before .second-at in
       let kind-at = c .before .before .before .before .kind-at in
       let if4 = c .before .before .before .if4 in
-      let over = seq-over (if1 .left) (if2 .left) (run-child .ensures .0) (start .pre .1) (if3 .left) in
-      let (l, s) = goes-into (second-at .ensures) over in
+      let (l, s) = goes-into (second-at .ensures) (over (c .before .before .before .before .before .before .before .before) .can) in
       (lighter form-rank form-rank (lit< tt) l (start .pre .0), to-kind (kind-at .ensures .0) (if4 .taken) s)
+
+  -- run_child(table, second, bytes, numbers, atoms)
+  run-child-requires-2 : Of lts.Need-run-child-requires-2
+  run-child-requires-2 c κs =
+      let start = c .before .before .before .before .before .before .before .before .before .before .before .before .before .before .before .before in
+      let second-at = c .before .before .before .before .before .before .second-at in
+      let (l, s) = goes-into (second-at .ensures) (over (c .before .before .before .before .before .before .before .before) .can) in
+      (lighter form-rank child-rank (lit< tt) l (start .pre .0), s)
+
+  -- the second child has run, by the one or the other
+  second-ran : (c : Of lts.Joined4) → let second-at = c .before .before .before .second-at in let first = c .before .before .before .before .before .before in
+      let a = first .before .before .before .before .before .before .before .args in let last = first .run-child .last .1 .1 in let if4 = c .if4 in
+      HasRun 0 Any (since first) (second-at .result) (met (a .table) (if4 .bytes) (if4 .numbers) (if4 .atoms)) (if4 .g)
+      × Named (last .0) (if4 .bytes) (last .1 .1 .0) (if4 .atoms)
+  second-ran c =
+      let kind-at = c .before .kind-at in
+      ⊎-elim
+      (λ w. rw (w .5, w .6, w .7, w .8) (by-kind (kind-at .ensures .0) (w .0 .taken) (w .4 .ensures .0), w .4 .ensures .1))
+      (λ w. rw (w .5, w .6, w .7, w .8) (w .4 .ensures))
+      (c .if4 .came)
 
   -- bytes[STATE][4 * i] = phase_after(g, SECOND);
   phase-after-requires : Of lts.Need-phase-after-requires
   phase-after-requires c κs =
-      let c8 = c .before .before .before .before .before .before .before .before in
-      let start = c8 .before .before .before .before .before .before .before .before .before in
-      let if1 = c8 .before .before .before .before .before .before .before .if1 in
-      let if2 = c8 .before .before .before .before .before .before .if2 in
-      let run-child = c8 .before .before .run-child in
-      let if3 = c8 .before .if3 in
-      let second-at = c .before .before .before .before .before .before .before .second-at in
-      let kind-at = c .before .before .before .before .before .kind-at in
-      let if4 = c .before .before .before .before .if4 in
-      let run-seq = c .run-seq in
-      let over = seq-over (if1 .left) (if2 .left) (run-child .ensures .0) (start .pre .1) (if3 .left) in
-      let second = by-kind (kind-at .ensures .0) (if4 .taken) (run-seq .ensures .0) in
-      second-below (second-at .ensures) second over
+      let second-at = c .before .before .before .second-at in
+      second-below (second-at .ensures) (second-ran c .0) (over (c .before .before .before .before .before) .can)
 
   mul-bytes-2 : Of lts.Need-mul-bytes-2
   mul-bytes-2 c =
-      let c8 = c .before .before .before .before .before .before .before .before in
-      let start = c8 .before .before .before .before .before .before .before .before .before .before in
+      let start = c .before .before .before .before .before .before .before .before .before .before .before .before .before .before in
       own-fits (start .pre .1)
 
   index-2-bytes-2 : Of lts.Need-index-2-bytes-2
   index-2-bytes-2 c =
-      let c8 = c .before .before .before .before .before .before .before .before in
-      let start = c8 .before .before .before .before .before .before .before .before .before .before in
-      let if1 = c8 .before .before .before .before .before .before .before .before .if1 in
-      let if2 = c8 .before .before .before .before .before .before .before .if2 in
-      let run-child = c8 .before .before .before .run-child in
-      let if3 = c8 .before .before .if3 in
-      let second-at = c8 .second-at in
-      let kind-at = c .before .before .before .before .before .before .kind-at in
-      let if4 = c .before .before .before .before .before .if4 in
-      let run-seq = c .before .run-seq in
-      let over = seq-over (if1 .left) (if2 .left) (run-child .ensures .0) (start .pre .1) (if3 .left) in
-      let second = by-kind (kind-at .ensures .0) (if4 .taken) (run-seq .ensures .0) in
-      second-writes-in (second-at .ensures) second over
-
-  -- return g;
-  returns-4 : Of lts.Need-returns-4
-  returns-4 c =
-      let c8 = c .before .before .before .before .before .before .before .before in
-      let if1 = c8 .before .before .before .before .before .before .before .before .if1 in
-      let if2 = c8 .before .before .before .before .before .before .before .if2 in
-      let run-child = c8 .before .before .before .run-child in
-      let if3 = c8 .before .before .if3 in
-      let second-at = c8 .second-at in
-      let kind-at = c .before .before .before .before .before .before .kind-at in
-      let if4 = c .before .before .before .before .before .if4 in
-      let run-seq = c .before .run-seq in
-      let phase-after = c .phase-after in
-      let second = by-kind (kind-at .ensures .0) (if4 .taken) (run-seq .ensures .0) in
-      let then = second-done (second-at .ensures) second (phase-after .ensures) in
-      let slices = run-seq .last .1 .1 .0 in
-      let done = seq-goes-on (if1 .left) (if2 .left) (run-child .ensures .0) (if3 .left) then in
-      written slices _ _ (done, named-then (run-child .ensures .1) (run-seq .ensures .1))
-
-  -- let g = run_child(table, second, bytes, numbers, atoms);
-  run-child-requires-2 : Of lts.Need-run-child-requires-2
-  run-child-requires-2 c κs =
-      let start = c .before .before .before .before .before .before .before .before .before .before .before .before .before .before .before .before in
-      let if1 = c .before .before .before .before .before .before .before .before .before .before .before .before .before .before .if1 in
-      let if2 = c .before .before .before .before .before .before .before .before .before .before .before .before .before .if2 in
-      let run-child = c .before .before .before .before .before .before .before .before .before .run-child in
-      let if3 = c .before .before .before .before .before .before .before .before .if3 in
-      let second-at = c .before .before .before .before .before .before .second-at in
-      let over = seq-over (if1 .left) (if2 .left) (run-child .ensures .0) (start .pre .1) (if3 .left) in
-      let (l, s) = goes-into (second-at .ensures) over in
-      (lighter form-rank child-rank (lit< tt) l (start .pre .0), s)
-
-  -- bytes[STATE][4 * i] = phase_after(g, SECOND);
-  phase-after-requires-2 : Of lts.Need-phase-after-requires-2
-  phase-after-requires-2 c κs =
-      let c8 = c .before .before .before .before .before .before .before .before in
-      let start = c8 .before .before .before .before .before .before .before .before .before in
-      let if1 = c8 .before .before .before .before .before .before .before .if1 in
-      let if2 = c8 .before .before .before .before .before .before .if2 in
-      let run-child = c8 .before .before .run-child in
-      let if3 = c8 .before .if3 in
-      let second-at = c .before .before .before .before .before .before .before .second-at in
-      let run-child2 = c .run-child2 in
-      let over = seq-over (if1 .left) (if2 .left) (run-child .ensures .0) (start .pre .1) (if3 .left) in
-      second-below (second-at .ensures) (run-child2 .ensures .0) over
-
-  mul-bytes-3 : Of lts.Need-mul-bytes-3
-  mul-bytes-3 c =
-      let c8 = c .before .before .before .before .before .before .before .before in
-      let start = c8 .before .before .before .before .before .before .before .before .before .before in
-      own-fits (start .pre .1)
-
-  index-2-bytes-3 : Of lts.Need-index-2-bytes-3
-  index-2-bytes-3 c =
-      let c8 = c .before .before .before .before .before .before .before .before in
-      let start = c8 .before .before .before .before .before .before .before .before .before .before in
-      let if1 = c8 .before .before .before .before .before .before .before .before .if1 in
-      let if2 = c8 .before .before .before .before .before .before .before .if2 in
-      let run-child = c8 .before .before .before .run-child in
-      let if3 = c8 .before .before .if3 in
-      let second-at = c8 .second-at in
-      let run-child2 = c .before .run-child2 in
-      let over = seq-over (if1 .left) (if2 .left) (run-child .ensures .0) (start .pre .1) (if3 .left) in
-      second-writes-in (second-at .ensures) (run-child2 .ensures .0) over
+      let second-at = c .before .before .before .before .second-at in
+      second-writes-in (second-at .ensures) (second-ran (c .before) .0) (over (c .before .before .before .before .before .before) .can)
 
   -- fn run_seq
-  returns-5 : Of lts.Need-returns-5
-  returns-5 c =
-      let c8 = c .before .before .before .before .before .before .before .before in
-      let if1 = c8 .before .before .before .before .before .before .before .before .if1 in
-      let if2 = c8 .before .before .before .before .before .before .before .if2 in
-      let run-child = c8 .before .before .before .run-child in
-      let if3 = c8 .before .before .if3 in
-      let second-at = c8 .second-at in
-      let run-child2 = c .before .run-child2 in
-      let phase-after2 = c .phase-after2 in
-      let then = second-done (second-at .ensures) (run-child2 .ensures .0) (phase-after2 .ensures) in
-      let slices = run-child2 .last .1 .1 .0 in
-      let done = seq-goes-on (if1 .left) (if2 .left) (run-child .ensures .0) (if3 .left) then in
-      written slices _ _ (done, named-then (run-child .ensures .1) (run-child2 .ensures .1))
+  returns-4 : Of lts.Need-returns-4
+  returns-4 c =
+      let run-child = c .before .before .before .before .before .before .before .run-child in
+      let second-at = c .before .before .before .before .second-at in
+      let if4 = c .before .if4 in
+      let phase-after = c .phase-after in
+      let (ran, same) = second-ran (c .before) in
+      let done = second-done (second-at .ensures) ran (phase-after .ensures) in
+      written (if4 .bytes) _ _ (over (c .before .before .before .before .before .before) .has done, named-then (run-child .ensures .1) same)
 
   pub closed : {M : Type 1} → lts.Closed given (exactly lts.ps μ-run-seq Pre t) Post M
   closed = lts.spec given (exactly lts.ps μ-run-seq Pre t) Post
@@ -250,14 +191,9 @@ module _ (t : ℕ) where
       second-at-requires
       kind-at-requires
       run-seq-requires
+      run-child-requires-2
       phase-after-requires
       mul-bytes-2
       (λ c. search needs)  -- index-1-bytes-2
       index-2-bytes-2
       returns-4
-      run-child-requires-2
-      phase-after-requires-2
-      mul-bytes-3
-      (λ c. search needs)  -- index-1-bytes-3
-      index-2-bytes-3
-      returns-5

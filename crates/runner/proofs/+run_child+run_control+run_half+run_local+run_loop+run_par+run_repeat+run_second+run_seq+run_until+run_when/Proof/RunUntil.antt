@@ -1,38 +1,34 @@
 -- An Until meets its contract, rules 29 to 34, and so does a Freezable, rules 40 and 41.
 use Rattle.runner.proofs as proofs
-use proofs.+run_child+run_control+run_half+run_local+run_loop+run_par+run_repeat+run_second+run_seq+run_until+run_when.Lts-run_until as lts
+use proofs.+run_child+run_control+run_half+run_local+run_loop+run_par+run_repeat+run_second+run_seq+run_until+run_when as cycle
+use cycle.Lts-run_until as lts
 use proofs.run_until.Reads.{Pre, Post}
-use proofs.+run_child+run_control+run_half+run_local+run_loop+run_par+run_repeat+run_second+run_seq+run_until+run_when.Proof.Measures.{exactly, smaller, μ-run-child, μ-run-second, μ-run-until}
+use cycle.Proof.Measures.{exactly, smaller, μ-run-child, μ-run-second, μ-run-until}
 use Rattle.table.proofs.records.kind_at.Reads as kind-at-reads
 use Rattle.steps.proofs.parking.run_pending.Reads as run-pending-reads
 use Rattle.steps.proofs.leaves.test_rank.Reads as test-rank-reads
 use Rattle.table.proofs.records.second_at.Reads as second-at-reads
-use Rattle.steps.proofs.phases.clear_part.Reads as clear-part-reads
+use Rattle.steps.proofs.leaves.read_star.Reads as read-star-reads
 use borrow.Fn.Kinds.{In, Out}
-use Prim.Native.Nat.{ℕ, _*_}
+use Prim.Native.Nat.{ℕ}
 use borrow.Author.Needs.{needs}
-use proofs.+run_child+run_control+run_half+run_local+run_loop+run_par+run_repeat+run_second+run_seq+run_until+run_when as cycle
 use mathlib.Core.Path.{refl, sym, _∙_}
 use native.Mathlib.Omega.{arith}
 use mathlib.Core.Logic.{⊎-elim}
 use lib.Dec.{lit<}
-use lib.ListN.{set}
-use Rattle.steps.specs.Kinds.{Break, InSecond}
+use Rattle.steps.specs.Kinds.{Break}
 use proofs.Stages.{Starred}
-use Rattle.steps.specs.Lent.{Lent, lent, held, CanRun, HasRun, Named}
+use Rattle.steps.specs.Lent.{Lent, held, Named}
 use Rattle.steps.proofs.Ended.{done-run}
 use Rattle.steps.proofs.Dispatch.{kind-reads, phase-reads}
-use Rattle.steps.proofs.Awaits.{ranked-0, ranked-1, ranked-2}
 use Rattle.steps.proofs.Slices.{put, same-put, written, in-array}
 use proofs.Indices.{own-fits}
-use proofs.Names.{named-then, beside-named, out-of-array}
+use proofs.Names.{named-then, beside-named}
 use proofs.Falling.{lower-rank, lighter, child-rank, form-rank, last-rank}
 use proofs.GoesOn.{GoesOnAs, met}
 use proofs.SeqRuns.{to-second, by-second}
 use proofs.EitherKind.{the-first}
-use proofs.ChainRuns.{byte-back}
-use proofs.UntilRuns.{star-tests, star-second-in, star-few, star-body, star-cleared, star-suspends, star-refused}
-use proofs.UntilRuns.{now-handler, handler-begins, handler-next}
+use proofs.UntilRuns.{star-tests, star-second-in, star-few, star-body, AfterTest, star-read}
 use proofs.BreakRuns.{BodyStopped, body-first, body-goes-on, body-stopped, stopped-already}
 
 module _ (t : ℕ) where
@@ -50,8 +46,8 @@ module _ (t : ℕ) where
     test-rank-reads.Learnt,
     second-at-reads.Asked,
     second-at-reads.Learnt,
-    clear-part-reads.Asked,
-    clear-part-reads.Learnt,
+    read-star-reads.Asked,
+    read-star-reads.Learnt,
   )
 
   abbrev Of : (lts.Claims → In 7 lts.ps → Out 7 lts.ps lts.r → Type 0) → Type 0
@@ -144,100 +140,62 @@ module _ (t : ℕ) where
       let (goes, same) = stopped joined in
       (goes .to-star (the-first (c .before .kind-at .ensures .0) (c .if5 .left) (start .pre .1)), same)
 
-  -- return SUSP;
-  returns-5 : Of lts.Need-returns-5
-  returns-5 c =
-      let if3 = c .before .before .before .before .before .before .if3 in
-      let test-rank = c .before .test-rank in
-      let if6 = c .if6 in
-      let (on, same) = starred (c .before .before .before) in
-      written (if3 .bytes) _ _ (on .has (star-suspends (test-rank .ensures) (ranked-1 (if6 .taken))), same)
-
-  -- return STOP;
-  returns-6 : Of lts.Need-returns-6
-  returns-6 c =
-      let if3 = c .before .before .before .before .before .before .before .if3 in
-      let test-rank = c .before .before .test-rank in
-      let if7 = c .if7 in
-      let (on, same) = starred (c .before .before .before .before) in
-      written (if3 .bytes) _ _ (on .has (star-refused (test-rank .ensures) (ranked-0 (if7 .taken))), same)
-
-  -- clear_part(bytes[STATE], 4 * i + 4, 4 * second_at(*table, i));
+  -- let f = read_star(bytes[STATE], 4 * i, 4 * second_at(*table, i), rank, numbers[ENDED]);
   second-at-requires : Of lts.Need-second-at-requires
   second-at-requires c κs =
-      star-second-in (starred (c .before .before .before .before .before .before) .0 .can)
+      star-second-in (starred (c .before .before .before .before) .0 .can)
 
-  mul-clear-part-2 : Of lts.Need-mul-clear-part-2
-  mul-clear-part-2 c =
+  mul-read-star-2 : Of lts.Need-mul-read-star-2
+  mul-read-star-2 c =
       let second-at = c .second-at in
-      omega (arith, star-few (second-at .ensures) (starred (c .before .before .before .before .before .before .before) .0 .can))
+      omega (arith, star-few (second-at .ensures) (starred (c .before .before .before .before .before) .0 .can))
 
-  clear-part-requires : Of lts.Need-clear-part-requires
-  clear-part-requires c κs =
-      let second-at = c .second-at in
-      star-body (second-at .ensures) (starred (c .before .before .before .before .before .before .before) .0 .can)
+  read-star-requires : Of lts.Need-read-star-requires
+  read-star-requires c κs =
+      let second-at = c .before .second-at in
+      star-body (second-at .ensures) (starred (c .before .before .before .before .before .before) .0 .can)
 
-  -- return run_second(table, i, bytes, numbers, atoms);
+  -- its test has been read
+  tested : (c : Of lts.After-read-star)
+      → let joined = c .before .before .before .before .before .before .before .before .before .before in
+      let start = joined .before .before .before .before in
+      let slices = put (joined .if3 .bytes) 0 (c .read-star .last .0) in
+      AfterTest Break (entry start) (start .args .i) (met (start .args .table) slices (joined .if3 .numbers) (joined .if3 .atoms)) (c .read-star .result)
+      × Named (start .args .bytes .now) slices (start .args .atoms .now) (joined .if3 .atoms)
+  tested c =
+      let joined = c .before .before .before .before .before .before .before .before .before .before in
+      let start = joined .before .before .before .before in
+      let test-rank = c .before .before .before .before .before .test-rank in
+      let second-at = c .before .before .second-at in
+      let read-star = c .read-star in
+      let (on, same) = starred (c .before .before .before .before .before .before .before) in
+      let bytes = joined .if3 .bytes in
+      let read = star-read on (test-rank .ensures) (second-at .ensures) (read-star .ensures) in (
+        in-array (λ L. AfterTest Break (entry start) (start .args .i) L (read-star .result)) bytes (read-star .last .0) (phase-reads (on .can)) read,
+        named-then same (beside-named (same-put bytes (read-star .last .0))),
+      )
+
+  -- return f;
+  returns-5 : Of lts.Need-returns-5
+  returns-5 c =
+      let if6 = c .if6 in
+      let (read, same) = tested (c .before) in
+      (read .answers (if6 .taken), same)
+
+  -- run_second(table, i, bytes, numbers, atoms)
   run-second-requires-2 : Of lts.Need-run-second-requires-2
   run-second-requires-2 c κs =
       let c8 = c .before .before .before .before .before .before .before .before in
-      let start = c8 .before .before .before .before .before .before .before .before .before .before .before .before in
-      let if3 = c8 .before .before .before .before .before .before .before .before .if3 in
-      let test-rank = c8 .before .before .before .test-rank in
-      let second-at = c .before .before .before .before .before .before .second-at in
-      let clear-part = c .before .before .before .before .before .clear-part in
-      let can = starred (c8 .before .before .before .before .before) .0 .can in
-      let cleared = star-cleared (second-at .ensures) can (clear-part .ensures) in
-      let handler = now-handler (test-rank .ensures) cleared can in (
-        lower-rank _ form-rank last-rank (lit< tt) (start .pre .0),
-        in-array (λ L. CanRun 1 InSecond L (start .args .i)) (if3 .bytes) (clear-part .last .0) (phase-reads can) handler,
-      )
+      let start = c8 .before .before .before .before .before .before .before .before .before .before in
+      let if6 = c .before .before .before .if6 in
+      (lower-rank _ form-rank last-rank (lit< tt) (start .pre .0), tested (c .before .before .before .before) .0 .to-handler (if6 .left) .can)
 
-  returns-7 : Of lts.Need-returns-7
-  returns-7 c =
-      let c8 = c .before .before .before .before .before .before .before .before in
-      let c16 = c8 .before .before .before .before .before .before .before .before in
-      let start = c16 .before .before .before .before .before in
-      let if3 = c16 .before .if3 in
-      let test-rank = c8 .before .before .before .before .test-rank in
-      let if6 = c8 .before .before .before .if6 in
-      let if7 = c8 .before .before .if7 in
-      let second-at = c .before .before .before .before .before .before .before .second-at in
-      let clear-part = c .before .before .before .before .before .before .clear-part in
-      let if8 = c .before .before .before .before .if8 in
+  returns-6 : Of lts.Need-returns-6
+  returns-6 c =
+      let if6 = c .before .before .before .before .if6 in
       let run-second2 = c .run-second2 in
-      let (on, same) = starred (c8 .before .before .before .before .before .before) in
-      let cleared = star-cleared (second-at .ensures) (on .can) (clear-part .ensures) in
-      let run = out-of-array (if3 .bytes) (clear-part .last .0) (phase-reads (on .can)) (run-second2 .ensures .0) in
-      let ran = handler-begins (test-rank .ensures) cleared (ranked-2 (if6 .left) (if7 .left)) (if8 .taken) run in
-      (on .has ran, named-then (named-then same (beside-named (same-put (if3 .bytes) (clear-part .last .0)))) (run-second2 .ensures .1))
-
-  -- bytes[STATE][4 * i] = SECOND;
-  index-2-bytes-4 : Of lts.Need-index-2-bytes-4
-  index-2-bytes-4 c =
-      let c8 = c .before .before .before .before .before .before .before .before in
-      let if3 = c8 .before .before .before .before .before .if3 in
-      let clear-part = c .before .before .clear-part in
-      byte-back (if3 .bytes) (clear-part .last .0) (clear-part .kept .0) (phase-reads (starred (c8 .before .before) .0 .can))
-
-  -- fn run_until
-  returns-8 : Of lts.Need-returns-8
-  returns-8 c =
-      let c8 = c .before .before .before .before .before .before .before .before in
-      let start = c8 .before .before .before .before .before .before .before .before .before in
-      let if3 = c8 .before .before .before .before .before .if3 in
-      let test-rank = c8 .test-rank in
-      let if6 = c .before .before .before .before .before .before .before .if6 in
-      let if7 = c .before .before .before .before .before .before .if7 in
-      let second-at = c .before .before .before .second-at in
-      let clear-part = c .before .before .clear-part in
-      let if8 = c .if8 in
-      let (on, same) = starred (c8 .before .before) in
-      let cleared = star-cleared (second-at .ensures) (on .can) (clear-part .ensures) in
-      let next = on .has (handler-next (test-rank .ensures) cleared (ranked-2 (if6 .left) (if7 .left)) (if8 .left)) in
-      let ran = in-array (λ L. HasRun 0 Break (entry start) (start .args .i) (lent (L .table) (set (L .state) (4 * start .args .i) 2) (L .numbers) (L .rooms)) 1)
-      (if3 .bytes) (clear-part .last .0) (phase-reads (on .can)) next in
-      written (put (if3 .bytes) 0 (clear-part .last .0)) _ _ (ran, named-then same (beside-named (same-put (if3 .bytes) (clear-part .last .0))))
+      let (read, same) = tested (c .before .before .before .before .before) in
+      (read .to-handler (if6 .left) .has (run-second2 .ensures .0), named-then same (run-second2 .ensures .1))
 
   pub closed : {M : Type 1} → lts.Closed given (exactly lts.ps μ-run-until Pre t) Post M
   closed = lts.spec given (exactly lts.ps μ-run-until Pre t) Post
@@ -257,26 +215,14 @@ module _ (t : ℕ) where
       run-pending-requires
       returns-4
       (λ c κs. star-tests (starred (c .before) .0 .can))  -- test-rank-requires: let rank = test_ran..
-      (λ c. search needs)  -- mul-bytes-2: bytes[STATE][4 * i] = STARRED;
-      (λ c. search needs)  -- index-1-bytes-2
-      (λ c. phase-reads (starred (c .before .before .before) .0 .can))  -- index-2-bytes-2
-      returns-5
-      (λ c. search needs)  -- mul-bytes-3: bytes[STATE][4 * i] = 0;
-      (λ c. search needs)  -- index-1-bytes-3
-      (λ c. phase-reads (starred (c .before .before .before .before) .0 .can))  -- index-2-bytes-3
-      returns-6
-      (λ c. search needs)  -- element-copy-out-clear-part: clear_part(bytes[STATE], 4 * i + 4, 4 * s..
-      (λ c. search needs)  -- index-1-clear-part
-      (λ c. search needs)  -- slice-aggregate-clear-part
-      (λ c. search needs)  -- mul-clear-part
-      (λ c. search needs)  -- add-clear-part
+      (λ c. search needs)  -- element-copy-out-read-star: let f = read_star(bytes[STATE], 4 * i, 4 * s..
+      (λ c. search needs)  -- index-1-read-star
+      (λ c. search needs)  -- slice-aggregate-read-star
+      (λ c. search needs)  -- mul-read-star
       second-at-requires
-      mul-clear-part-2
-      clear-part-requires
-      (λ c. search needs)  -- element-copy-out-if8: if numbers[ENDED] == 0 {
+      mul-read-star-2
+      (λ c. search needs)  -- element-copy-out-read-star-2
+      read-star-requires
+      returns-5
       run-second-requires-2
-      returns-7
-      (λ c. search needs)  -- mul-bytes-4: bytes[STATE][4 * i] = SECOND;
-      (λ c. search needs)  -- index-1-bytes-4
-      index-2-bytes-4
-      returns-8
+      returns-6

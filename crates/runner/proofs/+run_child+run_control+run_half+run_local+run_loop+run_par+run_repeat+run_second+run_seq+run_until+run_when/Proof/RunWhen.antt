@@ -1,8 +1,9 @@
 -- A When meets its contract, rules 17 to 21, and so does an If, 001's "Boolean Test".
 use Rattle.runner.proofs as proofs
-use proofs.+run_child+run_control+run_half+run_local+run_loop+run_par+run_repeat+run_second+run_seq+run_until+run_when.Lts-run_when as lts
+use proofs.+run_child+run_control+run_half+run_local+run_loop+run_par+run_repeat+run_second+run_seq+run_until+run_when as cycle
+use cycle.Lts-run_when as lts
 use proofs.run_when.Reads.{Pre, Post}
-use proofs.+run_child+run_control+run_half+run_local+run_loop+run_par+run_repeat+run_second+run_seq+run_until+run_when.Proof.Measures.{exactly, smaller, μ-run-child, μ-run-second, μ-run-when}
+use cycle.Proof.Measures.{exactly, smaller, μ-run-child, μ-run-second, μ-run-when}
 use Rattle.table.proofs.records.kind_at.Reads as kind-at-reads
 use Rattle.table.proofs.records.argument_at.Reads as argument-at-reads
 use Rattle.steps.proofs.numbers.value_of.Reads as value-of-reads
@@ -12,7 +13,6 @@ use Rattle.steps.proofs.flags.phase_after.Reads as phase-after-reads
 use borrow.Fn.Kinds.{In, Out}
 use Prim.Native.Nat.{ℕ}
 use borrow.Author.Needs.{needs}
-use proofs.+run_child+run_control+run_half+run_local+run_loop+run_par+run_repeat+run_second+run_seq+run_until+run_when as cycle
 use mathlib.Core.Path.{refl, sym, _∙_}
 use mathlib.Core.Logic.{⊎-elim}
 use lib.Dec.{lit<}

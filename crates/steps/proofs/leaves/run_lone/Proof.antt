@@ -6,13 +6,13 @@ use mathlib.Core.Path.{refl}
 use Rattle.steps.proofs.Dispatch.{phase-reads}
 use Rattle.steps.proofs.Slices.{wrote, same-put}
 use Rattle.steps.proofs.TestsRead.{test-here, lone-marked}
-use Rattle.steps.proofs.Awaits.{await-tests, lone-is, lone-run, lone-met, lone-met-late}
+use Rattle.steps.proofs.Awaits.{await-tests, lone-run, lone-met, lone-met-late}
 
 -- if marked(numbers, part_event(*table, c)) {
 part-event-requires : tie.Need-part-event-requires
 part-event-requires c κs =
     let start = c .before .before .before .before .before .before in
-    let (on, k) = lone-is (start .args .table .now .now) (start .args .i) _ (start .pre .1) in
+    let (on, lone) = start .pre .1 in
     let can = await-tests on (start .pre .0 .1) in
     search needs
 
@@ -31,11 +31,11 @@ returns c =
     let marked = c .before .before .before .marked in
     let if1 = c .before .before .if1 in
     let if2 = c .if2 in
-    let (on, k) = lone-is (start .args .table .now .now) (start .args .i) _ (start .pre .1) in
+    let (on, lone) = start .pre .1 in
     let can = await-tests on (start .pre .0 .1) in
     let here = lone-marked can (test-here can _ (argument-at .ensures .0)) (part-event .ensures) (marked .ensures) (if1 .taken) in
     let bytes = start .args .bytes .now in
-    ((λ row. wrote bytes _ _ (lone-met-late on k here (if2 .taken))), same-put bytes _)
+    ((λ row. wrote bytes _ _ (lone-met-late on lone here (if2 .taken))), same-put bytes _)
 
 -- return TERM;
 returns-2 : tie.Need-returns-2
@@ -46,12 +46,12 @@ returns-2 c =
     let marked = c .before .before .before .marked in
     let if1 = c .before .before .if1 in
     let if2 = c .if2 in
-    let (on, k) = lone-is (start .args .table .now .now) (start .args .i) _ (start .pre .1) in
+    let (on, lone) = start .pre .1 in
     let can = await-tests on (start .pre .0 .1) in
     let here = lone-marked can (test-here can _ (argument-at .ensures .0)) (part-event .ensures) (marked .ensures) (if1 .taken) in
-    ((λ row. lone-met on k here (if2 .left)), (refl, refl))
+    ((λ row. lone-met on lone here (if2 .left)), (refl, refl))
 
--- pub fn run_lone
+-- fn run_lone
 returns-3 : tie.Need-returns-3
 returns-3 c =
     let start = c .before .before .before .before .before .before .before .before .before .before in
@@ -59,10 +59,10 @@ returns-3 c =
     let part-event = c .before .before .before .part-event in
     let marked = c .before .before .marked in
     let if1 = c .before .if1 in
-    let (on, k) = lone-is (start .args .table .now .now) (start .args .i) _ (start .pre .1) in
+    let (on, lone) = start .pre .1 in
     let can = await-tests on (start .pre .0 .1) in
     let absent = lone-marked can (test-here can _ (argument-at .ensures .0)) (part-event .ensures) (marked .ensures) (if1 .left) in
-    ((λ row. lone-run on k absent), (refl, refl))
+    ((λ row. lone-run on lone absent), (refl, refl))
 
 pub run-lone-spec : {M : Type 1} → statement M
 run-lone-spec =

@@ -7,7 +7,8 @@ use mathlib.Core.Path.{refl, sym, _∙_}
 use Rattle.steps.proofs.Slices.{wrote, same-put, same-state-back}
 use Rattle.steps.proofs.Dispatch.{few-nodes, record-in, argument-reads, phase-reads}
 use Rattle.steps.proofs.LeafRuns.{event-below}
-use Rattle.steps.proofs.PendingRuns.{pending-placed, parks-one, parks-from, parks-to, cleared-writes, end-as-was, freezes-now, freezes-late, pending-suspends, pending-refused}
+use Rattle.steps.proofs.PendingRuns.{pending-placed, parks-one, parks-from, parks-to, cleared-writes, end-as-was}
+use Rattle.steps.proofs.PendingRuns.{freezes-now, freezes-late, pending-suspends, pending-refused}
 
 -- if has_event(numbers, event) {
 has-event-requires : tie.Need-has-event-requires
