@@ -271,6 +271,14 @@ impl Edges {
             records.configs[place].event = 1;
             self.check(&records.bytes());
         }
+        // It is bad by its size alone, and the records above it go by that size: they are good unless its own height counts.
+        for place in [1, 9, 10, 15] {
+            let mut records = Records::new(1, &par(wait(nots(20, event(0))), wait(event(0))));
+            for config in &mut records.configs[..=place] {
+                config.size += 1;
+            }
+            self.check(&records.bytes());
+        }
         // Two towers, the later one too high; then the earlier bad for another reason.
         let mut towers = Records::new(1, &par(wait(nots(15, event(0))), wait(nots(16, event(0)))));
         self.check(&towers.bytes());
