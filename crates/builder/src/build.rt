@@ -19,7 +19,7 @@ use table::records::wide;
 
 // The first bytes of the nodes and of the configurations that are placed, the bytes where they end, and how many configurations are
 // still to be placed.
-#[derive(Drop)]
+#[derive(Clone, Copy)]
 pub struct Front {
     pub node: usize,
     pub middle: usize,

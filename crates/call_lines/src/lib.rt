@@ -1,4 +1,6 @@
 // The lines of the calls program that run an instant or take a piece. Each function puts an answer line at the start of the output and answers its length.
+#![tactic(auto)]
+
 ghost use Rattle.std.specs.Prelude.{◌≤◌, length};
 ghost use Rattle.call_lines.specs.Rooms.{AnswerRoom};
 

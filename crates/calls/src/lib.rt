@@ -1,4 +1,6 @@
 // The words of the calls program's lines (calls.md), read and put.
+#![tactic(auto)]
+
 mod reading;
 mod writing;
 

@@ -9,7 +9,7 @@ use events::EventSet;
 use listing::LineRead;
 
 // Whether a text is such a word that a room has place for, and how many numbers it spells.
-#[derive(Drop)]
+#[derive(Clone, Copy)]
 pub struct Amount {
     pub good: bool,
     pub count: usize,
@@ -44,7 +44,7 @@ pub fn read_bytes(text: &[u8], room: &mut [u8]) -> Amount
 }
 
 // Whether a text is two such words, a space between them, and how many bytes each spells.
-#[derive(Drop)]
+#[derive(Clone, Copy)]
 pub struct Pair {
     pub good: bool,
     pub first: usize,

@@ -1,4 +1,6 @@
 // The console: standard input and output by blocks, the system calls that the programs share, and what stays of a block.
+#![tactic(auto)]
+
 ghost use Rattle.std.specs.Prelude.{◌≤◌, length};
 
 mod rest;
@@ -9,7 +11,7 @@ pub use rest::keep_rest;
 pub const TURNS: usize = 140737488355328;
 
 // How many bytes a call moved, or that it failed.
-#[derive(Drop)]
+#[derive(Clone, Copy)]
 pub struct Moved {
     pub failed: bool,
     pub count: usize,

@@ -1,4 +1,6 @@
 // Sets of events by value: `members` says which events a set's words mark as present, and every contract goes by it.
+#![tactic(auto)]
+
 ghost use Rattle.std.specs.Prelude.{◌≡◌, ◌&&◌, false, ◌*◌, ltb, length};
 ghost use Rattle.events.specs.Events.{none, put, how_many, lowest};
 ghost use Rattle.events.specs.Members.{places, marks, members};
@@ -6,7 +8,7 @@ ghost use Rattle.events.specs.Members.{places, marks, members};
 // How many words a set has: the one number here that says its size.
 pub const WORDS: usize = 16;
 
-#[derive(Drop)]
+#[derive(Clone, Copy)]
 pub struct EventSet {
     pub words: [u64; WORDS],
 }

@@ -1,5 +1,7 @@
 // The written form of programs as definitions (specs/) with their laws (proofs/), and the test that its readers share; the calls that
 // read and print it are crate text's.
+#![tactic(auto)]
+
 pub mod names;
 
 ghost use Rattle.std.specs.Prelude.{◌-◌, ◌<◌, true, ◌≡◌};

@@ -1,7 +1,9 @@
 // Junior as definitions: the types that running code and definitions share. The rules are in specs/, their laws in proofs/.
 
 // What a term answers to a pass (000, 2.3).
-#[derive(Drop)]
+#![tactic(auto)]
+
+#[derive(Clone, Copy)]
 pub enum Flag {
     SUSP,
     STOP,
@@ -9,7 +11,7 @@ pub enum Flag {
 }
 
 // What reading a configuration gives (000, 4.1).
-#[derive(Drop)]
+#[derive(Clone, Copy)]
 pub enum Verdict {
     Sat,
     Unsat,

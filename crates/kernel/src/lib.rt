@@ -1,5 +1,7 @@
 // The kernel: check, start and run one instant. Each call takes its table, state, events, values and rooms as they come.
 
+#![tactic(auto)]
+
 ghost use Rattle.std.specs.Prelude.{◌≡◌, ◌*◌, length, drop};
 ghost use Rattle.events.specs.Members.{places, members};
 ghost use Rattle.table.specs.Inside.{Loaded};
@@ -23,7 +25,7 @@ mod passes;
 mod values;
 
 // How a call ended; specs/Answer.antt has each case's number and index (01, "Refusal numbers").
-#[derive(Drop)]
+#[derive(Clone, Copy)]
 pub enum Outcome {
     // Nothing was refused.
     Ran,
@@ -39,7 +41,7 @@ pub enum Outcome {
 }
 
 // What an instant answers (01, "Rules of a pass").
-#[derive(Drop)]
+#[derive(Clone, Copy)]
 pub struct Answer {
     pub outcome: Outcome,
     // The events present at its end, those handed in included; how many; the lowest, `PLACES` if none.

@@ -16,7 +16,7 @@ use table::records::word_at;
 use waiting::{Wait, no_wait, waiting};
 
 // What the box hands in with an instant: the events, and the sixteen values in two words, the first in the lowest byte of `low`.
-#[derive(Drop)]
+#[derive(Clone, Copy)]
 pub struct HandedIn {
     pub events: EventSet,
     pub low: u64,
@@ -24,7 +24,7 @@ pub struct HandedIn {
 }
 
 // What an instant ends with: its answer, and how many bytes were parked.
-#[derive(Drop)]
+#[derive(Clone, Copy)]
 pub struct Ending {
     pub answer: Answer,
     pub parked: usize,

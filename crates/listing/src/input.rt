@@ -46,7 +46,7 @@ pub fn bad_line() -> LineRead
 }
 
 // A number in a line, and where it ends.
-#[derive(Drop)]
+#[derive(Clone, Copy)]
 struct Token {
     event: usize,
     next: usize,

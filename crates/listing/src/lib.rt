@@ -1,4 +1,6 @@
 // The listing program's lines: which events an input line hands in, and an answer's output line. Only the system calls stay outside.
+#![tactic(auto)]
+
 ghost use Rattle.std.specs.Prelude.{length};
 ghost use Rattle.events.specs.Members.{members};
 ghost use Rattle.listing.specs.Input.{Reading};
@@ -21,7 +23,7 @@ pub const LONGEST: usize = 4096;
 pub const MORE: usize = EventSet::PLACES + 10;
 
 // What a line is read as: the events that it hands in if it is good, else none.
-#[derive(Drop)]
+#[derive(Clone, Copy)]
 pub struct LineRead {
     pub events: EventSet,
     pub good: bool,

@@ -1,6 +1,8 @@
 // The listing program (01, "The listing program") and the program for people (02, L1): both start the table of `table.bin` fresh and list one
 // instant for each line of standard input; the second says under an instant what the program waits for.
 // Here are the system calls; what a line does is answer.rt's, and is proved to be what 01 and L1 say.
+#![tactic(auto)]
+
 ghost use Rattle.std.specs.Prelude.{◌≡◌, ◌+◌, ◌<◌, ◌≤◌, length};
 ghost use Rattle.listing.specs.Input.{longest};
 ghost use Rattle.listing.specs.Output.{enough};
@@ -126,7 +128,7 @@ fn list_last(
 }
 
 // Where a block ended: the next line's number, and how many bytes of that line stand at the start of the block.
-#[derive(Drop)]
+#[derive(Clone, Copy)]
 struct Place {
     number: u64,
     held: usize,

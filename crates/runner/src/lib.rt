@@ -1,6 +1,8 @@
 // A pass: a function for each form, or for two that differ in one step; a child is run by `run_child`. A node that answers TERM leaves its subtree's
 // bytes all zero; whoever keeps it in sight marks it as phase 3. What `run_child` goes on to has to stay apart from it in the compiled code, so that a
 // leaf doesn't pay for the registers of the largest form: the larger ones are called from two places, or run a nested node of their own form themselves.
+#![tactic(auto)]
+
 ghost use Rattle.state.specs.Kinds.{seq_kind, loop_kind, control_kind, local_kind};
 ghost use Rattle.steps.specs.Running.{Any};
 ghost use Rattle.steps.specs.Kinds.{all_seen, phase_unseen, OfKind, Repetition, Choice, Break, BothSuspended, NotBoth, InSecond};

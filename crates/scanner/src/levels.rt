@@ -7,14 +7,14 @@ ghost use Rattle.scanner.specs.Levels.{outer_at, rest_at};
 use form::names::{FIRST_FORM, FIRST_WORD, FORMS, LONG, PARTS, PROGRAM, ROW, code, name_end};
 
 // An open bracket's place, and the spaces behind it that stand in no bracket of their own; 0 where there is none.
-#[derive(Drop)]
+#[derive(Clone, Copy)]
 pub struct Bracket {
     pub at: usize,
     pub spaces: usize,
 }
 
 // The level that is left: its bracket's place, and where its rule goes on
-#[derive(Drop)]
+#[derive(Clone, Copy)]
 pub struct Frame {
     pub bracket: usize,
     pub rest: usize,
@@ -92,7 +92,7 @@ pub fn around(text: &[u8], from: usize) -> Bracket
 
 // What stands in a bracket: all of the text; parts; a configuration and two programs; a configuration's own
 // parts; anything else.
-#[derive(Drop)]
+#[derive(Clone, Copy)]
 pub enum Level {
     Top,
     Several,

@@ -39,7 +39,7 @@ const LARGEST: usize = 65535;
 
 // What a byte does at a place: nothing goes on; on at the same level; a name's bracket; into a rule, with the rest
 // of this one left behind; out of a bracket.
-#[derive(Drop)]
+#[derive(Clone, Copy)]
 pub enum Turn {
     Dead,
     On(usize, usize),

@@ -10,7 +10,7 @@ use crate::rules::{Turn, code_before, turn_at};
 use form::names::{INNER, LONG, NUMBER, PARTS, PROGRAM, TEST, code, table_of_names};
 
 // What reading a text tells: where it fails, or its nodes, configuration records, and one above its highest event.
-#[derive(Drop)]
+#[derive(Clone, Copy)]
 pub enum Scanned {
     Fails(usize),
     Counts { n: usize, m: usize, v: usize },
@@ -18,7 +18,7 @@ pub enum Scanned {
 
 // Where the reader is: a place in the rules, a number's value so far and 1 (0: in none), the innermost open bracket
 // (or behind the J whose bracket is still to come), the ring's next frame, and how many frames it holds.
-#[derive(Drop)]
+#[derive(Clone, Copy)]
 pub struct Place {
     pub pc: usize,
     pub number: usize,
@@ -28,14 +28,14 @@ pub struct Place {
 }
 
 // A byte with which no reading goes on, or where the reader is behind it.
-#[derive(Drop)]
+#[derive(Clone, Copy)]
 pub enum Took {
     Not,
     To(Place),
 }
 
 // Nodes, configuration records, and one above the highest event so far.
-#[derive(Drop)]
+#[derive(Clone, Copy)]
 pub struct Tally {
     pub nodes: usize,
     pub tests: usize,

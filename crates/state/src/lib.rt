@@ -1,4 +1,6 @@
 // A state's bytes (01, "State"): made fresh, and judged whether they are at rest.
+#![tactic(auto)]
+
 ghost use Rattle.std.specs.Prelude.{◌≡◌, length, replicate};
 
 pub mod resting;

@@ -1,5 +1,7 @@
 // The steps of a pass: what it does at nodes without children, and what the forms with children do before and after running them. None of
 // them is in the runner's cycle of calls.
+#![tactic(auto)]
+
 pub mod flags;
 pub mod kinds;
 pub mod leaves;

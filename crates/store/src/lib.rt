@@ -1,4 +1,6 @@
 // The store of parked pieces (L8): whether it is good (25), what room it has (13), where the newest piece of an event is, how one is taken out.
+#![tactic(auto)]
+
 ghost use Rattle.std.specs.Prelude.{◌≡◌, true, cond, ◌++◌, ◌+◌, ◌<◌, ◌≤◌, eqb, length, drop};
 ghost use Rattle.table.specs.Inside.{Loaded};
 ghost use Rattle.store.specs.Store.{in_use, event_at, two, store_good, store_room, newest, without};

@@ -10,7 +10,7 @@ use super::records::word_at;
 use events::EventSet;
 
 // The refusal, or N, M and V.
-#[derive(Drop)]
+#[derive(Clone, Copy)]
 pub enum Frame {
     Refused(Checked),
     Counts { n: usize, m: usize, v: usize },

@@ -1,4 +1,6 @@
 // The loader: a table is accepted with its figures, or refused with the first check that it fails. Nothing is loaded in part.
+#![tactic(auto)]
+
 ghost use Rattle.std.specs.Prelude.{◌≡◌};
 ghost use Rattle.table.specs.Verdict.{verdict_of};
 
@@ -15,7 +17,7 @@ pub mod records;
 mod weights;
 
 // What checking a table answers (01, "Refusal numbers"); specs/Verdict.antt has each case's number, index and figures.
-#[derive(Drop)]
+#[derive(Clone, Copy)]
 pub enum Checked {
     BadLength,
     BadCounts,

@@ -4,7 +4,7 @@ ghost use Rattle.table.specs.Verdict.{number_of, index_of};
 
 use crate::Checked;
 
-#[derive(Drop)]
+#[derive(Clone, Copy)]
 pub struct Refusal {
     // 0 if nothing was refused.
     pub number: usize,

@@ -31,7 +31,7 @@ pub fn read_configuration(table: &&[u8], c: usize, numbers: &[u64; ROW], ended: 
 
 // Where reading has come to: the next record's byte; the levels open there, as digits to base 16 behind a leading 2 (1 a not, 2 an and, 3 an
 // or, 4 and 5 these in their second part, the first being unknown); the rank of the part just read, 3 where another is to be read next.
-#[derive(Drop)]
+#[derive(Clone, Copy)]
 pub struct Place {
     pub at: usize,
     pub levels: u64,

@@ -7,7 +7,7 @@ ghost use Rattle.table.specs.Inside.Weighing.{bit, Counts, Weighs, Small, counte
 ghost use Rattle.table.specs.Inside.Weighing.{weight_at, put};
 
 // What a program weighs: its figures, exact below 65,536; its height; and 1 if it stops.
-#[derive(Drop)]
+#[derive(Clone, Copy)]
 pub struct Weight {
     pub generations: u32,
     pub atoms: u32,

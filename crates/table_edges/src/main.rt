@@ -1,4 +1,6 @@
 // The edges of refusals 1 to 8: each line is a point's name, then number, index, G, A, W and F of a table that stands on it.
+#![tactic(auto)]
+
 use table::Checked;
 
 fn main() {

@@ -1,4 +1,6 @@
 // Taking a parked piece out of a store (L8): it leaves as a table and a state of its own, and the store closes the gap.
+#![tactic(auto)]
+
 ghost use Rattle.std.specs.Prelude.{◌≡◌};
 ghost use Rattle.table.specs.Verdict.{verdict_of, number_of};
 ghost use Rattle.taking.specs.Taking.{Took};
@@ -14,7 +16,7 @@ pub mod numbers;
 mod pieces;
 
 // How a taking ended; specs/Taking.antt has each case's number and index.
-#[derive(Drop)]
+#[derive(Clone, Copy)]
 pub enum Taking {
     // Nothing was refused.
     Taken,
@@ -26,7 +28,7 @@ pub enum Taking {
 }
 
 // What a taking answers.
-#[derive(Drop)]
+#[derive(Clone, Copy)]
 pub struct Taken {
     pub outcome: Taking,
     // The lengths of the table and of the state, each at the start of its room; 0 where the taking was refused.

@@ -1,4 +1,6 @@
 // Programs in written form: reading a text into a table, and printing a table as a text.
+#![tactic(auto)]
+
 use table::Checked;
 
 pub mod exports;
@@ -7,7 +9,7 @@ pub mod print;
 pub mod read;
 
 // What reading a text answers; specs/Answers.antt has each case's number, index and length.
-#[derive(Drop)]
+#[derive(Clone, Copy)]
 pub enum TextRead {
     Fails(usize),
     NoRoom,
@@ -16,7 +18,7 @@ pub enum TextRead {
 }
 
 // What printing a table answers.
-#[derive(Drop)]
+#[derive(Clone, Copy)]
 pub enum TextPrinted {
     Refused(Checked),
     NoRoom,

@@ -1,5 +1,7 @@
 // What an instant waits for (request L1): found once, when the end is declared, by one way down from node 0. The state shows which parts are
 // suspended, and a Local's sign whether its event is present.
+#![tactic(auto)]
+
 ghost use Rattle.std.specs.Prelude.{◌≡◌, ◌*◌, length};
 ghost use Rattle.events.specs.Members.{places, marks, members};
 ghost use Rattle.waiting.specs.Down.{SomeStands, SomeLeads, LeadsTo, is_test, waits_itself, OwnWait, next_of, inside_of};
@@ -13,7 +15,7 @@ use table::records::{argument_at, kind_at, second_at, word_at};
 mod lacking;
 
 // A test that waits, by its node, and the event that it waits for.
-#[derive(Drop)]
+#[derive(Clone, Copy)]
 pub struct Wait {
     pub node: usize,
     pub event: usize,

@@ -1,5 +1,7 @@
 // zap_calls: makes one public call for each line of standard input and lists what it answered and what the lent rooms then hold (calls.md).
 // Here are the system calls; call.rt makes a line's call.
+#![tactic(auto)]
+
 ghost use Rattle.std.specs.Prelude.{◌≡◌, ◌+◌, ◌≤◌, length};
 ghost use Rattle.call_lines.specs.Rooms.{Rooms};
 

@@ -1,5 +1,7 @@
 // zap-check: checks the table of `table.bin` and prints what the check answers: number, index, generations, atoms, weight, bytes parked. A
 // table that can't be read counts as empty.
+#![tactic(auto)]
+
 use console::read_table;
 use table::Checked;
 use table::numbers::refusal_of_table;

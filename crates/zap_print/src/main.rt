@@ -1,5 +1,7 @@
 // zap-print: prints the program of `table.bin` in written form, and nothing behind it, so that zap-read can read it (02, L3). A table that
 // can't be read counts as empty; a refused one prints as in the listing program.
+#![tactic(auto)]
+
 ghost use Rattle.std.specs.Prelude.{◌≡◌, length};
 
 use console::read_table;

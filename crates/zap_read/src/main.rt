@@ -1,5 +1,7 @@
 // zap-read: reads a program in written form from standard input and writes its table to `table.bin` (02, L3). A refused table prints as in
 // the listing program; a text that fails prints the line where it does, a caret, and the bytes that could have stood there.
+#![tactic(auto)]
+
 ghost use Rattle.std.specs.Prelude.{◌<◌, ◌≡◌, length};
 
 use io::write_all;

@@ -2,6 +2,8 @@
 // the only line of standard input. The piece's table and state go to `piece-table.bin` and `piece-state.bin`, and `store.bin` goes on without it,
 // as long as it was; nothing is printed then. A refusal prints as in the listing program, and no file is written. A file that can't be read counts as
 // empty.
+#![tactic(auto)]
+
 use bytes::scan::find;
 use console::{read_file, read_table};
 use events::EventSet;
