@@ -12,8 +12,8 @@ use Rattle.junior.specs.Program.{Program, size}
 use Rattle.table.specs.Spells.{weight}
 use Rattle.letters.specs.Decimal.{decimal}
 use Rattle.letters.specs.Text.{bytes}
-use Rattle.form.specs.Form.{SaysTest, says_event, says_not, says_and, says_or, Piece, whole, later-seq}
-use Rattle.form.specs.Form.{later-par, Says}
+use Rattle.form.specs.Form.{SaysTest, says_event, says_not, says_and, says_or, Piece, whole, later_seq}
+use Rattle.form.specs.Form.{later_par, Says}
 use Rattle.form.specs.Form.{says_nothing, says_stop, says_atom, says_seq, last_of_seq, more_of_seq, says_par}
 use Rattle.form.specs.Form.{last_of_par}
 use Rattle.form.specs.Form.{more_of_par, says_loop, says_repeat, says_generate, says_await, says_when}
@@ -81,8 +81,8 @@ closes_test (says_or {v = v} d e) x = simp append_assoc (omega (arith, closes_te
 
 abbrev records : Piece → ℕ
 records (whole p) = size p + tests p
-records (later-seq q) = 1 + size q + tests q
-records (later-par q) = 1 + size q + tests q
+records (later_seq q) = 1 + size q + tests q
+records (later_par q) = 1 + size q + tests q
 
 closes_piece : {s : Piece} {u : List ℕ} → Says s u → (x : List ℕ) → closes (u ++ x) ≤ records s + closes x
 unfolding closes size tests

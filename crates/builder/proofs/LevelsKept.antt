@@ -11,8 +11,8 @@ use Rattle.junior.specs.Configuration.{Config}
 use Rattle.table.specs.Records.{byte}
 use Rattle.letters.specs.Decimal.{decimal}
 use Rattle.letters.specs.Text.{bytes}
-use Rattle.form.specs.Form.{SaysTest, says_event, says_not, says_and, says_or, Piece, whole, later-seq}
-use Rattle.form.specs.Form.{later-par, Says}
+use Rattle.form.specs.Form.{SaysTest, says_event, says_not, says_and, says_or, Piece, whole, later_seq}
+use Rattle.form.specs.Form.{later_par, Says}
 use Rattle.form.specs.Form.{says_nothing, says_stop, says_atom, says_seq, last_of_seq, more_of_seq, says_par}
 use Rattle.form.specs.Form.{last_of_par}
 use Rattle.form.specs.Form.{more_of_par, says_loop, says_repeat, says_generate, says_await, says_when}
@@ -82,8 +82,8 @@ levels_cap n x = let b = (digit_is (byte (decimal n ++ x) 0) (begins_decimal n x
 -- a whole program leaves the levels; with a comma before it, what stands behind the first comma of a Seq or Par leaves its bracket's
 abbrev pub LevelsStay : Piece → List ℕ → List ℕ → Type 0
 LevelsStay (whole p) u x = levels (u ++ x) ≡ levels x
-LevelsStay (later-seq p) u x = levels (44 ∷ 32 ∷ (u ++ x)) ≡ 1 ∷ levels x
-LevelsStay (later-par p) u x = levels (44 ∷ 32 ∷ (u ++ x)) ≡ 1 ∷ levels x
+LevelsStay (later_seq p) u x = levels (44 ∷ 32 ∷ (u ++ x)) ≡ 1 ∷ levels x
+LevelsStay (later_par p) u x = levels (44 ∷ 32 ∷ (u ++ x)) ≡ 1 ∷ levels x
 
 pub levels_kept : {s : Piece} {u : List ℕ} → Says s u → (x : List ℕ) → LevelsStay s u x
 unfolding levels relevel

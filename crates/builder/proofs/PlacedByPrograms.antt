@@ -19,7 +19,7 @@ use Rattle.letters.specs.Decimal.{decimal}
 use Rattle.letters.specs.Text.{bytes}
 use Rattle.letters.proofs.Decimal.{decimal_digit, decimal_more}
 use Rattle.form.specs.Names.{opening}
-use Rattle.form.specs.Form.{SaysTest, Piece, whole, later-seq, later-par, Says}
+use Rattle.form.specs.Form.{SaysTest, Piece, whole, later_seq, later_par, Says}
 use Rattle.form.specs.Form.{says_nothing, says_stop, says_atom, says_seq, last_of_seq, more_of_seq, says_par}
 use Rattle.form.specs.Form.{last_of_par}
 use Rattle.form.specs.Form.{more_of_par, says_loop, says_repeat, says_generate, says_await, says_when}
@@ -163,8 +163,8 @@ module _ (m : ℕ) where
 
   abbrev Outcome : Piece → List ℕ → Type 0
   Outcome (whole p) u = Whole p u
-  Outcome (later-seq q) v = Later 3 q v
-  Outcome (later-par q) v = Later 4 q v
+  Outcome (later_seq q) v = Later 3 q v
+  Outcome (later_par q) v = Later 4 q v
 
   -- before a closing bracket
   at_close :
@@ -297,14 +297,14 @@ module _ (m : ℕ) where
   generate_placed n l x j a b h =
       rw (append_assoc (decimal n) (41 ∷ []) x) (reads m _ (enclosed_number n x) 7 (omega arith) ∙ leaf 7 n j x (omega arith) h (λ t. refl))
 
-  seq_placed : {p q : Program} {u v : List ℕ} → Says (whole p) u → Says (later-seq q) v → Whole p u → Later 3 q v
+  seq_placed : {p q : Program} {u v : List ℕ} → Says (whole p) u → Says (later_seq q) v → Whole p u → Later 3 q v
       → Whole (Seq p q) (bytes "Jr.Seq(" ++ (u ++ (bytes ", " ++ v)))
   unfolding opening form
   seq_placed {p} {q} {u} {v} d e f g x j a b h =
       rw (append_assoc u (44 ∷ 32 ∷ v) x)
       (reads m _ (enclosed_row (seq_row p q) d v (levels_kept e) f g x) 3 (omega arith) ∙ row_whole (seq_row p q) d v (levels_kept e) f g x j a b h)
 
-  par_placed : {p q : Program} {u v : List ℕ} → Says (whole p) u → Says (later-par q) v → Whole p u → Later 4 q v
+  par_placed : {p q : Program} {u v : List ℕ} → Says (whole p) u → Says (later_par q) v → Whole p u → Later 4 q v
       → Whole (Par p q) (bytes "Jr.Par(" ++ (u ++ (bytes ", " ++ v)))
   unfolding opening form
   par_placed {p} {q} {u} {v} d e f g x j a b h =

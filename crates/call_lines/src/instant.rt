@@ -3,10 +3,10 @@ ghost use Rattle.std.specs.Prelude.{◌≤◌, length};
 ghost use Rattle.call_lines.specs.Rooms.{StateRoom, RowRoom, StoreRoom, AnswerRoom};
 
 use crate::bad_line;
-use bytes::scan::find;
 use calls::{put_bytes, put_numbers, put_row, read_bytes, read_list, read_pair, read_row};
 use events::EventSet;
 use kernel::numbers::refusal_of;
+use octets::find;
 
 // The values handed in with an instant.
 const VALUES: usize = 16;

@@ -12,5 +12,5 @@ pub fn bad_line(output: &mut [u8]) -> usize
     requires { AnswerRoom output.old }
     ensures { result ≤ length output.old }
 {
-    bytes::copy(b"bad-line\n", output)
+    octets::copy(b"bad-line\n", output)
 }

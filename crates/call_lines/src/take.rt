@@ -3,9 +3,9 @@ ghost use Rattle.std.specs.Prelude.{◌≤◌, length};
 ghost use Rattle.call_lines.specs.Rooms.{LongRoom, StateRoom, StoreRoom, AnswerRoom};
 
 use crate::bad_line;
-use bytes::scan::find;
 use calls::{put_bytes, put_numbers, read_pair};
 use listing::read_events;
+use octets::find;
 use taking::numbers::refusal_of_taking;
 
 pub fn answer_take(

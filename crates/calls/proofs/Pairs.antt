@@ -6,13 +6,12 @@ use mathlib.Core.List.{List}
 use native.Mathlib.Omega.{arith}
 use lib.ListN.{length, take, drop, length-drop}
 use lib.Seq.{take_all, take-length}
-use Rattle.bytes.specs.Bytes.{index_of, slice}
+use Rattle.octets.specs.Octets.{index_of, slice}
 use Rattle.letters.specs.Text.{space}
 use Rattle.calls.specs.Words.{BytesRead, word_end}
 
 module _ (text : List ℕ) {end : ℕ} (found : end ≡ 0 + index_of space (slice 0 (length text) text)) where
   pub at_end : end ≡ word_end text
-  unfolding slice
   at_end = let e : end ≡ 0 + word_end text = rw (take-length text) at found in omega (arith, e)
 
   pub first_word : {a a' : List ℕ} {good : Bool} {n : ℕ} {v : Bool} → good ≡ v → BytesRead (take end text) a a' good n

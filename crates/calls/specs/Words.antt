@@ -1,7 +1,7 @@
 -- The words of the calls program's lines: BYTES and ROW are numbers in lowercase hexadecimal, two and four digits each, EVENTS are
 -- joined by commas; `-` for none.
 use Rattle.std.specs.Prelude.{ℕ, zero, suc, ◌+◌, ◌-◌, ◌*◌, ◌/◌, ◌%◌, ◌≤◌, ◌<◌, ◌≡◌, Bool, true, false, cond, ◌&&◌, List, [], ◌∷◌, ◌++◌, length, get_or, take, drop, leb, ltb, eqb}
-use Rattle.bytes.specs.Bytes.{index_of}
+use Rattle.octets.specs.Octets.{index_of}
 use Rattle.events.specs.Events.{Events, none}
 use Rattle.events.specs.Members.{places}
 use Rattle.letters.specs.Decimal.{decimal}

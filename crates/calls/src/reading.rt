@@ -4,9 +4,9 @@ ghost use Rattle.events.specs.Members.{members};
 ghost use Rattle.calls.specs.Words.{figure16, byte_at, number_at, is_dash, WordRead, BytesRead, PairRead, Counted, ListRead};
 ghost use Rattle.calls.specs.Inside.{fitting};
 
-use bytes::scan::find;
 use events::EventSet;
 use listing::LineRead;
+use octets::find;
 
 // Whether a text is such a word that a room has place for, and how many numbers it spells.
 #[derive(Clone, Copy)]

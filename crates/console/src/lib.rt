@@ -1,7 +1,15 @@
-// The console: standard input and output by blocks, the system calls that the programs share, and what stays of a block.
+// The console: standard input and output by blocks, the files of the current folder, and what stays of a block.
 #![tactic(auto)]
 
-ghost use Rattle.std.specs.Prelude.{◌≤◌, length};
+ghost use Rattle.std.specs.Prelude.{◌<◌, ◌≤◌, IfOk, length, take};
+ghost use Rattle.std.specs.Bool.{OnTrue};
+ghost use Rattle.std.specs.Fmt.{decimal};
+ghost use Rattle.std.specs.Io.KnownBytes.{Appends, Consumes, IsAtEnd, ReadConsumes};
+
+use std::fs::File;
+use std::io;
+use std::io::{ErrorKind, Read, Write};
+use std::rt::Files;
 
 mod rest;
 
@@ -10,80 +18,71 @@ pub use rest::keep_rest;
 // A proved loop has to end, so it counts its turns, up to a number that no run reaches.
 pub const TURNS: usize = 140737488355328;
 
-// How many bytes a call moved, or that it failed.
-#[derive(Clone, Copy)]
-pub struct Moved {
-    pub failed: bool,
-    pub count: usize,
-}
-
 // Reads once, and again where a signal came first.
-pub fn read_some(file: i32, room: &mut [u8]) -> Moved
-    ensures { result.count ≤ length room.new }
+pub fn read_some<R: Read>(reader: &mut R, room: &mut [u8]) -> io::Result<usize>
+    ensures bound { IfOk result (λ n. n ≤ length room.new) }
+    ensures bytes { ReadConsumes (R.remaining reader.old) (R.remaining reader.new) result room.new }
 {
     for _ in 0..TURNS {
-        let got = libc::read(file, room);
-        if 0 <= got {
-            return Moved {
-                failed: false,
-                count: io::count(got, room),
-            };
-        }
-        if os::errno() != libc::EINTR {
-            break;
+        match reader.read(room) {
+            Err(e) if e.kind() == ErrorKind::Interrupted => {}
+            got => return got,
         }
     }
-    Moved {
-        failed: true,
-        count: 0,
-    }
+    Err(io::Error::from(ErrorKind::Interrupted))
 }
 
-// The bytes of `table.bin` at the start of the room; none if it can't be read.
-pub fn read_table(room: &mut [u8]) -> usize
-    ensures { result ≤ length room.new }
-{
-    read_file(b"table.bin", room)
-}
-
-// The same of any file of the current folder.
-pub fn read_file(name: &[u8], room: &mut [u8]) -> usize
-    ensures { result ≤ length room.new }
-{
-    let file = os::open_read(name);
-    if file < 0 {
-        return 0;
-    }
-    let length = read_all(file, room);
-    libc::close(file);
-    length
-}
-
-// Reads until the room is full or the file ends; none if a read fails.
-fn read_all(file: i32, room: &mut [u8]) -> usize
-    ensures { result ≤ length room.new }
+// Reads until the room is full or the input ends. After an error the bytes that came are lost.
+pub fn read_all<R: Read>(reader: &mut R, room: &mut [u8]) -> io::Result<usize>
+    ensures bound { IfOk result (λ n. n ≤ length room.new) }
+    ensures bytes { IfOk result (λ n. Consumes (R.remaining reader.old) (R.remaining reader.new) (take n room.new)) }
+    ensures end { IfOk result (λ n. n < length room.new → IsAtEnd (R.remaining reader.new)) }
 {
     let mut done = 0;
     while done < room.len() {
-        let got = read_some(file, &mut room[done..]);
-        if got.failed {
-            return 0;
-        }
-        if got.count == 0 {
+        let got = read_some(reader, &mut room[done..])?;
+        if got == 0 {
             break;
         }
-        done += got.count;
+        done += got;
     }
-    done
+    Ok(done)
 }
 
-// Writes a text to standard output and answers how much of it could be written.
-pub fn write_out(text: &[u8]) -> usize
-    ensures { result ≤ length text.now }
+// The bytes of `table.bin` at the start of the room; none if it can't be read.
+pub fn read_table(files: &impl Files, room: &mut [u8]) -> usize
+    ensures { result ≤ length room.new }
+{
+    read_named(files, "table.bin", room)
+}
+
+// The same of any file of the current folder. Files are named in UTF-8: any other name is of no file that can be read.
+pub fn read_file(files: &impl Files, name: &[u8], room: &mut [u8]) -> usize
+    ensures { result ≤ length room.new }
+{
+    match str::from_utf8(name) {
+        Ok(name) => read_named(files, name, room),
+        Err(_) => 0,
+    }
+}
+
+fn read_named(files: &impl Files, name: &str, room: &mut [u8]) -> usize
+    ensures { result ≤ length room.new }
+{
+    match File::open(files, name) {
+        Ok(mut file) => read_all(&mut file, room).unwrap_or(0),
+        Err(_) => 0,
+    }
+}
+
+// Writes a text and answers how much of it could be written.
+pub fn write_out<W: Write>(out: &mut W, text: &[u8]) -> usize
+    ensures bound { result ≤ length text.now }
+    ensures bytes { Appends (W.contents out.old) (W.contents out.new) (take result text.now) }
 {
     let mut done = 0;
     while done < text.len() {
-        let put = write_some(&text[done..]);
+        let put = write_some(out, &text[done..]);
         if put == 0 {
             break;
         }
@@ -93,17 +92,23 @@ pub fn write_out(text: &[u8]) -> usize
 }
 
 // Writes once, and again where a signal came first; 0 if nothing can be written.
-fn write_some(text: &[u8]) -> usize
-    ensures { result ≤ length text.now }
+fn write_some<W: Write>(out: &mut W, text: &[u8]) -> usize
+    ensures bound { result ≤ length text.now }
+    ensures bytes { Appends (W.contents out.old) (W.contents out.new) (take result text.now) }
 {
     for _ in 0..TURNS {
-        let put = libc::write(1, text);
-        if 0 <= put {
-            return io::count(put, text);
-        }
-        if os::errno() != libc::EINTR {
-            break;
+        match out.write(text) {
+            Ok(n) => return n,
+            Err(e) if e.kind() == ErrorKind::Interrupted => {}
+            Err(_) => return 0,
         }
     }
     0
+}
+
+// Writes a number in decimal, and answers whether that was possible.
+pub fn print_decimal<W: Write>(out: &mut W, n: u64) -> bool
+    ensures { OnTrue result (Appends (W.contents out.old) (W.contents out.new) (decimal n)) }
+{
+    write!(out, "{n}").is_ok()
 }

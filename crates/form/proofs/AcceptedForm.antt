@@ -6,7 +6,7 @@ use mathlib.Core.List.{List}
 use native.Mathlib.Omega.{arith}
 use Rattle.junior.specs.Configuration.{Config, Event, Not, And, Or}
 use Rattle.junior.specs.Program.{Program, Argument, no_argument, number, event, configuration, value, capped, argument, kind}
-use Rattle.junior.specs.Program.{Parts as PartsOf, no_part, one_part, two_parts, parts as taken-apart}
+use Rattle.junior.specs.Program.{Parts as PartsOf, no_part, one_part, two_parts, parts as taken_apart}
 use Rattle.table.specs.Records.{nodes, configurations, argument_at, size_at, second_child, configuration_at}
 use Rattle.table.specs.Records.{part_kind, second_part}
 use Rattle.table.specs.Good.{parts, height_at_most}
@@ -110,5 +110,5 @@ module _ {t : List ℕ} (a : Loaded t) where
   pub accepted_form : Formed (tree_of t)
   unfolding Spells LowTests
   accepted_form =
-      let (x, y) = form (taken-apart (tree_of t)) 0 a.framed.n_least (whole_placed a).spelled in
+      let (x, y) = form (taken_apart (tree_of t)) 0 a.framed.n_least (whole_placed a).spelled in
       record { in_form = x; low = y }

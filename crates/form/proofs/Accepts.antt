@@ -7,8 +7,8 @@ use borrow.Author.Tests.{eq-eqb}
 use Rattle.letters.specs.Decimal.{decimal}
 use Rattle.junior.specs.Configuration.{Config}
 use Rattle.junior.specs.Program.{Program}
-use Rattle.form.specs.Form.{SaysTest, says_event, says_not, says_and, says_or, Piece, whole, later-seq}
-use Rattle.form.specs.Form.{later-par, Says, says_nothing, says_stop, says_atom, says_seq, last_of_seq}
+use Rattle.form.specs.Form.{SaysTest, says_event, says_not, says_and, says_or, Piece, whole, later_seq}
+use Rattle.form.specs.Form.{later_par, Says, says_nothing, says_stop, says_atom, says_seq, last_of_seq}
 use Rattle.form.specs.Form.{more_of_seq, says_par, last_of_par, more_of_par, says_loop, says_repeat}
 use Rattle.form.specs.Form.{says_generate, says_await, says_when, says_until, says_control, says_local, says_freezable, says_if}
 use Rattle.form.specs.Form.{says_repeat_ext}
@@ -69,8 +69,8 @@ run_conf (says_or c d) e σ x =
 -- what must be on the stack for a piece
 abbrev pub wants : Piece → Stack → Stack
 wants (whole p) σ = prog ∷ σ
-wants (later-seq p) σ = prog ∷ parts ∷ σ
-wants (later-par p) σ = prog ∷ parts ∷ σ
+wants (later_seq p) σ = prog ∷ parts ∷ σ
+wants (later_par p) σ = prog ∷ parts ∷ σ
 
 pub runs : {s : Piece} {w : List ℕ} → Says s w → (σ : Stack) (x : List ℕ) → run (wants s σ) (w ++ x) ≡ run σ x
 unfolding run

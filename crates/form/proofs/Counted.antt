@@ -9,8 +9,8 @@ use Rattle.letters.specs.Decimal.{decimal}
 use Rattle.junior.specs.Configuration.{Config}
 use Rattle.junior.specs.Program.{Program, size}
 use Rattle.table.specs.Spells.{weight}
-use Rattle.form.specs.Form.{SaysTest, says_event, says_not, says_and, says_or, Piece, whole, later-seq}
-use Rattle.form.specs.Form.{later-par, Says, says_nothing, says_stop, says_atom, says_seq, last_of_seq}
+use Rattle.form.specs.Form.{SaysTest, says_event, says_not, says_and, says_or, Piece, whole, later_seq}
+use Rattle.form.specs.Form.{later_par, Says, says_nothing, says_stop, says_atom, says_seq, last_of_seq}
 use Rattle.form.specs.Form.{more_of_seq, says_par, last_of_par, more_of_par, says_loop, says_repeat}
 use Rattle.form.specs.Form.{says_generate, says_await, says_when, says_until, says_control, says_local, says_freezable, says_if}
 use Rattle.form.specs.Form.{says_repeat_ext}
@@ -159,8 +159,8 @@ tally_conf (says_or {c = f} {d = g} c d) e σ x k =
 
 abbrev tree_of : Piece → Program
 tree_of (whole p) = p
-tree_of (later-seq p) = p
-tree_of (later-par p) = p
+tree_of (later_seq p) = p
+tree_of (later_par p) = p
 
 -- the counts with a program's added
 abbrev with : Counts → Program → Counts

@@ -41,9 +41,9 @@ then_dead n f e = rw e
 
 pub fails : (w : List ℕ) (k : ℕ) → Stops (prog ∷ []) w k → (run (prog ∷ []) w ≡ on [] → ⊥) → Fails w k
 fails w k o refuses =
-    let whole-text : run (prog ∷ []) (take k w ++ finish o.to) ≡ on [] =
+    let whole_text : run (prog ∷ []) (take k w ++ finish o.to) ≡ on [] =
     run_append (prog ∷ []) (take k w) (finish o.to) ∙ (rw o.so_far (finishes o.to)) in
-    let r = has_reading (take k w ++ finish o.to) whole-text in
+    let r = has_reading (take k w ++ finish o.to) whole_text in
     record {
       within = o.within;
       so_far = (r.0, finish o.to, r.1);

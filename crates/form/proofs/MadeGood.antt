@@ -103,13 +103,13 @@ module _ (t : List ℕ) (whole : size_at t 0 ≡ nodes t) where
       first
   good_nodes {p} (two_parts f q r) i j s (x, y, y') n m l =
       let o = two_of i j q r s in
-      let both-named = larger (named_parts q) (named_parts r) in
-      let w = argument_below (argument p) j (tests_parts q + tests_parts r) both-named x m l in
+      let both_named = larger (named_parts q) (named_parts r) in
+      let w = argument_below (argument p) j (tests_parts q + tests_parts r) both_named x m l in
       let z = written_parts t (i + 1) q (spells t q (i + 1) _ y o.first) in
       let u = written_parts t (i + 1 + size_of q) r (spells t r (i + 1 + size_of q) _ y' o.second) in
       let z' : size_at t (i + 1 + size_at t (i + 1)) ≡ size_of r = rw z u in
       let b = tests_behind (argument p) j (tests_parts q + tests_parts r) m in
-      let c = named_rest (argument p) both-named _ l in
+      let c = named_rest (argument p) both_named _ l in
       own_and_both
       Good
       i

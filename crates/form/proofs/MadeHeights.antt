@@ -8,7 +8,7 @@ use lib.Dec.{leb}
 use borrow.Author.Tests.{le-leb, lt-leb, leb-true, leb-false}
 use Rattle.junior.specs.Configuration.{Config, Event, Not, And, Or}
 use Rattle.junior.specs.Program.{Program, Argument, no_argument, number, event, configuration, value, capped, argument}
-use Rattle.junior.specs.Program.{Parts as PartsOf, no_part, one_part, two_parts, parts as taken-apart}
+use Rattle.junior.specs.Program.{Parts as PartsOf, no_part, one_part, two_parts, parts as taken_apart}
 use Rattle.table.specs.Records.{configuration_at}
 use Rattle.table.specs.Good.{parts, good_but_height, height_at_most, good_configuration}
 use Rattle.table.specs.Spells.{weight}
@@ -50,7 +50,7 @@ LowParts {p} (one_part f q) = LowArgument (argument p) × LowParts q
 LowParts {p} (two_parts f q r) = LowArgument (argument p) × (LowParts q × LowParts r)
 
 unfoldable pub LowTests : Program → Type 0
-LowTests p = LowParts (taken-apart p)
+LowTests p = LowParts (taken_apart p)
 
 tall_least : (c : Config) → 1 ≤ tall c
 unfolding tall
@@ -219,7 +219,7 @@ module _ (t : List ℕ) where
 
 made_exactly : (p : Program) → InForm p → Exactly (table_of p) 0 (tests p) (LowTests p)
 unfolding tests LowTests
-made_exactly p f = low_exactly (table_of p) (taken-apart p) 0 (made_stands p).tests_there (all_tests_good p f)
+made_exactly p f = low_exactly (table_of p) (taken_apart p) 0 (made_stands p).tests_there (all_tests_good p f)
 
 -- all configurations of the table are good exactly if all tests are low
 pub made_good : (p : Program) → InForm p → LowTests p → (j : ℕ) → j < tests p → good_configuration (table_of p) j ≡ true

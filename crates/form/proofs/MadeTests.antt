@@ -9,7 +9,7 @@ use borrow.Author.Tests.{lt-ltb, le-leb}
 use Rattle.events.specs.Members.{places}
 use Rattle.junior.specs.Configuration.{Config, Event, Not, And, Or}
 use Rattle.junior.specs.Program.{Program, Argument, no_argument, number, event, configuration, value, capped, argument}
-use Rattle.junior.specs.Program.{Parts, no_part, one_part, two_parts, parts as taken-apart}
+use Rattle.junior.specs.Program.{Parts, no_part, one_part, two_parts, parts as taken_apart}
 use Rattle.table.specs.Records.{configurations, events, configuration_at, kind_byte, part_event}
 use Rattle.table.specs.Good.{parts, good_but_height}
 use Rattle.table.specs.Spells.{weight}
@@ -131,10 +131,10 @@ module _ (t : List ℕ) where
   good_tests {p} (two_parts f q r) j (x, y, z) h l v =
       let next = after j (argument p) in
       let w = tests_of_parts q ++ tests_of_parts r in
-      let both-named = larger (named_parts q) (named_parts r) in
+      let both_named = larger (named_parts q) (named_parts r) in
       let b = behind_argument j (argument p) w h in
-      let c = named_rest (argument p) both-named _ v in
-      argument_good (argument p) j (tests_parts q + tests_parts r) both-named w x h l v
+      let c = named_rest (argument p) both_named _ v in
+      argument_good (argument p) j (tests_parts q + tests_parts r) both_named w x h l v
       (λ k.
       both GoodTest next (tests_parts q) (tests_parts r)
       (good_tests q next y (first_tests next q r b) (omega arith) (larger_first (named_parts q) (named_parts r) _ c))
@@ -145,7 +145,7 @@ unfolding tests named
 all_tests_good p f =
     let m = made_configurations p in
     let v = made_events p in
-    good_tests (table_of p) (taken-apart p) 0 f (made_stands p).tests_there (omega arith) (omega arith)
+    good_tests (table_of p) (taken_apart p) 0 f (made_stands p).tests_there (omega arith) (omega arith)
 
 pub made_tests_good : (p : Program) → InForm p → (j : ℕ) → j < tests p → good_but_height (table_of p) j ≡ true
 made_tests_good p f j l = all_tests_good p f j (omega arith) (omega arith)

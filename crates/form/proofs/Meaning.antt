@@ -9,7 +9,7 @@ use Rattle.letters.specs.Decimal.{decimal}
 use Rattle.letters.specs.Text.{bytes}
 use Rattle.junior.specs.Configuration.{Config}
 use Rattle.junior.specs.Program.{Program}
-use Rattle.form.specs.Form.{SaysTest, Says, whole, later-seq, later-par}
+use Rattle.form.specs.Form.{SaysTest, Says, whole, later_seq, later_par}
 use Rattle.form.specs.Inside.Rows.{home, letters}
 use Rattle.form.specs.Inside.Machine.{end_byte, limit, Sym, Stack, lit, byte, prog, name}
 use Rattle.form.specs.Inside.Machine.{parts, conf, inner, joint, num, tail}
@@ -24,8 +24,8 @@ Means (byte c) u = u ≡ c ∷ []
 Means prog u = After [] u
 Means (name p) u = After (bytes "Jr." ++ letters (home p)) u
 Means parts u =
-    ((p : Program) (w : List ℕ) → Says (whole p) w → (q : Program) × Says (later-seq q) (w ++ u))
-    × ((p : Program) (w : List ℕ) → Says (whole p) w → (q : Program) × Says (later-par q) (w ++ u))
+    ((p : Program) (w : List ℕ) → Says (whole p) w → (q : Program) × Says (later_seq q) (w ++ u))
+    × ((p : Program) (w : List ℕ) → Says (whole p) w → (q : Program) × Says (later_par q) (w ++ u))
 Means (conf e) u = (c : Config) × (v : List ℕ) × SaysTest c v × (u ≡ v ++ (end_byte e ∷ []))
 Means inner u = (c : Config) × SaysTest c (bytes "(" ++ u)
 Means joint u =

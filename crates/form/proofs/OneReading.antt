@@ -10,8 +10,8 @@ use Rattle.events.specs.Members.{places}
 use Rattle.letters.specs.Decimal.{decimal}
 use Rattle.junior.specs.Configuration.{Config, Event, Not, And, Or}
 use Rattle.junior.specs.Program.{Program, Nothing, Seq, Par, Await, When, Until}
-use Rattle.form.specs.Form.{SaysTest, says_event, says_not, says_and, says_or, Piece, whole, later-seq}
-use Rattle.form.specs.Form.{later-par, Says, says_nothing, says_stop, says_atom, says_seq, last_of_seq}
+use Rattle.form.specs.Form.{SaysTest, says_event, says_not, says_and, says_or, Piece, whole, later_seq}
+use Rattle.form.specs.Form.{later_par, Says, says_nothing, says_stop, says_atom, says_seq, last_of_seq}
 use Rattle.form.specs.Form.{more_of_seq, says_par, last_of_par, more_of_par, says_loop, says_repeat}
 use Rattle.form.specs.Form.{says_generate, says_await, says_when, says_until, says_control, says_local, says_freezable, says_if}
 use Rattle.form.specs.Form.{says_repeat_ext}
@@ -125,13 +125,13 @@ make_conf (says_or {c} {d} g h) e σ x f l k =
 -- the bracket that a piece stands in, and what it is behind it; f is the bracket of a whole program
 abbrev before : Piece → Maker → List Item → List Bracket → List Bracket
 before (whole p) f l k = bracket f l ∷ k
-before (later-seq p) f l k = bracket (several_of Seq) l ∷ k
-before (later-par p) f l k = bracket (several_of Par) l ∷ k
+before (later_seq p) f l k = bracket (several_of Seq) l ∷ k
+before (later_par p) f l k = bracket (several_of Par) l ∷ k
 
 abbrev behind : Piece → Maker → List Item → List Bracket → List Bracket
 behind (whole p) f l k = bracket f (program p ∷ l) ∷ k
-behind (later-seq p) f l k = add (program (nested Seq p l)) k
-behind (later-par p) f l k = add (program (nested Par p l)) k
+behind (later_seq p) f l k = add (program (nested Seq p l)) k
+behind (later_par p) f l k = add (program (nested Par p l)) k
 
 said : (σ : Stack) (x : List ℕ) (f : Maker) (l : List Item) (k : List Bracket) {p q : Program} → p ≡ q
     → make σ x (bracket f (program p ∷ l) ∷ k) ≡ make σ x (bracket f (program q ∷ l) ∷ k)

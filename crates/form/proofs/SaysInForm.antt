@@ -3,8 +3,8 @@ use Rattle.junior.specs.Configuration.{Config}
 use Rattle.junior.specs.Program.{Program}
 use mathlib.Core.List.{List}
 use Prim.Native.Nat.{ℕ}
-use Rattle.form.specs.Form.{SaysTest, says_event, says_not, says_and, says_or, Piece, whole, later-seq}
-use Rattle.form.specs.Form.{later-par, Says, says_nothing, says_stop, says_atom, says_seq, last_of_seq}
+use Rattle.form.specs.Form.{SaysTest, says_event, says_not, says_and, says_or, Piece, whole, later_seq}
+use Rattle.form.specs.Form.{later_par, Says, says_nothing, says_stop, says_atom, says_seq, last_of_seq}
 use Rattle.form.specs.Form.{more_of_seq, says_par, last_of_par, more_of_par, says_loop, says_repeat}
 use Rattle.form.specs.Form.{says_generate, says_await, says_when, says_until, says_control, says_local, says_freezable, says_if}
 use Rattle.form.specs.Form.{says_repeat_ext}
@@ -18,8 +18,8 @@ test_in_form (says_or t u) = (test_in_form t, test_in_form u)
 
 abbrev said : Piece → Program
 said (whole p) = p
-said (later-seq p) = p
-said (later-par p) = p
+said (later_seq p) = p
+said (later_par p) = p
 
 piece_in_form : {s : Piece} {w : List ℕ} → Says s w → InForm (said s)
 piece_in_form says_nothing = tt

@@ -14,7 +14,7 @@ use Rattle.junior.specs.Program.{Program, Nothing, Stop, Atom, Seq, Par, Loop, R
 use Rattle.junior.specs.Program.{Control, Local, Freezable, If}
 use Rattle.junior.specs.Values.{exactly, asked}
 use Rattle.form.specs.Names.{form_of, opening}
-use Rattle.form.specs.Form.{SaysTest, says_event, says_not, says_and, says_or, whole, later-seq, later-par}
+use Rattle.form.specs.Form.{SaysTest, says_event, says_not, says_and, says_or, whole, later_seq, later_par}
 use Rattle.form.specs.Form.{Says, says_nothing, says_stop, says_atom, says_seq, last_of_seq, more_of_seq}
 use Rattle.form.specs.Form.{says_par, last_of_par, more_of_par, says_loop, says_repeat, says_generate}
 use Rattle.form.specs.Form.{says_await, says_when, says_until, says_control, says_local, says_freezable, says_if, says_repeat_ext}
@@ -35,7 +35,7 @@ only s u (v, x, e, m, r) = let k : u ≡ v = simp (e, r, append-nil) in subst (M
 abbrev Several : List ℕ → Type 0
 Several u =
     (p : Program) × (v : List ℕ) × (w : List ℕ) × Says (whole p) v × (u ≡ v ++ (bytes ", " ++ w))
-    × ((q : Program) × Says (later-seq q) w) × ((q : Program) × Says (later-par q) w)
+    × ((q : Program) × Says (later_seq q) w) × ((q : Program) × Says (later_par q) w)
 
 several_reads : (u : List ℕ) → Reads (prog ∷ byte 44 ∷ byte 32 ∷ prog ∷ parts ∷ []) u → Several u
 several_reads u (v, x, e, (p, d), (u1, v1, e1, m1, (u2, v2, e2, m2, (w, x3, e3, (q, d3), (t, x4, e4, m4, r))))) =

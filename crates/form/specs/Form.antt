@@ -21,7 +21,7 @@ pub data SaysTest : Config → List ℕ → Type 0 where
 
 -- what a piece of text stands for: a whole program, or what stands in a Seq or Par behind the comma after its first part
 pub data Piece : Type 0 where
-  whole later-seq later-par : Program → Piece
+  whole later_seq later_par : Program → Piece
 
 -- Seq and Par may have two or more parts and nest to the right
 pub data Says : Piece → List ℕ → Type 0 where
@@ -31,19 +31,19 @@ pub data Says : Piece → List ℕ → Type 0 where
   says_seq :
       {p q : Program} {u v : List ℕ}
       → Says (whole p) u
-      → Says (later-seq q) v
+      → Says (later_seq q) v
       → Says (whole (Seq p q)) (bytes "Jr.Seq(" ++ (u ++ (bytes ", " ++ v)))
-  last_of_seq : {q : Program} {u : List ℕ} → Says (whole q) u → Says (later-seq q) (u ++ bytes ")")
+  last_of_seq : {q : Program} {u : List ℕ} → Says (whole q) u → Says (later_seq q) (u ++ bytes ")")
   more_of_seq :
-      {p q : Program} {u v : List ℕ} → Says (whole p) u → Says (later-seq q) v → Says (later-seq (Seq p q)) (u ++ (bytes ", " ++ v))
+      {p q : Program} {u v : List ℕ} → Says (whole p) u → Says (later_seq q) v → Says (later_seq (Seq p q)) (u ++ (bytes ", " ++ v))
   says_par :
       {p q : Program} {u v : List ℕ}
       → Says (whole p) u
-      → Says (later-par q) v
+      → Says (later_par q) v
       → Says (whole (Par p q)) (bytes "Jr.Par(" ++ (u ++ (bytes ", " ++ v)))
-  last_of_par : {q : Program} {u : List ℕ} → Says (whole q) u → Says (later-par q) (u ++ bytes ")")
+  last_of_par : {q : Program} {u : List ℕ} → Says (whole q) u → Says (later_par q) (u ++ bytes ")")
   more_of_par :
-      {p q : Program} {u v : List ℕ} → Says (whole p) u → Says (later-par q) v → Says (later-par (Par p q)) (u ++ (bytes ", " ++ v))
+      {p q : Program} {u v : List ℕ} → Says (whole p) u → Says (later_par q) v → Says (later_par (Par p q)) (u ++ (bytes ", " ++ v))
   says_loop : {p : Program} {u : List ℕ} → Says (whole p) u → Says (whole (Loop p)) (bytes "Jr.Loop(" ++ (u ++ bytes ")"))
   says_repeat :
       {n : ℕ} {p : Program} {u : List ℕ}

@@ -154,8 +154,8 @@ module _ (around : ℕ → ℕ → Type 0) where
   earlier k (until* c t q) i a h o = hushed k (omega arith) a o
   earlier k (until2 c p t) i a h o = earlier k t _ (narrow (omega arith) a) h o
   earlier k (control s t) i a h o = λ x. earlier k t _ (narrow (omega arith) a) h (o (h s x))
-  earlier {l = l} k (local b s t) i a h o =
-      (answers_after l k i o.0, earlier k t _ (narrow (omega arith) a) (put_grows s b h) o.1)
+  earlier {l = l} {X = X} {Y = Y} k (local b s t) i a h o =
+      (answers_after l k i o.0, earlier {X = put s b X} {Y = put s b Y} k t _ (narrow (omega arith) a) (put_grows s b h) o.1)
   earlier k (freezable0 s t) i a h o = earlier k t _ (narrow (omega arith) a) h o
   earlier k (freezable* s t) i a h o = hushed k (omega arith) a o
   earlier k (if0 v p q) i a h o = tt

@@ -36,7 +36,7 @@ use Rattle.junior.proofs.Fits.{alike_same, at_or_else, put_else}
 use Rattle.junior.proofs.Meets.{Agrees, comes_to, only_waits, stays, Around, runs_under, runs_in, runs_first}
 use Rattle.junior.proofs.Meets.{runs_on, reads_so, runs_left_first, runs_right_first, runs_left, runs_right}
 use Rattle.junior.proofs.Meets.{runs_steered}
-use Rattle.junior.proofs.Hidden.{local_meets}
+use Rattle.junior.proofs.LocalMeets.{local_meets}
 
 -- a test of one event isn't found unsat before the end
 open_event : (s : ℕ) (E : Env) → E.eoi ≡ false → test (Event s) E ≢ Unsat

@@ -16,7 +16,7 @@ use Rattle.junior.specs.Values.{Values, Times, exactly, asked, runs_of}
 use Rattle.junior.specs.Term.{Term, local, prog, leave}
 use Rattle.junior.specs.Trace.{Place, Piece, Act, did_atom, did_generate, did_park, decided, waits, scope_answered}
 use Rattle.junior.specs.Trace.{piece_of, collect, parks}
-use Rattle.junior.specs.Rules.{left_first, Result, again, sign, Rewrites, r1, r1_on, r2, r3, r4, r4_on, r5, r8, r10, r11}
+use Rattle.junior.specs.Rules.{left_first, Result, again, sign, Rewrites, r1, r1_on, r2, r3, r4, r4_on, r5, r8, r9, r10, r11}
 use Rattle.junior.specs.Rules.{r12, r13, r4_loop, r5_loop, r14, r15, r4_repeat, r5_repeat, r16, r17, r17_on}
 use Rattle.junior.specs.Rules.{r18, r19, r19_on, r20, r21, r22, r23, r24, r25, r26, r27, r28, r29, r30, r31}
 use Rattle.junior.specs.Rules.{r31_on, r32, r33, r34, r35_39, r40, r41, r42, r43, r44, r45, if_true, if_true_on, if_false, if_false_on}
@@ -28,7 +28,7 @@ use Rattle.junior.specs.Printed.{rule10, rule11, rule12, rule13, rule14, rule15,
 use Rattle.junior.specs.Printed.{rule20, rule21, rule22, rule23, rule24, rule25, rule26, rule27, rule28, rule29}
 use Rattle.junior.specs.Printed.{rule30, rule31, rule32, rule33, rule34, rule35, rule36, rule37, rule38, rule39}
 use Rattle.junior.specs.Printed.{rule40, rule41, rule42, rule43, rule44, rule45, rule47, rule48, rule49}
-use Rattle.junior.specs.Printed.{if_true as if-true-printed, if_false as if-false-printed, repeat_ext}
+use Rattle.junior.specs.Printed.{if_true as if_true_printed, if_false as if_false_printed, repeat_ext}
 use Rattle.junior.proofs.Little.{collect-++, collect_last}
 use Rattle.junior.proofs.Fresh.{prog_fresh, reads_fresh}
 use Rattle.junior.proofs.Kept.{kept}
@@ -98,8 +98,8 @@ leaves_nothing (rule42 s h) = refl
 leaves_nothing (rule43 s h) = refl
 leaves_nothing (rule44 s h) = refl
 leaves_nothing (rule45 s h) = refl
-leaves_nothing (if-true-printed h d) = leaves_nothing d
-leaves_nothing (if-false-printed h d) = leaves_nothing d
+leaves_nothing (if_true_printed h d) = leaves_nothing d
+leaves_nothing (if_false_printed h d) = leaves_nothing d
 leaves_nothing (repeat_ext h d) = leaves_nothing d
 
 deeds-++ : (l m : List Act) → deeds (l ++ m) ≡ deeds l ++ deeds m
@@ -180,6 +180,7 @@ as_printed (r4_on d) T = rw (reads_leave, leaves_nothing (as_printed d T)) (as_p
 as_printed (r5 d h) T = rw (reads_leave, leaves_on) (rule5 (as_printed d T) h)
 as_printed (r8 {r = r} {s = s} d e) T =
     rw (deeds-++, froze-++ r.acts s.acts T, reads_leave) (rule8 (as_printed d T) (as_printed e (froze (parks r.acts) T)))
+as_printed (r9 x _ _) T = elim x [ ]
 as_printed (r10 h d) T = rw reads_leave (rule10 h (as_printed d T))
 as_printed (r11 h d) T = rw reads_leave (rule11 h (as_printed d T))
 as_printed (r12 d h) T =
@@ -229,9 +230,9 @@ as_printed (r42 {E = E} {s = s} v h) T = rule42 (present s E v) h
 as_printed (r43 {E = E} {s = s} v h) T = rule43 (present s E v) h
 as_printed (r44 {E = E} {s = s} v) T = rule44 (absent s E v) (unsat_at_end s E v)
 as_printed (r45 {E = E} {s = s} v) T = rule45 (not_yet s E v).0 (not_yet s E v).1
-as_printed (if_true h d) T = rw (reads_leave, leaves_nothing (as_printed d T)) (if-true-printed h (rw reads_fresh at (as_printed d T)))
+as_printed (if_true h d) T = rw (reads_leave, leaves_nothing (as_printed d T)) (if_true_printed h (rw reads_fresh at (as_printed d T)))
 as_printed (if_true_on d) T = rw (reads_leave, leaves_nothing (as_printed d T)) (as_printed d T)
-as_printed (if_false h d) T = rw (reads_leave, leaves_nothing (as_printed d T)) (if-false-printed h (rw reads_fresh at (as_printed d T)))
+as_printed (if_false h d) T = rw (reads_leave, leaves_nothing (as_printed d T)) (if_false_printed h (rw reads_fresh at (as_printed d T)))
 as_printed (if_false_on d) T = rw (reads_leave, leaves_nothing (as_printed d T)) (as_printed d T)
 
 pub instant_as_printed : {eval : Values} {t : Term} {E : Env} {n : ℕ} {r : Result}

@@ -24,7 +24,7 @@ use Rattle.junior.proofs.Grows.{end_kept, unchanged, reported}
 use Rattle.junior.proofs.End.{ended, Blocked, blocked, idles}
 use Rattle.junior.proofs.Scopes.{status_own}
 use Rattle.junior.proofs.Ahead.{Around, around_root, further, around_body, Ahead, ahead_inside}
-use Rattle.junior.proofs.Ahead.{earlier as ahead-earlier}
+use Rattle.junior.proofs.Ahead.{earlier as ahead_earlier}
 use Rattle.junior.proofs.Lacking.{named}
 use Rattle.junior.proofs.WayDown.{second_waits, waiting_in, control_waits, way_down}
 
@@ -89,7 +89,7 @@ module _ (F : Events) (w : Wait) where
   ends_lacking k (r4_on d) c e b a h = ends_lacking k d (further (omega arith) c) e b a h
   ends_lacking k (r5 d n) c e b a h = ends_lacking k d (further (omega arith) c) e b a h
   ends_lacking k (r8 {r = r} {s = s} d d') c e b a h =
-      let a' = ahead-earlier F k d' (further (omega arith) c) a in
+      let a' = ahead_earlier F k d' (further (omega arith) c) a in
       regrouped r.acts s.acts k (ends_lacking (s.acts ++ k) d (further (omega arith) c) e (b.1 refl) a' h)
   ends_lacking k (r9 {P = P} {t = t} {r = r} {s = s} x d' d) c e b a h =
       let same = sym (unchanged d' (idles d' e (b.2 refl)).no_event) in
@@ -128,7 +128,7 @@ module _ (F : Events) (w : Wait) where
   ends_lacking k (r28 {E = E} {s = s} v) c e b a h = absurd (known_at_end (Event s) E e v)
   ends_lacking k (r29 d n) c e b a h = absurd (n (idles d e b).stops)
   ends_lacking k (r30 {l = l} {r = r} d d') c e b a h =
-      regrouped l r.acts k (ends_lacking (r.acts ++ k) d (further (omega arith) c) e b (ahead-earlier F k d' c a) h)
+      regrouped l r.acts k (ends_lacking (r.acts ++ k) d (further (omega arith) c) e b (ahead_earlier F k d' c a) h)
   ends_lacking k (r31 v n d) c e b a h = absurd (false≢true (sym n ∙ e))
   ends_lacking k (r31_on d) c e b a h = ends_lacking k d (further (omega arith) c) e b a h
   ends_lacking k (r32 v n) c e b a h = decides k e a h
@@ -141,7 +141,7 @@ module _ (F : Events) (w : Wait) where
       regrouped r.acts m k (ends_lacking (m ++ k) d (around_body s c) e b a' h)
   ends_lacking k (r40 d n) c e b a h = absurd (n (idles d e b).stops)
   ends_lacking k (r41 {l = l} {r = r} d d') c e b a h =
-      regrouped l r.acts k (ends_lacking (r.acts ++ k) d (further (omega arith) c) e b (ahead-earlier F k d' c a) h)
+      regrouped l r.acts k (ends_lacking (r.acts ++ k) d (further (omega arith) c) e b (ahead_earlier F k d' c a) h)
   ends_lacking k (r42 v n) c e b a h = absurd (false≢true (sym n ∙ e))
   ends_lacking k (r43 v n) c e b a h = decides (_ ∷ k) e a h
   ends_lacking k (r44 v) c e b a h = decides k e a h

@@ -9,7 +9,7 @@ use Rattle.junior.specs.Values.{Values}
 use Rattle.junior.specs.Term.{Term, prog, seq0, seq2, loop1, repeat1, when1, when2, until0, until*, until2, control, freezable0, freezable*}
 use Rattle.junior.specs.Term.{if1, if2, fresh}
 use Rattle.junior.specs.Trace.{Place, decided}
-use Rattle.junior.specs.Rules.{left_first, Result, under, after, joined, left_scope, Rewrites, r1, r1_on, r2, r3, r4, r4_on, r5, r8, r10, r11}
+use Rattle.junior.specs.Rules.{left_first, Result, under, after, joined, left_scope, Rewrites, r1, r1_on, r2, r3, r4, r4_on, r5, r8, r9, r10, r11}
 use Rattle.junior.specs.Rules.{r12, r13, r4_loop, r5_loop, r14, r15, r4_repeat, r5_repeat, r16, r17, r17_on, r18, r19, r19_on, r20, r21, r22}
 use Rattle.junior.specs.Rules.{r23, r24, r25, r26, r27, r28, r29, r30, r31, r31_on, r32, r33, r34, r35_39, r40, r41, r42, r43, r44, r45}
 use Rattle.junior.specs.Rules.{if_true, if_true_on, if_false, if_false_on}
@@ -43,13 +43,17 @@ one_result (r8 d e) (r8 d' e') =
     let x = one_result d d' in
     let y = one_result e (from x e') in
     ap₂ (λ r s. joined r.flag s.flag r.to s.to s.env (r.acts ++ s.acts)) x y
+one_result (r8 d e) (r9 x _ _) = elim x [ ]
 one_result (r8 d e) (r10 h d') = absurd (h refl)
 one_result (r8 d e) (r11 h d') = absurd (h refl)
+one_result (r9 x _ _) _ = elim x [ ]
 one_result (r10 h d) (r8 d' e) = absurd (h refl)
+one_result (r10 h d) (r9 x _ _) = elim x [ ]
 one_result (r10 {β = β} {u = u} h d) (r10 h' d') =
     ap (λ r. joined r.flag β r.to u r.env r.acts) (one_result d d')
 one_result (r10 h d) (r11 h' d') = absurd (h refl)
 one_result (r11 h d) (r8 d' e) = absurd (h refl)
+one_result (r11 h d) (r9 x _ _) = elim x [ ]
 one_result (r11 h d) (r10 h' d') = absurd (h refl)
 one_result (r11 {α = α} {t = t} h d) (r11 h' d') =
     ap (λ r. joined α r.flag t r.to r.env r.acts) (one_result d d')

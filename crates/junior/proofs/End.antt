@@ -27,7 +27,7 @@ use Rattle.junior.proofs.Grows.{end_kept, unchanged, quiet, quiet_unchanged}
 γ-answered SUSP β h k = absurd (h refl)
 γ-answered STOP SUSP h k = absurd (k refl)
 γ-answered STOP STOP h k = STOP≢SUSP
-γ-answered STOP TERM h k = STOP≢SUSP
+γ-answered STOP TERM h k = λ e. cc
 γ-answered TERM SUSP h k = absurd (k refl)
 γ-answered TERM STOP h k = STOP≢SUSP
 γ-answered TERM TERM h k = TERM≢SUSP
@@ -82,7 +82,7 @@ ended (r35_39 d) e = ended d e
 ended (r40 d h) e = ended d e
 ended (r41 d d') e = ended d' (end_kept d ∙ e)
 ended (r42 v h) e = TERM≢SUSP
-ended (r43 v h) e = STOP≢SUSP
+ended (r43 v h) e = λ f. cc
 ended (r44 v) e = STOP≢SUSP
 ended (r45 {E = E} {s = s} v) e = absurd (known_at_end (Event s) E e v)
 ended (if_true h d) e = ended d e
@@ -149,7 +149,7 @@ leave_susp TERM t h = absurd (TERM≢SUSP h)
 γ-susp SUSP TERM h = refl
 γ-susp STOP SUSP h = refl
 γ-susp STOP STOP h = absurd (STOP≢SUSP h)
-γ-susp STOP TERM h = absurd (STOP≢SUSP h)
+γ-susp STOP TERM h = cc
 γ-susp TERM SUSP h = refl
 γ-susp TERM STOP h = absurd (STOP≢SUSP h)
 γ-susp TERM TERM h = absurd (TERM≢SUSP h)
@@ -248,7 +248,7 @@ blocks (r35_39 {E = E} {b = b} {s = s} {r = r} d) q f =
 blocks (r40 d h) q f = rw leave_susp (blocks d q f)
 blocks (r41 {r = r} d e) q f = behind d r q (λ k. blocks e k f)
 blocks (r42 v h) q f = TERM≢SUSP f
-blocks (r43 v h) q f = STOP≢SUSP f
+blocks (r43 v h) q f = cc
 blocks (r44 v) q f = absurd (STOP≢SUSP f)
 blocks (r45 {E = E} {s = s} v) q f = unknown_before (Event s) E v
 blocks (if_true h d) q f = rw leave_susp (blocks d q f)

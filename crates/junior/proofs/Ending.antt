@@ -34,7 +34,7 @@ use Rattle.junior.proofs.Settle.{Out, idle, out, plus, bind, says, tested, reads
 use Rattle.junior.proofs.Settle.{at_last, join, hidden, scoped, starts, settle, steered}
 use Rattle.junior.proofs.Fits.{decides-++, weigh, weigh-++, Alike, alike_same, alike_swapped, alike_nil}
 use Rattle.junior.proofs.Meets.{branch_idle}
-use Rattle.junior.proofs.Hidden.{put_none, alike_noted}
+use Rattle.junior.proofs.LocalMeets.{put_none, alike_noted}
 
 -- an outcome in which tests are decided, pieces parked and nothing else is done, w being the test that waited for it, if one did
 abbrev pub closing : Option Wait → Flag → Term → List Act → Out
@@ -55,8 +55,8 @@ end_under : (f : Term → Term) (h : Flag → Term → Out) (r : Result) (v : Op
 unfolding leave bind
 end_under f h r v {o} e s w =
     let no_piece : ((x : Piece → ℕ) → weigh x r.acts + 0 ≡ weigh x r.acts) = λ x. omega arith in
-    let None-more = same_acts SUSP (f r.to) v no_piece (λ n b. or-false (decides n b r.acts)) in
-    rw (s, w) (ap (plus (closing v SUSP r.to r.acts)) e ∙ rw (or_else_none v) None-more)
+    let none_more = same_acts SUSP (f r.to) v no_piece (λ n b. or-false (decides n b r.acts)) in
+    rw (s, w) (ap (plus (closing v SUSP r.to r.acts)) e ∙ rw (or_else_none v) none_more)
 
 -- a test that was unknown before the end
 end_read : (P : Place) (c : Config) (E : Env) (b : Bool) (o p : Out) (w : Option Wait) (t u : Term)

@@ -108,10 +108,10 @@ found_here P c E l e n f =
 first_among : (l : List Act) → Unknown-in l → First l (first_wait l)
 unfolding Unknown-in first_wait WaitFrom
 first_among [] u = λ n. tt
-first_among (did_atom a ∷ l) u = passed _ l (λ n x. x) (first_wait l) (first_among l u)
-first_among (did_generate s ∷ l) u = passed _ l (λ n x. x) (first_wait l) (first_among l u)
-first_among (did_park y ∷ l) u = passed _ l (λ n x. x) (first_wait l) (first_among l u)
-first_among (decided P c b E ∷ l) u = passed _ l (λ n x. x) (first_wait l) (first_among l u)
+first_among (did_atom a ∷ l) u = passed (did_atom a) l (λ n x. x) (first_wait l) (first_among l u)
+first_among (did_generate s ∷ l) u = passed (did_generate s) l (λ n x. x) (first_wait l) (first_among l u)
+first_among (did_park y ∷ l) u = passed (did_park y) l (λ n x. x) (first_wait l) (first_among l u)
+first_among (decided P c b E ∷ l) u = passed (decided P c b E) l (λ n x. x) (first_wait l) (first_among l u)
 first_among (waits P c E ∷ l) u =
     let (e, n) = one_is_named c E u.0 in
     subst (λ o. First (waits P c E ∷ l) (earlier (waits_for P.node o) (first_wait l))) (sym n.name)
@@ -128,7 +128,7 @@ first_among (waits P c E ∷ l) u =
         choose false q =
             let before = leb-false P.node w.node q in
             after (waits P c E) l w a (omega arith, a.first)
-first_among (scope_answered n α b ∷ l) u = passed _ l (λ n x. x) (first_wait l) (first_among l u)
+first_among (scope_answered n α b ∷ l) u = passed (scope_answered n α b) l (λ n x. x) (first_wait l) (first_among l u)
 
 pub first_suspended : {free : Allowed} {P : Place} {t : Term} {E : Env} {r : Result} → Rewrites free P t E r → (w : Wait)
     → first_wait r.acts ≡ some w

@@ -123,7 +123,7 @@ going_more (until0 c t q) h g = going_more t h g
 going_more (until* c t q) h g = g
 going_more (until2 c p t) h g = going_more t h g
 going_more (control s t) h g = controlled_more s t h (going_more t h) g
-going_more (local b s t) h g = going_more t (put_grows s b h) g
+going_more {X = X} {Y = Y} (local b s t) h g = going_more {X = put s b X} {Y = put s b Y} t (put_grows s b h) g
 going_more (freezable0 s t) h g = going_more t h g
 going_more (freezable* s t) h g = g
 going_more (if0 v p q) h g = tt

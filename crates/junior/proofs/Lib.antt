@@ -28,7 +28,7 @@ pub mod WayDown
 pub mod Settle
 pub mod Fits
 pub mod Meets
-pub mod Hidden
+pub mod LocalMeets
 pub mod Agree
 pub mod Ending
 pub mod Order

@@ -43,7 +43,7 @@ of_generate : {free : Allowed} {P : Place} {E : Env} {r : Result} {s : ℕ} → 
 unfolding collect
 of_generate r16 = refl
 
-of_par : {free : Allowed} {P : Place} {E : Env} {r : Result} {c : Config} {s : ℕ}
+of_par : {free : Allowed} {P : Place} {E : Env} {c : Config} {s : ℕ} {r : Result}
     → Rewrites free P (par SUSP SUSP (await c) (generate s)) E r
     → generations r.acts ≡ s ∷ []
 of_par (r8 {r = r} {s = s} d e) = rw (collect-++ event_of r.acts s.acts, of_await d, of_generate e)
@@ -62,6 +62,7 @@ once : {P : Place} {E : Env} {r : Result}
     → generations r.acts ≡ 1 ∷ []
 unfolding fresh
 once (r12 d n) = of_body d
+once (r13 x _ _) = elim x [ ]
 
 pub round_twice : (r : Result)
     × Rewrites (either_first zeros) root (fresh (Loop ends_right_first)) (handed_in none) r

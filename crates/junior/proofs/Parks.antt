@@ -22,7 +22,7 @@ use Rattle.junior.specs.Figures.{stops, times, LoopsStop, figure, parking, F}
 use Rattle.junior.specs.AtRest.{AtRest}
 use Rattle.junior.specs.Inside.{Controlled, Going}
 use Rattle.junior.specs.Parked.{SomeRuns, Reached, itself, in_part, in_first, in_second, Parked, All, no_more, next, Parks}
-use Rattle.junior.specs.Parked.{together, piece_length_lem}
+use Rattle.junior.specs.Parked.{together, stored_length}
 use Rattle.junior.proofs.Little.{collect-++, collect_last}
 use Rattle.junior.proofs.Times.{below_most}
 use Rattle.junior.proofs.Fresh.{prog_fresh}
@@ -167,7 +167,7 @@ parks_pieces (r49 {r = r} {s = s} d h m i) g =
     both r.acts s.acts (pieces_of d g) (rw (kept d) at (parks_pieces i (goes_on d g h)))
 
 -- what a piece weighs is its length in the store
-pub cost-F : (l : List Act) → cost parking l ≡ together piece_length_lem (parks l)
+pub cost-F : (l : List Act) → cost parking l ≡ together stored_length (parks l)
 unfolding cost collect kind size together
 cost-F [] = refl
 cost-F (did_atom a ∷ l) = omega (arith, cost-F l)
@@ -182,7 +182,7 @@ pub at_most-F : {free : Allowed} {t : Term} {E : Env} {n : ℕ} {r : Result}
     → Instant free t E n r
     → LoopsStop (prog t)
     → AtRest t
-    → together piece_length_lem (parks r.acts) ≤ F (prog t)
+    → together stored_length (parks r.acts) ≤ F (prog t)
 at_most-F {r = r} i o a = rw (← cost-F r.acts) (within_figure parking i o a)
 
 -- a part that runs weighs no more than its node

@@ -193,7 +193,7 @@ parked s t E F = record {
   frozen = λ h. ap (λ T. associated s (Par SUSP SUSP t (T s)) T) h;
 }
 
-pub told : {eval : Values} {t t' u : Abstract} {E E' F F' : World} {α β : Flag} {l k : List Deed}
+pub told : {eval : Values} {α β : Flag} {E E' F F' : World} {l k : List Deed} {t t' u : Abstract}
     → eval ⊢ t ∣ E —[ α doing l ]→ t' ∣ E'
     → eval ⊢ t ∣ F —[ β doing k ]→ u ∣ F'
     → E.eoi ≡ F.eoi

@@ -246,9 +246,9 @@ not_yet s E v = go (E.now s) E.eoi (rw (test_event s E) at v)
 
 -- a verdict that a configuration can have early, true and false being possible so
 abbrev Early : Bool → Bool → Verdict → Type 0
-Early can-true can-false Sat = can-true ≡ true
-Early can-true can-false Unsat = can-false ≡ true
-Early can-true can-false Unknown = Unit {0}
+Early can_true can_false Sat = can_true ≡ true
+Early can_true can_false Unsat = can_false ≡ true
+Early can_true can_false Unknown = Unit {0}
 
 early_not : (v : Verdict) (a b : Bool) → Early a b v → Early b a (not₃ v)
 early_not Sat a b h = h

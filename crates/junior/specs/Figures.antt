@@ -50,7 +50,7 @@ LoopsStop (If v p q) = LoopsStop p × LoopsStop q
 
 -- how often a figure counts a body that runs n times
 abbrev pub times : ℕ → Bool → ℕ
-times n body-stops = cond body-stops (min n 2) n
+times n body_stops = cond body_stops (min n 2) n
 
 -- the figure of a program by the own weights k of its nodes. L8: of a Freezable "in every figure it is k plus body". L14: If "weighs as When",
 -- and of RepeatExt "its figure uses the cap".

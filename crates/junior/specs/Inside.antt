@@ -111,7 +111,7 @@ rest TERM x = 0
 -- how many runs of its body a node can still begin in this instant, j being due: none if the rest of the body is held,
 -- one if a begun body stops
 abbrev pub due : ℕ → Bool → Bool → ℕ
-due j rest-held body-stops = cond rest-held 0 (cond body-stops (min j 1) j)
+due j rest_held body_stops = cond rest_held 0 (cond body_stops (min j 1) j)
 
 -- what the term can still do in this instant weighs at most, and so does what one pass of it runs
 unfoldable pub pot : (Program → ℕ) → Term → ℕ

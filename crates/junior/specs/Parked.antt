@@ -45,5 +45,5 @@ together weight [] = 0
 together weight (x ∷ l) = weight x + together weight l
 
 -- the bytes of a piece in the store: "event (16), body's node (16), then four state bytes for each node of the body"
-abbrev pub piece_length_lem : Piece → ℕ
-piece_length_lem x = 4 + 4 * size (prog x.state)
+abbrev pub stored_length : Piece → ℕ
+stored_length x = 4 + 4 * size (prog x.state)

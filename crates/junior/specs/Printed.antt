@@ -8,8 +8,8 @@ use Rattle.junior.specs.declared.Flag.TheVariants.{SUSP, STOP, TERM}
 use Rattle.junior.specs.declared.Verdict.{Verdict}
 use Rattle.junior.specs.declared.Verdict.TheVariants.{Sat, Unsat, Unknown}
 use Rattle.junior.specs.Flags.{γ, δ₁, δ₂}
-use Rattle.junior.specs.Configuration.{Config, Event, Env, verdict, test, with_event as with-event-seen}
-use Rattle.junior.specs.Configuration.{generated as generated-seen, declared_end as declared-end-seen, unmoved as unmoved-seen}
+use Rattle.junior.specs.Configuration.{Config, Event, Env, verdict, test, with_event as with_event_seen}
+use Rattle.junior.specs.Configuration.{generated as generated_seen, declared_end as declared_end_seen, unmoved as unmoved_seen}
 use Rattle.junior.specs.Values.{Values, nonzero, Times, exactly, asked}
 use Rattle.junior.specs.Program.{Program}
 use Rattle.junior.specs.Term.{Term, done, nothing, stop, atom, generate, await, seq0, seq2, par, loop0, loop1}
@@ -54,16 +54,16 @@ seen E = record { now = E.now; eoi = E.eoi; move = E.move }
 
 -- E+S, E-S and E/F[S]; (E+S)[move = true]; E[eoi = true]; E[move = false]
 abbrev pub with_event : ℕ → Bool → World → World
-with_event s b E = world (with-event-seen s b (seen E)) E.frozen
+with_event s b E = world (with_event_seen s b (seen E)) E.frozen
 
 abbrev pub generated : ℕ → World → World
-generated s E = world (generated-seen s (seen E)) E.frozen
+generated s E = world (generated_seen s (seen E)) E.frozen
 
 abbrev pub declared_end : World → World
-declared_end E = world (declared-end-seen (seen E)) E.frozen
+declared_end E = world (declared_end_seen (seen E)) E.frozen
 
 abbrev pub unmoved : World → World
-unmoved E = world (unmoved-seen (seen E)) E.frozen
+unmoved E = world (unmoved_seen (seen E)) E.frozen
 
 -- E{S := t}
 abbrev pub associated : ℕ → Abstract → (ℕ → Abstract) → (ℕ → Abstract)

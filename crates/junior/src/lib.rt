@@ -1,8 +1,8 @@
 // Junior as definitions: the types that running code and definitions share. The rules are in specs/, their laws in proofs/.
 
-// What a term answers to a pass (000, 2.3).
 #![tactic(auto)]
 
+// What a term answers to a pass (000, 2.3).
 #[derive(Clone, Copy)]
 pub enum Flag {
     SUSP,

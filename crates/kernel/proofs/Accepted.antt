@@ -76,13 +76,13 @@ allowed : (p : Program) {g a w f : ℕ} → program_verdict p ≡ Accepted g a w
 unfolding program_verdict light number_of
 allowed p {g} {a} {w} {f} h =
     let Is : Checked → Type 0 = λ c. c ≡ Accepted g a w f in
-    let Deep-one = passed Is (ltb (first_such deep (preorder 1 p)) (size p)) h (not_accepted (TooDeep _) 5 refl) in
-    let loop-one = passed Is (ltb (first_such endless (preorder 1 p)) (size p)) Deep-one.1 (not_accepted (EndlessLoop _) 6 refl) in
-    let (light-one, same) = chosen Is (light p) loop-one.1 (not_accepted TooHeavy 7 refl) in
-    let few-G = both {a = leb (G p) 4094} light-one in
+    let deep_one = passed Is (ltb (first_such deep (preorder 1 p)) (size p)) h (not_accepted (TooDeep _) 5 refl) in
+    let loop_one = passed Is (ltb (first_such endless (preorder 1 p)) (size p)) deep_one.1 (not_accepted (EndlessLoop _) 6 refl) in
+    let (light_one, same) = chosen Is (light p) loop_one.1 (not_accepted TooHeavy 7 refl) in
+    let few-G = both {a = leb (G p) 4094} light_one in
     let few-A = both {a = leb (A p) 4096} few-G.1 in
     let few-W = both {a = leb (W p) 65535} few-A.1 in
-    let past = ltb-false (first_such endless (preorder 1 p)) (size p) loop-one.0 in
+    let past = ltb-false (first_such endless (preorder 1 p)) (size p) loop_one.0 in
     record {
       loops = (loops_stop (parts p) 1 0 [] (rw (append-nil (preorder 1 p)) (omega arith))).0;
       G_is = cc;

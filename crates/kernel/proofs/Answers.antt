@@ -29,7 +29,7 @@ pub startable : (t s : List ℕ) {X : Events} {row store : List ℕ} → Passed 
 startable t s {store = store} p b =
     let o = admitted t p.verdict in
     let (x, program, bytes, at_rest) = standing t s o.placed b p.room p.rest in
-    let fits = room_fits store p.parked (good_fits t store p.store_good_lem) p.store_room_lem in
+    let fits = room_fits store p.parked (good_fits t store p.store_passes) p.parking_room in
     record {
       term = x;
       program = program;
@@ -40,7 +40,7 @@ startable t s {store = store} p b =
       at_rest = at_rest;
       few = rw program o.few;
       room = rw (program, ← o.A_is) p.row_room;
-      store_room_lem = rw (program, ← o.F_is) (simp length-drop (omega arith));
+      parking_room = rw (program, ← o.F_is) (simp length-drop (omega arith));
     }
 
 -- what was run in the state's own bytes and the store's free part was run in the rooms
@@ -56,7 +56,7 @@ run_in_rooms {t} {s} {store = store} {free' = free'} {r = r} p ran =
     let none : drop (4 * nodes t) (take (4 * nodes t) s) ≡ [] =
     drop_of_length-le (take (4 * nodes t) s) {i = 4 * nodes t} (omega arith) in
     let few : length b ≤ p.parked = few_parked p.verdict o in
-    let fits = room_fits store p.parked (good_fits t store p.store_good_lem) p.store_room_lem in
+    let fits = room_fits store p.parked (good_fits t store p.store_passes) p.parking_room in
     let written : free' ≡ b ++ drop (length b) (drop (2 + in_use store) store) =
     ap (drop 2) (o.store_is ∙ begun_empty b (drop (2 + in_use store) store)) in
     record {

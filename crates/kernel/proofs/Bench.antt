@@ -84,18 +84,18 @@ follows t {a = a} {f = f} v b x e o r (y ∷ l) h =
         → Follow t (state_bytes u ++ b) l)
         → told_by t a f b x o r y c (λ u p q. told t a f b u p q l) ≡ seen y ∷ map seen l
         → Answers t (state_bytes x ++ b) y × Follow t y.state l
-    go (inl ran) later-on h =
+    go (inl ran) later_on h =
         let (n, u, i) = ends (left_first (values_of y.values)) x o r (members y.handed) in
         let now : seen_run y b (past_rest t a f y) n u (waited i) ≡ seen y = cc in
         let later : told t a f b u.to (rw (program_kept i) o) (leaves_rest i r) l ≡ map seen l = cc in (
           run_answers t v b x e r y i ran now,
-          subst (λ s. Follow t s l) (ap (λ z. z.state) now) (later-on u.to (program_kept i ∙ e) _ _ later),
+          subst (λ s. Follow t s l) (ap (λ z. z.state) now) (later_on u.to (program_kept i ∙ e) _ _ later),
         )
-    go (inr not) later-on h =
+    go (inr not) later_on h =
         let now : seen_refused y (state_bytes x ++ b) (past_rest t a f y) ≡ seen y = cc in
         let later : told t a f b x o r l ≡ map seen l = cc in (
           refused_answers t (state_bytes x ++ b) y (past_rest t a f y) (outcome_past_rest t v b x e r y) not now,
-          subst (λ s. Follow t s l) (ap (λ z. z.state) now) (later-on x e o r later),
+          subst (λ s. Follow t s l) (ap (λ z. z.state) now) (later_on x e o r later),
         )
 
 starts_by : {t s s' : List ℕ} {o : Outcome} {n i : ℕ} → Started t s s' o → outcome_number o ≡ n → outcome_index o ≡ i → Starts t s o n i s'

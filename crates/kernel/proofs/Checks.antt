@@ -37,77 +37,77 @@ use Rattle.kernel.specs.declared.Outcome.{Outcome}
 use Rattle.kernel.specs.declared.Outcome.TheVariants.{Table, StateRoom, NotAtRest, UnlistedEvent, AtomRoom}
 use Rattle.kernel.specs.declared.Outcome.TheVariants.{BadStore, StoreRoom}
 use Rattle.kernel.specs.Answer.{Bytes, outcome_number, outcome_index, has_room, unlisted}
-use Rattle.kernel.specs.Demand1.{Handed, LowestBad, LowestNode, Endless, Check, its-length, its-counts}
-use Rattle.kernel.specs.Demand1.{its-distances}
-use Rattle.kernel.specs.Demand1.{its-configurations, its-nodes, its-depth, its-loops, its-figures, state_room}
-use Rattle.kernel.specs.Demand1.{state-at-rest, listed-events, atom_room, good_store, store_room_lem, number, Fails}
+use Rattle.kernel.specs.Demand1.{Handed, LowestBad, LowestNode, Endless, Check, its_length, its_counts}
+use Rattle.kernel.specs.Demand1.{its_distances}
+use Rattle.kernel.specs.Demand1.{its_configurations, its_nodes, its_depth, its_loops, its_figures, state_room}
+use Rattle.kernel.specs.Demand1.{state_at_rest, listed_events, atom_room, good_store, parking_room, number, Fails}
 
 -- the test of a check, and the outcome where it is false
 abbrev pub ok : Check → Handed → Bool
-ok its-length h = length_good h.table
-ok its-counts h = counts_good h.table
-ok its-distances h = distances_good h.table
-ok its-configurations h = not (ltb (lowest (configurations h.table) (λ j. not (good_configuration h.table j))) (configurations h.table))
-ok its-nodes h = not (ltb (lowest (nodes h.table) (λ i. not (good_node h.table i))) (nodes h.table))
-ok its-depth h = not (ltb (first_such deep (preorder 1 (tree_of h.table))) (size (tree_of h.table)))
-ok its-loops h = not (ltb (first_such endless (preorder 1 (tree_of h.table))) (size (tree_of h.table)))
-ok its-figures h = light (tree_of h.table)
+ok its_length h = length_good h.table
+ok its_counts h = counts_good h.table
+ok its_distances h = distances_good h.table
+ok its_configurations h = not (ltb (lowest (configurations h.table) (λ j. not (good_configuration h.table j))) (configurations h.table))
+ok its_nodes h = not (ltb (lowest (nodes h.table) (λ i. not (good_node h.table i))) (nodes h.table))
+ok its_depth h = not (ltb (first_such deep (preorder 1 (tree_of h.table))) (size (tree_of h.table)))
+ok its_loops h = not (ltb (first_such endless (preorder 1 (tree_of h.table))) (size (tree_of h.table)))
+ok its_figures h = light (tree_of h.table)
 ok state_room h = has_room h.table h.state
-ok state-at-rest h = not (ltb (blamed h.table h.state) (nodes h.table))
-ok listed-events h = not (ltb (unlisted h.table h.handed_in) places)
+ok state_at_rest h = not (ltb (blamed h.table h.state) (nodes h.table))
+ok listed_events h = not (ltb (unlisted h.table h.handed_in) places)
 ok atom_room h = leb (A (tree_of h.table)) (length h.row)
 ok good_store h = store_good h.table h.store
-ok store_room_lem h = leb (F (tree_of h.table)) (store_room h.store)
+ok parking_room h = leb (F (tree_of h.table)) (store_room h.store)
 
 abbrev pub refusal : Check → Handed → Outcome
-refusal its-length h = Table BadLength
-refusal its-counts h = Table BadCounts
-refusal its-distances h = Table BadDistances
-refusal its-configurations h = Table (BadConfiguration (lowest (configurations h.table) (λ j. not (good_configuration h.table j))))
-refusal its-nodes h = Table (BadNode (lowest (nodes h.table) (λ i. not (good_node h.table i))))
-refusal its-depth h = Table (TooDeep (first_such deep (preorder 1 (tree_of h.table))))
-refusal its-loops h = Table (EndlessLoop (first_such endless (preorder 1 (tree_of h.table))))
-refusal its-figures h = Table TooHeavy
+refusal its_length h = Table BadLength
+refusal its_counts h = Table BadCounts
+refusal its_distances h = Table BadDistances
+refusal its_configurations h = Table (BadConfiguration (lowest (configurations h.table) (λ j. not (good_configuration h.table j))))
+refusal its_nodes h = Table (BadNode (lowest (nodes h.table) (λ i. not (good_node h.table i))))
+refusal its_depth h = Table (TooDeep (first_such deep (preorder 1 (tree_of h.table))))
+refusal its_loops h = Table (EndlessLoop (first_such endless (preorder 1 (tree_of h.table))))
+refusal its_figures h = Table TooHeavy
 refusal state_room h = StateRoom
-refusal state-at-rest h = NotAtRest (blamed h.table h.state)
-refusal listed-events h = UnlistedEvent (unlisted h.table h.handed_in)
+refusal state_at_rest h = NotAtRest (blamed h.table h.state)
+refusal listed_events h = UnlistedEvent (unlisted h.table h.handed_in)
 refusal atom_room h = AtomRoom
 refusal good_store h = BadStore
-refusal store_room_lem h = StoreRoom
+refusal parking_room h = StoreRoom
 
 pub numbered : (c : Check) (h : Handed) → outcome_number (refusal c h) ≡ number c
 unfolding outcome_number number_of
-numbered its-length h = refl
-numbered its-counts h = refl
-numbered its-distances h = refl
-numbered its-configurations h = refl
-numbered its-nodes h = refl
-numbered its-depth h = refl
-numbered its-loops h = refl
-numbered its-figures h = refl
+numbered its_length h = refl
+numbered its_counts h = refl
+numbered its_distances h = refl
+numbered its_configurations h = refl
+numbered its_nodes h = refl
+numbered its_depth h = refl
+numbered its_loops h = refl
+numbered its_figures h = refl
 numbered state_room h = refl
-numbered state-at-rest h = refl
-numbered listed-events h = refl
+numbered state_at_rest h = refl
+numbered listed_events h = refl
 numbered atom_room h = refl
 numbered good_store h = refl
-numbered store_room_lem h = refl
+numbered parking_room h = refl
 
 -- what the checks before a check have shown, where it is asked for
 abbrev pub Shown : Check → Handed → Type 0
-Shown its-length h = Unit {0}
-Shown its-counts h = Unit {0}
-Shown its-distances h = Unit {0}
-Shown its-configurations h = Unit {0}
-Shown its-nodes h = Unit {0}
-Shown its-depth h = Unit {0}
-Shown its-loops h = Unit {0}
-Shown its-figures h = Unit {0}
+Shown its_length h = Unit {0}
+Shown its_counts h = Unit {0}
+Shown its_distances h = Unit {0}
+Shown its_configurations h = Unit {0}
+Shown its_nodes h = Unit {0}
+Shown its_depth h = Unit {0}
+Shown its_loops h = Unit {0}
+Shown its_figures h = Unit {0}
 Shown state_room h = Unit {0}
-Shown state-at-rest h = Unit {0}
-Shown listed-events h = Unit {0}
+Shown state_at_rest h = Unit {0}
+Shown listed_events h = Unit {0}
 Shown atom_room h = Unit {0}
 Shown good_store h = Loaded h.table × Bytes h.store
-Shown store_room_lem h = (2 + in_use h.store ≤ length h.store) × (in_use h.store < 65536)
+Shown parking_room h = (2 + in_use h.store ≤ length h.store) × (in_use h.store < 65536)
 
 -- a fact that is so exactly if a test is false
 record Says (b : Bool) (P : Type 0) : Type 0 where
@@ -228,17 +228,17 @@ endless_test : Tests Endless endless
 unfolding kind
 endless_test =
     record {
-      sound = λ x e. let (q, is_Loop, through) = endless_so (parts x.part) e in record { body = q; loop = is_Loop; runs_through = through };
+      sound = λ x e. let (q, is_loop, through) = endless_so (parts x.part) e in record { body = q; loop = is_loop; runs_through = through };
       whole = λ x b. rw (b.loop, b.runs_through);
     }
 
 -- the checks that say what is out of its range
-length_says : (h : Handed) → Says (ok its-length h) ((length h.table < 16) ⊎ (32778 < length h.table))
+length_says : (h : Handed) → Says (ok its_length h) ((length h.table < 16) ⊎ (32778 < length h.table))
 unfolding length_good
 length_says h = or_says (le_says 16 (length h.table)) (le_says (length h.table) 32778)
 
 counts_says : (h : Handed)
-    → Says (ok its-counts h)
+    → Says (ok its_counts h)
     (((nodes h.table < 1) ⊎ (4096 < nodes h.table))
     ⊎ ((2048 < configurations h.table) ⊎ ((events h.table < 1) ⊎ (places < events h.table))))
 unfolding counts_good
@@ -248,7 +248,7 @@ counts_says h =
     (or_says (le_says (configurations h.table) 2048) (or_says (le_says 1 (events h.table)) (le_says (events h.table) places)))
 
 distances_says : (h : Handed)
-    → Says (ok its-distances h)
+    → Says (ok its_distances h)
     ((back_to_nodes h.table ≢ 6 * nodes h.table + 4 * configurations h.table)
     ⊎ ((back_to_configurations h.table ≢ 4 * configurations h.table)
     ⊎ (length h.table ≢ 6 * nodes h.table + 4 * configurations h.table + 10)))
@@ -256,7 +256,7 @@ unfolding distances_good
 distances_says h = or_says (eq_says _ _) (or_says (eq_says _ _) (eq_says _ _))
 
 figures_says : (h : Handed)
-    → Says (ok its-figures h)
+    → Says (ok its_figures h)
     ((4094 < G (tree_of h.table))
     ⊎ ((4096 < A (tree_of h.table)) ⊎ ((65535 < W (tree_of h.table)) ⊎ (16384 < F (tree_of h.table)))))
 unfolding light
@@ -282,35 +282,35 @@ room_says s f l u =
 -- where the test is false the check fails
 pub fails : (c : Check) (h : Handed) → Shown c h → ok c h ≡ false → Fails c h (outcome_index (refusal c h))
 unfolding outcome_index index_of
-fails its-length h shown e = ((length_says h).so e, refl)
-fails its-counts h shown e = ((counts_says h).so e, refl)
-fails its-distances h shown e = ((distances_says h).so e, refl)
-fails its-configurations h shown e = lowest_bad (good_configuration h.table) (configurations h.table) e
-fails its-nodes h shown e = lowest_bad (good_node h.table) (nodes h.table) e
-fails its-depth h shown e = lowest_in deep_test (tree_of h.table) e
-fails its-loops h shown e = lowest_in endless_test (tree_of h.table) e
-fails its-figures h shown e = ((figures_says h).so e, refl)
+fails its_length h shown e = ((length_says h).so e, refl)
+fails its_counts h shown e = ((counts_says h).so e, refl)
+fails its_distances h shown e = ((distances_says h).so e, refl)
+fails its_configurations h shown e = lowest_bad (good_configuration h.table) (configurations h.table) e
+fails its_nodes h shown e = lowest_bad (good_node h.table) (nodes h.table) e
+fails its_depth h shown e = lowest_in deep_test (tree_of h.table) e
+fails its_loops h shown e = lowest_in endless_test (tree_of h.table) e
+fails its_figures h shown e = ((figures_says h).so e, refl)
 fails state_room h shown e = (leb-false (4 * nodes h.table) (length h.state) e, refl)
-fails state-at-rest h shown e = lowest_bad (rests h.table h.state) (nodes h.table) e
-fails listed-events h shown e = lowest_unlisted h.handed_in (events h.table) places e
+fails state_at_rest h shown e = lowest_bad (rests h.table h.state) (nodes h.table) e
+fails listed_events h shown e = lowest_unlisted h.handed_in (events h.table) places e
 fails atom_room h shown e = (leb-false (A (tree_of h.table)) (length h.row) e, refl)
 fails good_store h shown e = ((store_says h shown).so e, refl)
-fails store_room_lem h (all, low) e = ((room_says h.store (F (tree_of h.table)) all low).so e, refl)
+fails parking_room h (all, low) e = ((room_says h.store (F (tree_of h.table)) all low).so e, refl)
 
 -- and nowhere else, with no other index
 pub failing : (c : Check) (h : Handed) → Shown c h → (i : ℕ) → Fails c h i → (ok c h ≡ false) × (i ≡ outcome_index (refusal c h))
 unfolding outcome_index index_of
-failing its-length h shown i (b, e) = ((length_says h).back b, e)
-failing its-counts h shown i (b, e) = ((counts_says h).back b, e)
-failing its-distances h shown i (b, e) = ((distances_says h).back b, e)
-failing its-configurations h shown i b = only_bad (good_configuration h.table) (configurations h.table) i b
-failing its-nodes h shown i b = only_bad (good_node h.table) (nodes h.table) i b
-failing its-depth h shown i b = only_in deep_test (tree_of h.table) i b
-failing its-loops h shown i b = only_in endless_test (tree_of h.table) i b
-failing its-figures h shown i (b, e) = ((figures_says h).back b, e)
+failing its_length h shown i (b, e) = ((length_says h).back b, e)
+failing its_counts h shown i (b, e) = ((counts_says h).back b, e)
+failing its_distances h shown i (b, e) = ((distances_says h).back b, e)
+failing its_configurations h shown i b = only_bad (good_configuration h.table) (configurations h.table) i b
+failing its_nodes h shown i b = only_bad (good_node h.table) (nodes h.table) i b
+failing its_depth h shown i b = only_in deep_test (tree_of h.table) i b
+failing its_loops h shown i b = only_in endless_test (tree_of h.table) i b
+failing its_figures h shown i (b, e) = ((figures_says h).back b, e)
 failing state_room h shown i (b, e) = (lt-leb (4 * nodes h.table) (length h.state) b, e)
-failing state-at-rest h shown i b = only_bad (rests h.table h.state) (nodes h.table) i b
-failing listed-events h shown i (a, b, c, d) = only_unlisted h.handed_in (events h.table) places i a b c d
+failing state_at_rest h shown i b = only_bad (rests h.table h.state) (nodes h.table) i b
+failing listed_events h shown i (a, b, c, d) = only_unlisted h.handed_in (events h.table) places i a b c d
 failing atom_room h shown i (b, e) = (lt-leb (A (tree_of h.table)) (length h.row) b, e)
 failing good_store h shown i (b, e) = ((store_says h shown).back b, e)
-failing store_room_lem h (all, low) i (b, e) = ((room_says h.store (F (tree_of h.table)) all low).back b, e)
+failing parking_room h (all, low) i (b, e) = ((room_says h.store (F (tree_of h.table)) all low).back b, e)

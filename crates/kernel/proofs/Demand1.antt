@@ -26,10 +26,10 @@ use Rattle.kernel.specs.declared.Outcome.TheVariants.{Ran, Table, StateRoom, Not
 use Rattle.kernel.specs.declared.Outcome.TheVariants.{AtomRoom, BadStore, StoreRoom}
 use Rattle.kernel.specs.Answer.{Rooms, Bytes, outcome_number, outcome_index, on_accepted, has_room, start_outcome, started_room}
 use Rattle.kernel.specs.Answer.{unlisted, store_outcome, instant_outcome}
-use Rattle.kernel.specs.Demand1.{Handed, handed, no_rooms, Check, its-length, its-counts, its-distances}
-use Rattle.kernel.specs.Demand1.{its-configurations}
-use Rattle.kernel.specs.Demand1.{its-nodes, its-depth, its-loops, its-figures, state_room, state-at-rest}
-use Rattle.kernel.specs.Demand1.{listed-events, atom_room, good_store, store_room_lem, number, Passes, FirstToFail, AllPassed}
+use Rattle.kernel.specs.Demand1.{Handed, handed, no_rooms, Check, its_length, its_counts, its_distances}
+use Rattle.kernel.specs.Demand1.{its_configurations}
+use Rattle.kernel.specs.Demand1.{its_nodes, its_depth, its_loops, its_figures, state_room, state_at_rest}
+use Rattle.kernel.specs.Demand1.{listed_events, atom_room, good_store, parking_room, number, Passes, FirstToFail, AllPassed}
 use Rattle.kernel.specs.Demand1.{ByFirstCheck, checks_of_table, checks_of_start, checks_of_instant, WholeTable}
 use Rattle.kernel.specs.Demand1.{Demand1}
 use Rattle.kernel.proofs.Accepted.{Admitted, admitted}
@@ -46,43 +46,43 @@ found (c ∷ l) h o = cond (ok c h) (found l h o) (refusal c h)
 by_number : List Check
 by_number =
     checks_of_start
-    ++ (state-at-rest ∷ listed-events ∷ atom_room ∷ store_room_lem ∷ (replicate 11 its-length ++ (good_store ∷ [])))
+    ++ (state_at_rest ∷ listed_events ∷ atom_room ∷ parking_room ∷ (replicate 11 its_length ++ (good_store ∷ [])))
 
-check_at : (c : Check) → get_or by_number (number c - 1) its-length ≡ c
+check_at : (c : Check) → get_or by_number (number c - 1) its_length ≡ c
 unfolding by_number
-check_at its-length = refl
-check_at its-counts = refl
-check_at its-distances = refl
-check_at its-configurations = refl
-check_at its-nodes = refl
-check_at its-depth = refl
-check_at its-loops = refl
-check_at its-figures = refl
+check_at its_length = refl
+check_at its_counts = refl
+check_at its_distances = refl
+check_at its_configurations = refl
+check_at its_nodes = refl
+check_at its_depth = refl
+check_at its_loops = refl
+check_at its_figures = refl
 check_at state_room = refl
-check_at state-at-rest = refl
-check_at listed-events = refl
+check_at state_at_rest = refl
+check_at listed_events = refl
 check_at atom_room = refl
 check_at good_store = refl
-check_at store_room_lem = refl
+check_at parking_room = refl
 
 same_check : (c d : Check) → number c ≡ number d → c ≡ d
-same_check c d e = sym (check_at c) ∙ (ap (λ n. get_or by_number (n - 1) its-length) e ∙ check_at d)
+same_check c d e = sym (check_at c) ∙ (ap (λ n. get_or by_number (n - 1) its_length) e ∙ check_at d)
 
 no_check_0 : (c : Check) → number c ≢ 0
-no_check_0 its-length e = omega arith
-no_check_0 its-counts e = omega arith
-no_check_0 its-distances e = omega arith
-no_check_0 its-configurations e = omega arith
-no_check_0 its-nodes e = omega arith
-no_check_0 its-depth e = omega arith
-no_check_0 its-loops e = omega arith
-no_check_0 its-figures e = omega arith
+no_check_0 its_length e = omega arith
+no_check_0 its_counts e = omega arith
+no_check_0 its_distances e = omega arith
+no_check_0 its_configurations e = omega arith
+no_check_0 its_nodes e = omega arith
+no_check_0 its_depth e = omega arith
+no_check_0 its_loops e = omega arith
+no_check_0 its_figures e = omega arith
 no_check_0 state_room e = omega arith
-no_check_0 state-at-rest e = omega arith
-no_check_0 listed-events e = omega arith
+no_check_0 state_at_rest e = omega arith
+no_check_0 listed_events e = omega arith
 no_check_0 atom_room e = omega arith
 no_check_0 good_store e = omega arith
-no_check_0 store_room_lem e = omega arith
+no_check_0 parking_room e = omega arith
 
 -- each check is asked for what the ones before it have shown
 Asked : List Check → Handed → Type 0
@@ -257,7 +257,7 @@ plain_start = ((λ h. tt), ((λ h. tt), ((λ h. tt), ((λ h. tt), ((λ h. tt), (
 asked_of_instant : (h : Handed) → Bytes h.store → Asked checks_of_instant h
 unfolding Asked
 asked_of_instant h low =
-    asked_behind h checks_of_table (state_room ∷ state-at-rest ∷ listed-events ∷ atom_room ∷ good_store ∷ store_room_lem ∷ []) plain_table
+    asked_behind h checks_of_table (state_room ∷ state_at_rest ∷ listed_events ∷ atom_room ∷ good_store ∷ parking_room ∷ []) plain_table
     (λ e. (
       tt,
       λ a. (

@@ -59,7 +59,7 @@ pub runs : {t s : List ℕ} {X : Events} {lent : Rooms} → Premises t s X lent 
 runs {t} {s} {X} {lent} p =
     let listed = none_unlisted t X p.listed in
     let rest = p.at_rest in
-    store_ran t lent.store p.most_parked p.store_good_lem p.store_room_lem
+    store_ran t lent.store p.most_parked p.store_passes p.parking_room
     ∙ by_store t s p.accepted X lent p.room (omega arith) (omega arith) p.row_room
 
 -- the term that was run stands in the state
@@ -74,7 +74,7 @@ stands r = record {
 
 -- the pieces that stand in the store
 pub pieces_of : {t s : List ℕ} {X : Events} {lent : Rooms} → Premises t s X lent → (l : List Piece) × Stored t lent.store l
-pieces_of {t} p = stored (admitted t p.accepted).loaded p.store_bytes p.store_good_lem
+pieces_of {t} p = stored (admitted t p.accepted).loaded p.store_bytes p.store_passes
 
 module _ {t s : List ℕ} {X : Events} {value : Values} {lent : Rooms} {s' : List ℕ} {left : Rooms} {a : Answer} (p : Premises t s X lent)
     (r : Run t s X value lent s' left a) where
@@ -92,7 +92,7 @@ module _ {t s : List ℕ} {X : Events} {value : Values} {lent : Rooms} {s' : Lis
   parked_few = few_parked p.accepted r
 
   pub parked_fits : length (pieces_bytes parked) ≤ store_room lent.store
-  parked_fits = omega (arith, parked_few, p.store_room_lem)
+  parked_fits = omega (arith, parked_few, p.parking_room)
 
   all_fits : 2 + in_use lent.store + length (pieces_bytes parked) ≤ length lent.store
   all_fits = room_fits lent.store (length (pieces_bytes parked)) (pieces_of p).1.all parked_fits
@@ -138,8 +138,8 @@ module _ {t s : List ℕ} {X : Events} {value : Values} {lent : Rooms} {s' : Lis
   -- whatever the rules give is what was run
   gives_all : (n : ℕ) (u : Result) → Instant (left_first value) r.term (handed_in X) n u → Gives t s lent (pieces_of p).0 s' left a n u
   gives_all n u i =
-      let (same-passes, same_result) = one_outcome r.instant i in
-      subst (λ m. Gives t s lent (pieces_of p).0 s' left a m u) same-passes
+      let (same_passes, same_result) = one_outcome r.instant i in
+      subst (λ m. Gives t s lent (pieces_of p).0 s' left a m u) same_passes
       (subst (λ x. Gives t s lent (pieces_of p).0 s' left a a.passes x) same_result gives)
 
   -- and whatever they report is what was answered

@@ -5,7 +5,7 @@ use mathlib.Core.List.{List}
 use native.Mathlib.Omega.{arith}
 use Rattle.events.specs.Events.{Events}
 use Rattle.junior.specs.Values.{Values}
-use Rattle.junior.proofs.Demand3.{demand_3 as by-the-rules}
+use Rattle.junior.proofs.Demand3.{demand_3 as by_the_rules}
 use Rattle.state.proofs.Blameless.{resting}
 use Rattle.store.proofs.Room.{parked_good}
 use Rattle.kernel.specs.declared.Answer.{Answer}
@@ -22,7 +22,7 @@ demand_3 {t} {s} {X} {value} {s' = s'} {a = a} p o =
     let ran = o.outcome_is ∙ sym (runs p) in
     let r = o.ran ran in
     let accepted = admitted t p.accepted in
-    let settled = (by-the-rules value r.term X (rw r.program accepted.loops) r.at_rest).settled r.instant in
+    let settled = (by_the_rules value r.term X (rw r.program accepted.loops) r.at_rest).settled r.instant in
     let next = (gives p r).next_state in
     record {
       ran = ran;
@@ -33,7 +33,7 @@ demand_3 {t} {s} {X} {value} {s' = s'} {a = a} p o =
       event_set = r.events_are;
       soon = let few = rw (r.program, ← accepted.G_is) at settled.soon in few;
       at_rest = resting t s' accepted.placed r.result.to (settled.same_program ∙ r.program) next settled.rest;
-      store_good_lem = rw (store_after p r) (parked_good (pieces_of p).1 (each_belongs p r) (parked_fits p r) accepted.loaded);
+      store_passes = rw (store_after p r) (parked_good (pieces_of p).1 (each_belongs p r) (parked_fits p r) accepted.loaded);
       few_bytes = omega (arith, in_use_after p r, parked_few p r);
       grows = settled.grows;
       idle = settled.idle;

@@ -293,10 +293,10 @@ run_answers t v b x e rest y {n} {r} i ran s =
     let long = room_long t v x e in
     let handed = whole_is y.handed (sym (ap (λ z. z.handed_whole) s)) in
     let reported = whole_is y.answer.events (sym (ap (λ z. z.reported_whole) s)) in
-    let placed-all = ap (λ z. z.generated_placed) s in
+    let placed_all = ap (λ z. z.generated_placed) s in
     let outcome = ap (λ z. z.outcome) s in
     let past : (k : ℕ) → places ≤ k → r.env.now k ≡ false =
-    λ k h. only_generated_in_all i k (not_among (generations r.acts) placed-all k h) (members_past y.handed handed k h) in
+    λ k h. only_generated_in_all i k (not_among (generations r.acts) placed_all k h) (members_past y.handed handed k h) in
     let atoms_are = sym (ap (λ z. z.atoms) s) in
     let instant : Instant (left_first (values_of y.values)) x (handed_in (members y.handed)) y.answer.passes r =
     subst (λ m. Instant (left_first (values_of y.values)) x (handed_in (members y.handed)) m r) (ap (λ z. z.passes) s) i in

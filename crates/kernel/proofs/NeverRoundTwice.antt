@@ -4,7 +4,7 @@ use mathlib.Core.Path.{sym, ◌∙◌}
 use mathlib.Core.List.{List}
 use Rattle.events.specs.Events.{Events}
 use Rattle.junior.specs.Values.{Values}
-use Rattle.junior.proofs.NeverRoundTwice.{never_round_twice as by-the-rules}
+use Rattle.junior.proofs.NeverRoundTwice.{never_round_twice as by_the_rules}
 use Rattle.kernel.specs.declared.Answer.{Answer}
 use Rattle.kernel.specs.Answer.{Rooms, Answered}
 use Rattle.kernel.specs.Demand2.{Premises}
@@ -22,7 +22,7 @@ never_round_twice {t} p o =
       term = r.term;
       stands = stands r;
       result = r.result;
-      instant = by-the-rules.instant (rw r.program (admitted t p.accepted).loops) r.instant;
+      instant = by_the_rules.instant (rw r.program (admitted t p.accepted).loops) r.instant;
       pieces = (pieces_of p).0;
       gives = gives p r;
     }

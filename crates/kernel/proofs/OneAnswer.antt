@@ -87,24 +87,24 @@ module _ {q r : Answer} (f : Whole q.events) (g : Whole r.events) (o : q.outcome
       → (q ≡ r) × (s₁ ≡ s₂) × (left₁ ≡ left₂)
   same_run {t} {s} {lent = lent} {left₁ = left₁} {left₂ = left₂} x y =
       let term_is = one_term y.term x.term (y.program ∙ sym x.program) (sym y.bytes ∙ x.bytes) in
-      let (passes_are, result-is) = one_outcome x.instant (rw term_is at y.instant) in
+      let (passes_are, result_is) = one_outcome x.instant (rw term_is at y.instant) in
       let reports = same_waited (sym term_is) x.instant y.instant in
-      let atoms_are = x.atoms_are ∙ (ap (λ z. length (atoms z.acts)) result-is ∙ sym y.atoms_are) in (
+      let atoms_are = x.atoms_are ∙ (ap (λ z. length (atoms z.acts)) result_is ∙ sym y.atoms_are) in (
         same_answer q r o
-            (same_events q.events r.events f g (x.events_are ∙ (ap (λ z. z.env.now) result-is ∙ sym y.events_are)))
-            (x.count_is ∙ (ap (λ z. how_many places z.env.now) result-is ∙ sym y.count_is))
-            (x.lowest_is ∙ (ap (λ z. lowest places z.env.now) result-is ∙ sym y.lowest_is))
+            (same_events q.events r.events f g (x.events_are ∙ (ap (λ z. z.env.now) result_is ∙ sym y.events_are)))
+            (x.count_is ∙ (ap (λ z. how_many places z.env.now) result_is ∙ sym y.count_is))
+            (x.lowest_is ∙ (ap (λ z. lowest places z.env.now) result_is ∙ sym y.lowest_is))
             atoms_are
-            (x.finished_is ∙ (ap (λ z. ended z.flag) result-is ∙ sym y.finished_is))
+            (x.finished_is ∙ (ap (λ z. ended z.flag) result_is ∙ sym y.finished_is))
             passes_are
             (x.waits_node_is ∙ (ap node_of reports ∙ sym y.waits_node_is))
             (x.waits_event_is ∙ (ap event_at reports ∙ sym y.waits_event_is)),
-        x.state_is ∙ (ap (λ z. state_bytes z.to ++ drop (4 * nodes t) s) result-is ∙ sym y.state_is),
+        x.state_is ∙ (ap (λ z. state_bytes z.to ++ drop (4 * nodes t) s) result_is ∙ sym y.state_is),
         same_rooms left₁ left₂
             (x.row_is
-            ∙ (ap (λ z. atoms z.acts ++ drop q.atoms lent.row) result-is
+            ∙ (ap (λ z. atoms z.acts ++ drop q.atoms lent.row) result_is
             ∙ (ap (λ n. atoms y.result.acts ++ drop n lent.row) atoms_are ∙ sym y.row_is)))
-            (x.store_is ∙ (ap (λ z. adding (pieces_bytes (parks z.acts)) lent.store) result-is ∙ sym y.store_is)),
+            (x.store_is ∙ (ap (λ z. adding (pieces_bytes (parks z.acts)) lent.store) result_is ∙ sym y.store_is)),
       )
 
   same_refusal : Refused q → Refused r → q ≡ r
@@ -127,9 +127,9 @@ one_instant {s₁ = s₁} {s₂ = s₂} {left₁ = left₁} {left₂ = left₂} 
     go : (q.outcome ≡ Ran) ⊎ (q.outcome ≢ Ran) → (q ≡ r) × (s₁ ≡ s₂) × (left₁ ≡ left₂)
     go (inl e) = same_run f g same (a.ran e) (b.ran (sym same ∙ e))
     go (inr n) =
-        let (x, x-state, x-rooms) = a.refused n in
-        let (y, y-state, y-rooms) = b.refused (λ e. n (same ∙ e)) in
-        (same_refusal f g same x y, x-state ∙ sym y-state, x-rooms ∙ sym y-rooms)
+        let (x, x_state, x_rooms) = a.refused n in
+        let (y, y_state, y_rooms) = b.refused (λ e. n (same ∙ e)) in
+        (same_refusal f g same x y, x_state ∙ sym y_state, x_rooms ∙ sym y_rooms)
 
 -- the same of the calls for C: an answer's places are what any array of 64-bit numbers is
 pub record Places (n : ℕ) (l : List ℕ) : Type 0 where

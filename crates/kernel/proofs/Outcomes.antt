@@ -1,15 +1,12 @@
 -- What is known where start or an instant ran: every check was passed.
 use Prim.Native.Nat.{ℕ, zero, suc, ◌*◌, ◌≤◌, ◌<◌}
 use mathlib.Core.Bool.{Bool, true, false, cond, not}
-use mathlib.Core.Path.{◌≡◌, refl, subst}
-use mathlib.Core.Logic.{◌≢◌}
+use mathlib.Core.Path.{◌≡◌, refl}
 use mathlib.Core.List.{List, [], ◌∷◌}
 use native.Mathlib.Omega.{arith}
 use lib.Dec.{ltb, leb}
 use lib.ListN.{length}
 use borrow.Author.Tests.{leb-true, ltb-false, le-leb, lt-leb, lt-ltb, le-ltb}
-use types.Run.{OneOf, miss}
-use denote.Enum.Declared.{tag_of}
 use Rattle.events.specs.Events.{Events, lowest}
 use Rattle.events.specs.Members.{places}
 use Rattle.table.specs.declared.Checked.{Checked}
@@ -17,7 +14,6 @@ use Rattle.table.specs.declared.Checked.TheVariants.{BadLength, BadCounts, BadDi
 use Rattle.table.specs.declared.Checked.TheVariants.{TooDeep, EndlessLoop, TooHeavy, Accepted}
 use Rattle.table.specs.Records.{nodes}
 use Rattle.table.specs.Verdict.{no_figures, figures_of, verdict_of}
-use Rattle.table.specs.contracts.Checked.{the_type as verdict-type}
 use Rattle.table.proofs.Accepted.{chosen, passed}
 use Rattle.state.specs.Resting.{rests, blamed}
 use Rattle.store.specs.Store.{store_good, store_room}
@@ -25,10 +21,12 @@ use Rattle.kernel.specs.declared.Outcome.{Outcome}
 use Rattle.kernel.specs.declared.Outcome.TheVariants.{Ran, Table, StateRoom, NotAtRest, UnlistedEvent}
 use Rattle.kernel.specs.declared.Outcome.TheVariants.{AtomRoom, BadStore, StoreRoom}
 use Rattle.kernel.specs.Answer.{Rooms, on_accepted, has_room, start_outcome, unlisted, store_outcome, instant_outcome}
-use Rattle.kernel.specs.contracts.Outcome.{the_type as outcome-type}
 
--- the arm of a match on a verdict beside the accepted one
-refused_arm : (c : Checked) → OneOf (0 ∷ 1 ∷ 2 ∷ 3 ∷ 4 ∷ 5 ∷ 6 ∷ 7 ∷ []) (tag_of verdict-type c) → (go : ℕ → ℕ → Outcome)
+-- what the last arm of a match on a verdict knows: it isn't the accepted one
+abbrev pub NotAccepted : Checked → Type 0
+NotAccepted c = (g a w f : ℕ) → c ≡ Accepted g a w f → ⊥
+
+refused_arm : (c : Checked) → NotAccepted c → (go : ℕ → ℕ → Outcome)
     → Table c ≡ on_accepted c go
 refused_arm BadLength o go = refl
 refused_arm BadCounts o go = refl
@@ -38,9 +36,9 @@ refused_arm (BadNode i) o go = refl
 refused_arm (TooDeep i) o go = refl
 refused_arm (EndlessLoop i) o go = refl
 refused_arm TooHeavy o go = refl
-refused_arm (Accepted g a w f) o go = absurd (miss (0 ∷ 1 ∷ 2 ∷ 3 ∷ 4 ∷ 5 ∷ 6 ∷ 7 ∷ []) 8 tt o)
+refused_arm (Accepted g a w f) o go = absurd (o g a w f refl)
 
-pub no_figures_of : (c : Checked) → OneOf (0 ∷ 1 ∷ 2 ∷ 3 ∷ 4 ∷ 5 ∷ 6 ∷ 7 ∷ []) (tag_of verdict-type c) → no_figures ≡ figures_of c
+pub no_figures_of : (c : Checked) → NotAccepted c → no_figures ≡ figures_of c
 unfolding figures_of
 no_figures_of BadLength o = refl
 no_figures_of BadCounts o = refl
@@ -50,23 +48,18 @@ no_figures_of (BadNode i) o = refl
 no_figures_of (TooDeep i) o = refl
 no_figures_of (EndlessLoop i) o = refl
 no_figures_of TooHeavy o = refl
-no_figures_of (Accepted g a w f) o = absurd (miss (0 ∷ 1 ∷ 2 ∷ 3 ∷ 4 ∷ 5 ∷ 6 ∷ 7 ∷ []) 8 tt o)
+no_figures_of (Accepted g a w f) o = absurd (o g a w f refl)
 
-pub start_refused : (t s : List ℕ) (c : Checked) → c ≡ verdict_of t → OneOf (0 ∷ 1 ∷ 2 ∷ 3 ∷ 4 ∷ 5 ∷ 6 ∷ 7 ∷ []) (tag_of verdict-type c)
+pub start_refused : (t s : List ℕ) (c : Checked) → c ≡ verdict_of t → NotAccepted c
     → Table c ≡ start_outcome t s
 unfolding start_outcome
 start_refused t s c e o = rw (← e) (refused_arm c o _)
 
 pub instant_refused : (t s : List ℕ) (X : Events) (lent : Rooms) (c : Checked) → c ≡ verdict_of t
-    → OneOf (0 ∷ 1 ∷ 2 ∷ 3 ∷ 4 ∷ 5 ∷ 6 ∷ 7 ∷ []) (tag_of verdict-type c)
+    → NotAccepted c
     → Table c ≡ instant_outcome t s X lent
 unfolding instant_outcome
 instant_refused t s X lent c e o = rw (← e) (refused_arm c o _)
-
--- the arm of a match on an outcome beside `Ran`
-pub not_ran : (o : Outcome) → OneOf (1 ∷ 2 ∷ 3 ∷ 4 ∷ 5 ∷ 6 ∷ 7 ∷ []) (tag_of outcome-type o) → o ≢ Ran
-not_ran o k e =
-    miss (1 ∷ 2 ∷ 3 ∷ 4 ∷ 5 ∷ 6 ∷ 7 ∷ []) 0 tt (subst (λ (x : Outcome). OneOf (1 ∷ 2 ∷ 3 ∷ 4 ∷ 5 ∷ 6 ∷ 7 ∷ []) (tag_of outcome-type x)) e k)
 
 -- only an accepted table lets anything run
 pub accepted : (c : Checked) (go : ℕ → ℕ → Outcome) → on_accepted c go ≡ Ran
@@ -105,8 +98,8 @@ pub record Passed (t s : List ℕ) (X : Events) (lent : Rooms) : Type 0 where
   pub rest : blamed t s ≡ nodes t
   pub known : places ≤ unlisted t X
   pub row_room : most ≤ length lent.row
-  pub store_good_lem : store_good t lent.store ≡ true
-  pub store_room_lem : parked ≤ store_room lent.store
+  pub store_passes : store_good t lent.store ≡ true
+  pub parking_room : parked ≤ store_room lent.store
 
 pub all_passed : (t s : List ℕ) (X : Events) (lent : Rooms) → instant_outcome t s X lent ≡ Ran → Passed t s X lent
 unfolding instant_outcome store_outcome
@@ -131,8 +124,8 @@ all_passed t s X lent e =
           omega (arith, lowest_le (nodes t) (λ i. not (rests t s i)));
       known = ltb-false (unlisted t X) places listed.0;
       row_room = leb-true a (length lent.row) wide.0;
-      store_good_lem = stored.0;
-      store_room_lem = leb-true f (store_room lent.store) spacious.0;
+      store_passes = stored.0;
+      parking_room = leb-true f (store_room lent.store) spacious.0;
     }
 
 -- what a store is refused for, or nothing

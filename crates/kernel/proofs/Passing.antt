@@ -44,7 +44,7 @@ use Rattle.state.proofs.Parts.{len_bytes}
 use Rattle.state.proofs.Pieces.{pieces-++}
 use Rattle.store.specs.Store.{two}
 use Rattle.steps.specs.Running.{atoms_done, bytes_parked, env_of, values_in, Rooms, rooms_of, Any, Ready, Ran, Wrote, something_moved, end_declared}
-use Rattle.steps.specs.Running.{ended as ended-in}
+use Rattle.steps.specs.Running.{ended as ended_in}
 use Rattle.table.specs.Reading.{event_words}
 use Rattle.steps.specs.Numbers.{moved_at, ended_at, places_of_row, words_of, tally_of, first_numbers, next_numbers, Numbers}
 use Rattle.steps.specs.Flags.{flag_of}
@@ -224,7 +224,7 @@ module _ {table : List ℕ} {t₀ : Term} {X : Events} {value : Values} {rooms�
           bytes = ran.bytes;
           going = goes_on ran.rewrites u.ready.going refl;
           room = rw (next_done tally') left.in_row;
-          store_room_lem = rw (next_parked tally') left.in_store;
+          parking_room = rw (next_parked tally') left.in_store;
         }
 
     off : (env_of words' tally').eoi ≡ false
@@ -302,12 +302,12 @@ module _ {table : List ℕ} {t₀ : Term} {X : Events} {value : Values} {rooms�
     pub leads : (env_of words' tally').move ≡ false → (w : Wait) × Leads table state' 0 (marks words') w × (first_wait ran.acts ≡ some w)
     leads e =
         let (w, led, first) = way_leads ran.rewrites refl e in
-        let stands-there : StandsAt table state' 0 ran.to = record {
+        let stands_there : StandsAt table state' 0 ran.to = record {
           placed = rw (kept ran.rewrites) u.ready.placed;
           rest = [];
           bytes = ran.bytes ∙ sym (append-nil (state_bytes ran.to));
         } in
-        (w, record { term = ran.to; stands = stands-there; leads = led }, first)
+        (w, record { term = ran.to; stands = stands_there; leads = led }, first)
 
 -- before the first pass
 pub begins : {table state row free : List ℕ} (words : List ℕ) (low high : ℕ) (b : Startable table state row free) → 64 * length words ≡ places
@@ -328,7 +328,7 @@ begins words low high b wide =
         bytes = b.bytes;
         going = rest_going (marks words) t b.at_rest;
         room = omega (arith, pot_at_rest (per 2) t b.at_rest, b.room);
-        store_room_lem = omega (arith, pot_at_rest parking t b.at_rest, b.store_room_lem);
+        parking_room = omega (arith, pot_at_rest parking t b.at_rest, b.parking_room);
       };
       same_program = refl;
       same_values = refl;
@@ -359,7 +359,7 @@ module _ {table : List ℕ} {t₀ : Term} {X : Events} {value : Values} {rooms�
 
   -- and so what any pass leaves is the term's bytes, node 0 being marked if it has ended
   pub left_bytes : (α : Flag) (ran : Ran root u.term words rooms tally state' words' rooms' tally' α)
-      → ended-in α 0 3 state' ≡ state_bytes ran.to
+      → ended_in α 0 3 state' ≡ state_bytes ran.to
   left_bytes SUSP ran = ran.bytes
   left_bytes STOP ran = ran.bytes
   left_bytes TERM ran = marked_ended ran
@@ -491,10 +491,10 @@ module _ {table : List ℕ} {t₀ : Term} {X : Events} {value : Values} {rooms�
         where
           go : (b : Bool) → ltb 0 (get_or m' moved_at 0) ≡ b → Names after (next_named u ran b)
           go true e =
-              let some-moved = ltb-true 0 (get_or m' moved_at 0) e in
+              let some_moved = ltb-true 0 (get_or m' moved_at 0) e in
               rw (a.moved (λ z. omega arith)) n
           go false e =
-              let none-moved = ltb-false 0 (get_or m' moved_at 0) e in
+              let none_moved = ltb-false 0 (get_or m' moved_at 0) e in
               let (w, l, first) = leads u ran e in
               let (x, y) = a.still (omega arith) w l in
               rw first (record { node_is = x; event_is = y })

@@ -104,5 +104,5 @@ read_as_before t {p} b =
       le-leb (events t) places (omega arith),
     ) in
     let tree : tree_of t ≡ p = one_tree t 0 (tree_of t) p (spells_tree t good n_least b.nodes_good) (still_spells t (parts p) 0 b.spelled) in
-    let verdict = by_program t b.length_good_lem counts b.good_distances good b.nodes_good in
+    let verdict = by_program t b.good_length counts b.good_distances good b.nodes_good in
     (verdict ∙ (ap program_verdict tree ∙ b.figures), tree)

@@ -62,10 +62,10 @@ by_bytes bytes low high f g = fun_ext (λ v. go v (ltb v 8) refl (ltb v 16) refl
     go : (v : ℕ) (b : Bool) → ltb v 8 ≡ b → (c : Bool) → ltb v 16 ≡ c → word_values low high v ≡ cond c (get_or bytes v 0) 0
     go v true x true y =
         let below = ltb-true v 8 x in
-        let word-is : v / 8 ≡ 0 = omega arith in
+        let word_is : v / 8 ≡ 0 = omega arith in
         let byte_is : v % 8 ≡ v = omega arith in
         let e : 0 + v ≡ v = omega arith in
-        rw (word-is, byte_is) (f v below ∙ ap (λ n. get_or bytes n 0) e)
+        rw (word_is, byte_is) (f v below ∙ ap (λ n. get_or bytes n 0) e)
     go v true x false y =
         let below = ltb-true v 8 x in
         let above = ltb-false v 16 y in
@@ -73,10 +73,10 @@ by_bytes bytes low high f g = fun_ext (λ v. go v (ltb v 8) refl (ltb v 16) refl
     go v false x true y =
         let above = ltb-false v 8 x in
         let below = ltb-true v 16 y in
-        let word-is : v / 8 ≡ 1 = omega arith in
+        let word_is : v / 8 ≡ 1 = omega arith in
         let byte_is : v % 8 ≡ v - 8 = omega arith in
         let e : 8 + (v - 8) ≡ v = omega arith in
-        rw (word-is, byte_is) (g (v - 8) (omega arith) ∙ ap (λ n. get_or bytes n 0) e)
+        rw (word_is, byte_is) (g (v - 8) (omega arith) ∙ ap (λ n. get_or bytes n 0) e)
     go v false x false y =
         let above = ltb-false v 16 y in
         let past : get_or (0 ∷ 0 ∷ 0 ∷ 0 ∷ low ∷ high ∷ []) (4 + v / 8) 0 ≡ 0 =

@@ -3,7 +3,7 @@ use Rattle.std.specs.Prelude.{ℕ, ◌+◌, ◌*◌, ◌≤◌, List, length}
 use Rattle.events.specs.Events.{Events}
 use Rattle.junior.specs.Values.{Values}
 use Rattle.junior.specs.Trace.{atoms, generations, parks}
-use Rattle.junior.specs.Parked.{together, piece_length_lem}
+use Rattle.junior.specs.Parked.{together, stored_length}
 use Rattle.junior.specs.Figures.{every}
 use Rattle.junior.specs.Visits.{visits_by_pass, EachAtMost, sum}
 use Rattle.kernel.specs.declared.Answer.{Answer}
@@ -16,7 +16,7 @@ pub record Bounds {t s : List ℕ} {X : Events} {lent : Rooms} {s' : List ℕ} {
   -- the instant generates at most G events, does at most A atoms and parks at most F bytes
   pub few_generations : length (generations d.result.acts) ≤ p.generations
   pub few_atoms : length (atoms d.result.acts) ≤ p.most_atoms
-  pub few_parked : together piece_length_lem (parks d.result.acts) ≤ p.most_parked
+  pub few_parked : together stored_length (parks d.result.acts) ≤ p.most_parked
   -- each of its passes runs at most W nodes, so the instant, of at most G + 2 passes, at most (G + 2) * W
   pub few_in_a_pass : EachAtMost p.weight (visits_by_pass every d.instant)
   pub few_in_all : sum (visits_by_pass every d.instant) ≤ (p.generations + 2) * p.weight

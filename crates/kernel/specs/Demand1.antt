@@ -54,59 +54,59 @@ pub record Endless (x : Node) : Type 0 where
 
 -- the checks, in their order (01, "Refusal numbers")
 pub data Check : Type 0 where
-  its-length its-counts its-distances its-configurations its-nodes its-depth its-loops its-figures : Check
-  state_room state-at-rest listed-events atom_room good_store store_room_lem : Check
+  its_length its_counts its_distances its_configurations its_nodes its_depth its_loops its_figures : Check
+  state_room state_at_rest listed_events atom_room good_store parking_room : Check
 
 abbrev pub number : Check → ℕ
-number its-length = 1
-number its-counts = 2
-number its-distances = 3
-number its-configurations = 4
-number its-nodes = 5
-number its-depth = 6
-number its-loops = 7
-number its-figures = 8
+number its_length = 1
+number its_counts = 2
+number its_distances = 3
+number its_configurations = 4
+number its_nodes = 5
+number its_depth = 6
+number its_loops = 7
+number its_figures = 8
 number state_room = 9
-number state-at-rest = 10
-number listed-events = 11
+number state_at_rest = 10
+number listed_events = 11
 number atom_room = 12
 number good_store = 25
-number store_room_lem = 13
+number parking_room = 13
 
 -- a check fails, with an index
 abbrev pub Fails : Check → Handed → ℕ → Type 0
 -- "length below 16 or above 32,778"
-Fails its-length h i = ((length h.table < 16) ⊎ (32778 < length h.table)) × (i ≡ 0)
+Fails its_length h i = ((length h.table < 16) ⊎ (32778 < length h.table)) × (i ≡ 0)
 -- "N, M or V outside its range": N is 1 to 4,096, M 0 to 2,048, V 1 to 1,024 (L10), the places of an event set
-Fails its-counts h i =
+Fails its_counts h i =
     (((nodes h.table < 1) ⊎ (4096 < nodes h.table))
     ⊎ ((2048 < configurations h.table) ⊎ ((events h.table < 1) ⊎ (places < events h.table))))
     × (i ≡ 0)
 -- "distances not 6N+4M and 4M, or length not 6N+4M+10"
-Fails its-distances h i =
+Fails its_distances h i =
     ((back_to_nodes h.table ≢ 6 * nodes h.table + 4 * configurations h.table)
     ⊎ ((back_to_configurations h.table ≢ 4 * configurations h.table)
     ⊎ (length h.table ≢ 6 * nodes h.table + 4 * configurations h.table + 10)))
     × (i ≡ 0)
 -- "a configuration isn't good", lowest
-Fails its-configurations h i = LowestBad (good_configuration h.table) (configurations h.table) i
+Fails its_configurations h i = LowestBad (good_configuration h.table) (configurations h.table) i
 -- "a node isn't good", lowest
-Fails its-nodes h i = LowestBad (good_node h.table) (nodes h.table) i
+Fails its_nodes h i = LowestBad (good_node h.table) (nodes h.table) i
 -- "a node nests deeper than 64 (node 0 is depth 1)", lowest
-Fails its-depth h i = LowestNode (λ x. 64 < x.depth) (preorder 1 (tree_of h.table)) i
+Fails its_depth h i = LowestNode (λ x. 64 < x.depth) (preorder 1 (tree_of h.table)) i
 -- "a Loop's body doesn't stop", lowest Loop
-Fails its-loops h i = LowestNode Endless (preorder 1 (tree_of h.table)) i
+Fails its_loops h i = LowestNode Endless (preorder 1 (tree_of h.table)) i
 -- "G, A or W beyond its limit": G is at most 4,094, A 4,096, W 65,535; L8: "8 also for F above 16,384"
-Fails its-figures h i =
+Fails its_figures h i =
     ((4094 < G (tree_of h.table))
     ⊎ ((4096 < A (tree_of h.table)) ⊎ ((65535 < W (tree_of h.table)) ⊎ (16384 < F (tree_of h.table)))))
     × (i ≡ 0)
 -- "state room below 4N bytes"
 Fails state_room h i = (length h.state < 4 * nodes h.table) × (i ≡ 0)
 -- "state not at rest", lowest blamed
-Fails state-at-rest h i = LowestBad (rests h.table h.state) (nodes h.table) i
+Fails state_at_rest h i = LowestBad (rests h.table h.state) (nodes h.table) i
 -- "an event at or above V handed in", lowest such event
-Fails listed-events h i =
+Fails listed_events h i =
     (i < places)
     × (h.handed_in i ≡ true)
     × (events h.table ≤ i)
@@ -116,7 +116,7 @@ Fails atom_room h i = (length h.row < A (tree_of h.table)) × (i ≡ 0)
 -- L8: "a store not so laid out (..) or with a piece not at rest": no list of pieces of the table stands there
 Fails good_store h i = ((l : List Piece) → Stored h.table h.store l → ⊥) × (i ≡ 0)
 -- L8: "exactly when the store's length, at most 65,537 of it, less 2 and all pieces is below F"
-Fails store_room_lem h i = (min (length h.store) 65537 < 2 + in_use h.store + F (tree_of h.table)) × (i ≡ 0)
+Fails parking_room h i = (min (length h.store) 65537 < 2 + in_use h.store + F (tree_of h.table)) × (i ≡ 0)
 
 abbrev pub Passes : Check → Handed → Type 0
 Passes c h = (i : ℕ) → Fails c h i → ⊥
@@ -141,13 +141,13 @@ pub record ByFirstCheck (l : List Check) (h : Handed) (n i : ℕ) : Type 0 where
 
 -- check meets 1 to 8, start 1 to 9, an instant all
 abbrev pub checks_of_table : List Check
-checks_of_table = its-length ∷ its-counts ∷ its-distances ∷ its-configurations ∷ its-nodes ∷ its-depth ∷ its-loops ∷ its-figures ∷ []
+checks_of_table = its_length ∷ its_counts ∷ its_distances ∷ its_configurations ∷ its_nodes ∷ its_depth ∷ its_loops ∷ its_figures ∷ []
 
 abbrev pub checks_of_start : List Check
 checks_of_start = checks_of_table ++ (state_room ∷ [])
 
 abbrev pub checks_of_instant : List Check
-checks_of_instant = checks_of_table ++ (state_room ∷ state-at-rest ∷ listed-events ∷ atom_room ∷ good_store ∷ store_room_lem ∷ [])
+checks_of_instant = checks_of_table ++ (state_room ∷ state_at_rest ∷ listed_events ∷ atom_room ∷ good_store ∷ parking_room ∷ [])
 
 -- what runs is what the whole of the table spells, all N records of it
 pub record WholeTable (t : List ℕ) : Type 0 where

@@ -44,8 +44,8 @@ pub record Premises (t s : List ℕ) (X : Events) (lent : Rooms) : Type 0 where
   pub row_room : most_atoms ≤ length lent.row
   -- "a store that passes 25 and 13"
   pub store_bytes : Bytes lent.store
-  pub store_good_lem : store_good t lent.store ≡ true
-  pub store_room_lem : most_parked ≤ store_room lent.store
+  pub store_passes : store_good t lent.store ≡ true
+  pub parking_room : most_parked ≤ store_room lent.store
 
 -- the term at rest that stands in the state's bytes: no other of the table's program does
 pub record TermInState (t s : List ℕ) (x : Term) : Type 0 where

@@ -33,7 +33,7 @@ pub record Demand3 {t s : List ℕ} {X : Events} {lent : Rooms} (p : Premises t 
   -- "leaves a state at rest"
   pub at_rest : blamed t s' ≡ nodes t
   -- L8: and a store that passes 25, with at most F bytes more in use
-  pub store_good_lem : store_good t left.store ≡ true
+  pub store_passes : store_good t left.store ≡ true
   pub few_bytes : in_use left.store ≤ in_use lent.store + p.most_parked
   -- "its event set only grows from pass to pass"
   pub grows : Rising X (event_sets instant)

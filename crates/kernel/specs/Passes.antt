@@ -43,7 +43,7 @@ pub record Startable (t s row free : List ℕ) : Type 0 where
   pub at_rest : AtRest term
   pub few : G (prog term) ≤ 4094
   pub room : A (prog term) ≤ length row
-  pub store_room_lem : F (prog term) ≤ length free
+  pub parking_room : F (prog term) ≤ length free
 
 -- an instant was run that parked its pieces in front of the free part of a store: as in a store begun empty, whose two bytes say what was parked
 pub record RanFree (t s : List ℕ) (X : Events) (value : Values) (row free s' row' free' : List ℕ) (r : Ending) : Type 0 where

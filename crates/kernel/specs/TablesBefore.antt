@@ -81,7 +81,7 @@ SpellsBefore {p} t i (two_parts f q r) =
 
 -- t was accepted, with the tree p and these figures: none of refusals 1 to 8; nothing was parked (L8)
 pub record AcceptedBefore (t : List ℕ) (p : Program) (g a w : ℕ) : Type 0 where
-  pub length_good_lem : length_good t ≡ true
+  pub good_length : length_good t ≡ true
   pub n_range : (1 ≤ nodes t) × (nodes t ≤ 4096)
   pub m_range : configurations t ≤ 2048
   pub v_range : (1 ≤ events t) × (events t ≤ places_before)

@@ -19,7 +19,6 @@ use table::records::word_at;
 use table::{Checked, check};
 use waiting::{Wait, no_wait};
 
-pub mod exports;
 pub mod numbers;
 mod passes;
 mod values;

@@ -30,7 +30,7 @@ pub struct Ending {
     pub parked: usize,
 }
 
-// Passes from node 0 until one answers STOP or TERM (01, "Instant"); `free` is the free part of the store. All that stands here is walked by hand: the
+// Passes from node 0 until one answers STOP or TERM (01, "Instant"); `free` is the free part of the store. Its body is walked by hand: the
 // slices are handed on by references of one register each, one for state and store, which no slice that is a parameter can be lent by otherwise.
 pub fn run_passes(
     table: &[u8],

@@ -3,9 +3,9 @@
 -- When that lifetime is over the memory comes back, with the elements that the call's slice ended with, and the holder's loan is
 -- closed over them. That they are as many as before need not be promised by the call: the memory itself says so.
 --     Away         what the holder keeps while the call has the slice
---     lends-on     the holder's slice and a share of its lifetime's token give the call's slice, of the same elements, and Away
---     has-again    the call's lifetime is over, and its slice ended with ys: the holder's slice with ys, as many as before, and the token
---     left-again   the same where the call left a slice w somewhere, under the name of its slice: the holder's slice with what is in w
+--     lends_on     the holder's slice and a share of its lifetime's token give the call's slice, of the same elements, and Away
+--     has_again    the call's lifetime is over, and its slice ended with ys: the holder's slice with ys, as many as before, and the token
+--     left_again   the same where the call left a slice w somewhere, under the name of its slice: the holder's slice with what is in w
 use mathlib.Core.Path.{◌≡◌, refl, sym, ap, subst, ◌∙◌}
 use Prim.Native.Nat.{ℕ}
 use mathlib.Core.List.{List, [], ◌∷◌}

@@ -7,16 +7,16 @@
 --     Lent          what the holder keeps while the call has the thin reference
 --     Halves        the lifetime's token, cut in two: one half for each of the reference's two lifetimes
 --     OnLoan, Back  what a walk has while the slice is lent, and when it is back
---     lends-thin    the local with the slice in it, the slice and a share of its lifetime's token give the thin reference, Halves and Lent
---     ends-thin     the halves are back, and the local's slice at the end has the name it got: the local, the holder's slice with what the
+--     lends_thin    the local with the slice in it, the slice and a share of its lifetime's token give the thin reference, Halves and Lent
+--     ends_thin     the halves are back, and the local's slice at the end has the name it got: the local, the holder's slice with what the
 --                   call left, as many elements as before, and the share of the token
 use mathlib.Core.Path.{◌≡◌}
 use Prim.Native.Nat.{ℕ}
 use mathlib.Core.List.{List, [], ◌∷◌}
 use lib.ListN.{length}
 use seplogic.Ra.Ura.{Ura}
-use seplogic.Ra.TreeShare.PosShare
-use seplogic.Ra.TreeShare.{full_share}
+use base.Fraction.{full_share}
+use base.Share
 use mir.Syntax.{Lifetime, Ty, erased, mut, ty_ref}
 use mir.Val.{Val, vptr}
 use base.Logic.{SProp, ent, sep, ex}
@@ -48,10 +48,10 @@ abbrev pub lifetime : Loan → Lft
 lifetime n = n.life ∷ []
 
 abbrev pub half₁ : Share
-half₁ = PosShare.left full_share
+half₁ = Share.left full_share
 
 abbrev pub half₂ : Share
-half₂ = PosShare.right full_share
+half₂ = Share.right full_share
 
 abbrev pub Halves : Loan → Fml
 Halves n = fsep (flft (lifetime n) half₁) (flft (lifetime n) half₂)
@@ -102,10 +102,10 @@ module _ (T : RattleType) (κ : Lft) (q : Share) (γ : GName) (b o l : ℕ) wher
 
     -- the call's slice in the local, and the reference to it
     abbrev Held : ℕ → GName → List Val → Fml
-    Held ν δ vs = (Inner T ℓ₂ ν).own (holding b o δ xs) vs
+    Held ν δ vs = (Inner T ℓ₂ ν).own_val (holding b o δ xs) vs
 
     abbrev Reference : Loan → Fml
-    Reference n = (Thin T ℓ₁ ℓ₂ n).own (thin n xs) (vptr l 0 ∷ [])
+    Reference n = (Thin T ℓ₁ ℓ₂ n).own_val (thin n xs) (vptr l 0 ∷ [])
 
     -- what a walk has while the slice is lent, and behind the call that left w in the local
     abbrev pub OnLoan : Loan → Item 𝓤
@@ -135,7 +135,7 @@ module _ (T : RattleType) (κ : Lft) (q : Share) (γ : GName) (b o l : ℕ) wher
 
     pub ends_thin : (n : Loan) (w : MutBor (List T.Denot)) → w.ghost_name ≡ n.slice → Room T (length xs)
         → ent 𝓤 (⟦ Halves n ⟧ ∗ ⟦ Lent ℓ₂ n xs ⟧ ∗ A.res n.outer ((Inner T ℓ₂ n.life).coded.code w))
-        (H.⇛ (⟦ Local (slice_val w.ptr (length w.now)) ⟧ ∗ ⟦ feq ℕ (length w.now) (length xs) ⟧ ∗ ⟦ Slice w.now ⟧ ∗ A.lft κ q))
+        (H.⇛ (⟦ Local (slice_val w.ref_ptr (length w.now)) ⟧ ∗ ⟦ feq ℕ (length w.now) (length xs) ⟧ ∗ ⟦ Slice w.now ⟧ ∗ A.lft κ q))
     unfolding part_of
     ends_thin n w same room =
         qed 𝓛 (‵ (Halves n) ∷ ‵ (Lent ℓ₂ n xs) ∷ ‵ (fres n.outer ((Inner T ℓ₂ n.life).coded.code w)) ∷ []) ∵ updating ! $ fsplit ! $

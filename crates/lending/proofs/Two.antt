@@ -7,8 +7,8 @@
 --     Loans         `Thin`'s loan, of the first slice and the array, and the name of the call's second slice
 --     Lent          what the holder keeps while the call has the reference
 --     OnLoan, Back  what a walk has while the slices are lent, and when they are back
---     lends-two     the local with the slices in it, and each slice with a share of its lifetime's token, give the reference, Halves and Lent
---     ends-two      the halves are back, and the slices in the array at the end have the names they got: the local, and each of the holder's
+--     lends_two     the local with the slices in it, and each slice with a share of its lifetime's token, give the reference, Halves and Lent
+--     ends_two      the halves are back, and the slices in the array at the end have the names they got: the local, and each of the holder's
 --                   slices with what the call left, as many elements as before, and the share of its token
 use mathlib.Core.Path.{◌≡◌, refl}
 use Prim.Native.Nat.{ℕ}
@@ -16,7 +16,7 @@ use native.Mathlib.Omega.{arith}
 use mathlib.Core.List.{List, [], ◌∷◌, map}
 use lib.ListN.{length, get_or}
 use seplogic.Ra.Ura.{Ura}
-use seplogic.Ra.TreeShare.{full_share}
+use base.Fraction.{full_share}
 use mir.Syntax.{Lifetime, ty_array}
 use mir.Val.{Val, vptr}
 use base.Logic.{SProp, ent, sep, ex}
@@ -117,10 +117,10 @@ module _ (T : RattleType) (κ κ' : Lft) (q q' : Share) (γ γ' : GName) (b o b'
     held δ δ' = holding b o δ xs ∷ holding b' o' δ' ys ∷ []
 
     abbrev Held : ℕ → GName → GName → List Val → Fml
-    Held ν δ δ' vs = (Row T ℓ₂ ν).own (held δ δ') vs
+    Held ν δ δ' vs = (Row T ℓ₂ ν).own_val (held δ δ') vs
 
     abbrev Reference : Loans → Fml
-    Reference n = (Two T ℓ₁ ℓ₂ n).own (two n xs ys) (vptr l 0 ∷ [])
+    Reference n = (Two T ℓ₁ ℓ₂ n).own_val (two n xs ys) (vptr l 0 ∷ [])
 
     -- what a walk has while the slices are lent, and behind the call that left ws in the local
     abbrev pub OnLoan : Loans → Item 𝓤
@@ -141,17 +141,17 @@ module _ (T : RattleType) (κ κ' : Lft) (q q' : Share) (γ γ' : GName) (b o b'
     lends_two =
         qed 𝓛 (‵ (Local (pair ∷ pair' ∷ [])) ∷ ‵ (Slice xs) ∷ ‵ (flft κ q) ∷ ‵ (Slice' ys) ∷ ‵ (flft κ' q') ∷ []) ∵ updating ! $
         lft_new ! tt (λ ν. move ! (2 ∷ 3 ∷ []) $
-        use2 𝓛 (later (some (λ (δ : GName). ‵ ((Inner T ℓ₂ ν).own (holding b o δ xs) (pair ∷ [])) ⊛ ‵ (Away T κ q γ b o (ν ∷ []) δ xs))))
+        use2 𝓛 (later (some (λ (δ : GName). ‵ ((Inner T ℓ₂ ν).own_val (holding b o δ xs) (pair ∷ [])) ⊛ ‵ (Away T κ q γ b o (ν ∷ []) δ xs))))
         (lends_on T κ q γ b o (ν ∷ []) 𝓛 ℓ ℓ₂ xs) $ await ! tt $ pick ! (λ δ. split ! $
         -- [the call's first slice; what waits for it; the lifetime's token; the local; the second slice; its token]
         move ! (4 ∷ 5 ∷ []) $
-        use2 𝓛 (later (some (λ (δ' : GName). ‵ ((Inner T ℓ₂ ν).own (holding b' o' δ' ys) (pair' ∷ [])) ⊛ ‵ (Away T κ' q' γ' b' o' (ν ∷ []) δ' ys))))
+        use2 𝓛 (later (some (λ (δ' : GName). ‵ ((Inner T ℓ₂ ν).own_val (holding b' o' δ' ys) (pair' ∷ [])) ⊛ ‵ (Away T κ' q' γ' b' o' (ν ∷ []) δ' ys))))
         (lends_on T κ' q' γ' b' o' (ν ∷ []) 𝓛 ℓ' ℓ₂ ys) $ await ! tt $ pick ! (λ δ'. split ! $
         -- [the call's second slice; what waits for it; the first; what waits for it; the lifetime's token; the local]: the array of both
         nothing ! $ move ! (1 ∷ 0 ∷ []) $ fjoin ! $ move ! (2 ∷ 0 ∷ []) $ fjoin ! $
         pure_i ! (shape 2 (held δ δ') (array_val (pair ∷ pair' ∷ []) ∷ []) (pair ∷ pair' ∷ [])) (tt, tt) (refl, refl) $ fjoin ! $
         fpack ! (List Val) (λ us. fsep (shape 2 (held δ δ') (array_val (pair ∷ pair' ∷ []) ∷ []) us)
-        (each (MutBor (List T.Denot)) (Inner T ℓ₂ ν).own (held δ δ') us)) (pair ∷ pair' ∷ []) $
+        (each (MutBor (List T.Denot)) (Inner T ℓ₂ ν).own_val (held δ δ') us)) (pair ∷ pair' ∷ []) $
         -- [the array; what waits for the second; for the first; the lifetime's token; the local]: the local with the array in it is lent
         move ! (4 ∷ []) $ use1 𝓛 (‵ (cell_at full_share (Row T ℓ₂ ν).mir (array_val (pair ∷ pair' ∷ []) ∷ []) l 0))
         (𝓛.laws.at_raw full_share (ty_array (local_ty T) 2) l 0 (array_val (pair ∷ pair' ∷ []))) $
@@ -163,7 +163,7 @@ module _ (T : RattleType) (κ κ' : Lft) (q q' : Share) (γ γ' : GName) (b o b'
         use1 𝓛 (‵ (flft (ν ∷ []) half₁) ⊛ ‵ (flft (ν ∷ []) half₂)) (𝓛.lfts.lft_split (ν ∷ []) full_share) $ split ! $ fjoin ! $ frame ! $
         move ! (2 ∷ 1 ∷ []) $ fjoin ! $ move ! (1 ∷ 0 ∷ []) $ fjoin ! $ done !))))
 
-    pub ends_two : (n : Loans) (ws : List (MutBor (List T.Denot))) → (slice_at ws 0).name ≡ n.first.slice → (slice_at ws 1).name ≡ n.second
+    pub ends_two : (n : Loans) (ws : List (MutBor (List T.Denot))) → (slice_at ws 0).ghost_name ≡ n.first.slice → (slice_at ws 1).ghost_name ≡ n.second
         → Room T (length xs) → Room T (length ys)
         → ent 𝓤 (⟦ Halves n.first ⟧ ∗ ⟦ Lent ℓ₂ n xs ys ⟧ ∗ A.res n.first.outer ((Row T ℓ₂ n.first.life).coded.code ws))
         (H.⇛ (mean 𝓛 (Back ws)))
@@ -184,9 +184,9 @@ module _ (T : RattleType) (κ κ' : Lft) (q q' : Share) (γ γ' : GName) (b o b'
         use1 𝓛 (‵ (Local (map (λ w. slice_val w.ref_ptr (length w.now)) ws)))
         (𝓛.laws.raw_at full_share (ty_array (local_ty T) 2) l 0 (array_val (map (λ w. slice_val w.ref_ptr (length w.now)) ws))) $
         -- [the local; what the array owns; what waits for the first slice; for the second; it is over; it is over]
-        move ! (1 ∷ []) $ fpick ! (λ us. fsplit ! $ fsplit ! $ drop ! $ feq_l ! (λ two-long.
-        use1 𝓛 (some (λ (u : Val). some (λ (v : Val). Apart 𝓛 (Inner T ℓ₂ n.first.life).own ws u v)))
-        (apart 𝓛 (Inner T ℓ₂ n.first.life).own ws us two-long) $ pick ! (λ u. pick ! (λ v. split ! $
+        move ! (1 ∷ []) $ fpick ! (λ us. fsplit ! $ fsplit ! $ drop ! $ feq_l ! (λ two_long.
+        use1 𝓛 (some (λ (u : Val). some (λ (v : Val). Apart 𝓛 (Inner T ℓ₂ n.first.life).own_val ws u v)))
+        (apart 𝓛 (Inner T ℓ₂ n.first.life).own_val ws us two_long) $ pick ! (λ u. pick ! (λ v. split ! $
         -- [the slice left at 0; that left at 1; the local; what waits for the first slice; for the second; it is over; it is over]
         move ! (5 ∷ 3 ∷ 0 ∷ []) $ use3 𝓛 (later (Again (slice_at ws 0)))
         (left_again T κ q γ b o (lifetime n.first) 𝓛 ℓ ℓ₂ xs n.first.slice (slice_at ws 0) (u ∷ []) same room) $ await ! tt $

@@ -1,3 +1,3 @@
-// No code: laws about lending, for functions that are walked by hand.
+// No code: laws about lending, for the one function that is walked by hand.
 
 #![tactic(auto)]

@@ -48,9 +48,9 @@ spelled_once (d ∷ l) (f ∷ m) b c e =
 pub reading_once : {line : List ℕ} {good also : Bool} {X Y : Events} → Reading line good X → Reading line also Y → (good ≡ also) × (X ≡ Y)
 reading_once (Reading.good_line l n) (Reading.good_line m k) =
     (refl, ap (λ (events : List ℕ). with_all events none) (spelled_once l m n.below k.below (sym n.spelled ∙ k.spelled)))
-reading_once (Reading.good_line l n) (Reading.bad_line_lem never) = absurd (never l n)
-reading_once (Reading.bad_line_lem never) (Reading.good_line m k) = absurd (never m k)
-reading_once (Reading.bad_line_lem never) (Reading.bad_line_lem nor) = (refl, refl)
+reading_once (Reading.good_line l n) (Reading.not_good_line never) = absurd (never l n)
+reading_once (Reading.not_good_line never) (Reading.good_line m k) = absurd (never m k)
+reading_once (Reading.not_good_line never) (Reading.not_good_line nor) = (refl, refl)
 
 pub one_answer : {line : List ℕ} (r s : LineRead) → Whole r.events → Whole s.events → Reading line r.good (members r.events)
     → Reading line s.good (members s.events) → r ≡ s

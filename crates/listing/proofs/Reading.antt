@@ -31,12 +31,12 @@ empty_line [] e = Reading.good_line [] (record { spelled = refl; below = tt; sho
 empty_line (b ∷ line) e = absurd (omega arith)
 
 pub long_line : (line : List ℕ) → longest < length line → Reading line false none
-long_line line h = Reading.bad_line_lem (λ l n. omega arith)
+long_line line h = Reading.not_good_line (λ l n. omega arith)
 
 pub other_line : (line : List ℕ) → 0 < length line → length line ≤ longest → {good : Bool} {X : Events} → Named space none line good X → Reading line good X
 unfolding joined
 other_line line some short (Named.names e l b s) = Reading.good_line (e ∷ l) (record { spelled = s; below = b; short = short })
-other_line line some short (Named.stops n) = Reading.bad_line_lem go
+other_line line some short (Named.stops n) = Reading.not_good_line go
   where
     go : (l : List ℕ) → Names line l → ⊥
     go [] m = omega (arith, ap length m.spelled)

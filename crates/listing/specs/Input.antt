@@ -28,4 +28,4 @@ with_all (e ∷ l) X = with_all l (put e true X)
 -- what a line is read as: whether it has the form, and the events that it hands in
 pub data Reading (line : List ℕ) : Bool → Events → Type 0 where
   good_line : (events : List ℕ) → Names line events → Reading line true (with_all events none)
-  bad_line_lem : ((events : List ℕ) → Names line events → ⊥) → Reading line false none
+  not_good_line : ((events : List ℕ) → Names line events → ⊥) → Reading line false none

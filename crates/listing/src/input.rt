@@ -8,6 +8,7 @@ use crate::LineRead;
 use events::{EventSet, WORDS};
 
 // The events that a text names, a byte that is no digit between their numbers.
+#[tactic(auto, using(crate::proofs::Reading::stops_none, crate::proofs::Reading::shorter))]
 pub fn read_events(line: &[u8], separator: u8) -> LineRead
     requires { figure separator ≡ 10 }
     ensures { Named separator none line.now result.good (members result.events) }

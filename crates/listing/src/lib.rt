@@ -1,4 +1,4 @@
-// The listing program's lines: which events an input line hands in, and an answer's output line. Only the system calls stay outside.
+// The listing program's lines: which events an input line hands in, and an answer's output line. Only reading and writing stay outside.
 #![tactic(auto)]
 
 ghost use Rattle.std.specs.Prelude.{length};

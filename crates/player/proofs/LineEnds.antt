@@ -8,24 +8,21 @@ use native.Mathlib.Nat.{add-zero}
 use lib.Dec.{eqb}
 use lib.ListN.{length, get_or, take, drop}
 use lib.Seq.{drop-cons, get_or-take, length-take-le}
-use Rattle.bytes.specs.Bytes.{index_of, index_after, slice}
+use Rattle.octets.specs.Octets.{slice}
 use Rattle.letters.specs.Text.{newline}
 use Rattle.player.specs.Lines.{line_end, has_newline}
 
 -- at a newline, or behind another byte
 module _ (s : List ℕ) (from to : ℕ) (h : from < to) (l : to ≤ length s) where
   first_apart : slice from to s ≡ get_or s from 0 ∷ slice (suc from) to s
-  unfolding slice
   first_apart =
       let inside : from < length (take to s) = rw (length-take-le to s l) h in
       drop-cons (take to s) from 0 inside ∙ ap (λ x. x ∷ drop (suc from) (take to s)) (get_or-take to s from 0 h)
 
   ends_here : eqb (get_or s from 0) newline ≡ true → line_end s from to ≡ from
-  unfolding index_of index_after
   ends_here e = rw (first_apart, e) (add-zero from)
 
   ends_later : eqb (get_or s from 0) newline ≡ false → line_end s from to ≡ line_end s (suc from) to
-  unfolding index_of index_after
   ends_later e = rw (first_apart, e) (omega arith)
 
 -- what was looked for up to byte `near` was found, or isn't there

@@ -1,6 +1,6 @@
 -- Where the lines of a block end. No contract of a customer's call cites this file.
 use Rattle.std.specs.Prelude.{ℕ, zero, suc, ◌+◌, ◌≤◌, Bool, false, ◌||◌, ◌≡◌, List, eqb, get_or}
-use Rattle.bytes.specs.Bytes.{index_of, slice}
+use Rattle.octets.specs.Octets.{index_of, slice}
 use Rattle.letters.specs.Text.{newline}
 
 -- the first newline of the block s from byte `from` on and before byte `to`; `to` if there is none

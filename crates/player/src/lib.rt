@@ -1,6 +1,6 @@
 // The listing program (01, "The listing program") and the program for people (02, L1): both start the table of `table.bin` fresh and list one
 // instant for each line of standard input; the second says under an instant what the program waits for.
-// Here are the system calls; what a line does is answer.rt's, and is proved to be what 01 and L1 say.
+// Here is the reading and writing; what a line does is answer.rt's, and is proved to be what 01 and L1 say.
 #![tactic(auto)]
 
 ghost use Rattle.std.specs.Prelude.{◌≡◌, ◌+◌, ◌<◌, ◌≤◌, length};
@@ -12,6 +12,8 @@ use answer::answer_line;
 use console::{TURNS, keep_rest, read_some, read_table, write_out};
 use lines::line_end;
 use listing::{LONGEST, MORE, write_table_refused};
+use std::io::{Input, Print, Read, Write};
+use std::rt::Files;
 use under::ROOM_UNDER;
 
 mod answer;
@@ -35,22 +37,26 @@ const BLOCK: usize = 65536;
 const LINE: usize = 6 * (ROW + MORE) + ROOM_UNDER;
 
 // Lists the lines of standard input; `why` is whether it says what the program waits for.
-pub fn play(why: bool) {
+pub fn play(rt: &(impl Files + Input + Print), why: bool) {
     let mut table = [0u8; TABLE];
     let mut state = [0u8; STATE];
     let mut row = [0u16; ROW];
     let mut store = [0u8; STORE];
     let mut input = [0u8; BLOCK];
     let mut output = [0u8; BLOCK];
-    let length = read_table(&mut table);
+    let mut out = std::io::writer(rt);
+    let length = read_table(rt, &mut table);
     let outcome = kernel::start(&table[..length], &mut state);
     let refusal = kernel::numbers::refusal_of(outcome);
     if refusal.number != 0 {
         let n = write_table_refused(&mut output, refusal.number, refusal.index);
-        write_out(&output[..n]);
+        write_out(&mut out, &output[..n]);
         return;
     }
+    let mut reader = rt.reader();
     list_lines(
+        &mut reader,
+        &mut out,
         &table[..length],
         &mut state,
         &mut row,
@@ -62,7 +68,9 @@ pub fn play(why: bool) {
 }
 
 // Lists the lines of standard input. All of a block's whole lines are answered before the program waits for more.
-fn list_lines(
+fn list_lines<R: Read, W: Write>(
+    reader: &mut R,
+    out: &mut W,
     table: &[u8],
     state: &mut [u8],
     row: &mut [u16],
@@ -76,9 +84,10 @@ fn list_lines(
     let mut number = 1;
     let mut held = 0;
     for _ in 0..TURNS {
-        let got = read_some(0, &mut input[held..]).count;
+        let got = read_some(reader, &mut input[held..]).unwrap_or(0);
         if got == 0 {
             list_last(
+                out,
                 table,
                 state,
                 row,
@@ -91,6 +100,7 @@ fn list_lines(
             return;
         }
         let place = list_block(
+            out,
             table,
             state,
             row,
@@ -108,7 +118,8 @@ fn list_lines(
 }
 
 // Lists a last line without a newline, if it has a byte.
-fn list_last(
+fn list_last<W: Write>(
+    out: &mut W,
     table: &[u8],
     state: &mut [u8],
     row: &mut [u16],
@@ -124,7 +135,7 @@ fn list_last(
         return;
     }
     let n = answer_line(table, state, row, store, line, number, output, why);
-    write_out(&output[..n]);
+    write_out(out, &output[..n]);
 }
 
 // Where a block ended: the next line's number, and how many bytes of that line stand at the start of the block.
@@ -135,7 +146,8 @@ struct Place {
 }
 
 // Lists the whole lines among the first `to` bytes of the block; the first `held` have no newline.
-fn list_block(
+fn list_block<W: Write>(
+    out: &mut W,
     table: &[u8],
     state: &mut [u8],
     row: &mut [u16],
@@ -156,7 +168,7 @@ fn list_block(
     let mut filled = 0;
     let mut end = line_end(input, held, to);
     while end < to {
-        filled = room_for_line(output, filled);
+        filled = room_for_line(out, output, filled);
         filled += answer_line(
             table,
             state,
@@ -171,7 +183,7 @@ fn list_block(
         from = end + 1;
         end = line_end(input, from, to);
     }
-    write_out(&output[..filled]);
+    write_out(out, &output[..filled]);
     Place {
         number: next,
         held: keep_rest(input, from, to, LONGEST),
@@ -179,13 +191,13 @@ fn list_block(
 }
 
 // Where the next output line goes: where the block has no room for it behind the lines there, these are written out.
-fn room_for_line(output: &[u8], filled: usize) -> usize
+fn room_for_line<W: Write>(out: &mut W, output: &[u8], filled: usize) -> usize
     requires { (filled ≤ length output.now) × (length output.now ≡ 65536) }
     ensures { result + enough 4096 + room_under ≤ length output.now }
 {
     if filled + LINE <= output.len() {
         return filled;
     }
-    write_out(&output[..filled]);
+    write_out(out, &output[..filled]);
     0
 }

@@ -2,7 +2,7 @@
 ghost use Rattle.std.specs.Prelude.{◌≡◌, ◌+◌, ◌≤◌, length};
 ghost use Rattle.player.specs.Lines.{line_end, has_newline, Past};
 
-use bytes::scan::find;
+use octets::find;
 
 // So many bytes are looked at one by one: most lines end there.
 const NEAR: usize = 16;

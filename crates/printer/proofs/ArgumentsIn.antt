@@ -1,5 +1,5 @@
 -- Printing a node's own record: its argument by what its kind takes, and the head of its text.
-use Prim.Native.Nat.{ℕ, ◌+◌, ◌-◌, ◌≤◌, ◌<◌}
+use Prim.Native.Nat.{ℕ, ◌+◌, ◌≤◌, ◌<◌}
 use mathlib.Core.Bool.{Bool, true, false}
 use mathlib.Core.Path.{◌≡◌, refl, sym, ap, subst, subst₂, ◌∙◌}
 use mathlib.Core.List.{List, [], ◌++◌}
@@ -11,7 +11,7 @@ use borrow.Author.Tests.{leb-true, eq-eqb, ne_eqb, le-leb, lt-leb}
 use Rattle.letters.specs.Decimal.{decimal}
 use Rattle.junior.specs.Configuration.{Config}
 use Rattle.junior.specs.Program.{Program, Argument, number, event, configuration, value, capped, kind}
-use Rattle.junior.specs.Program.{no_argument as argues-nothing, argument as own}
+use Rattle.junior.specs.Program.{no_argument as argues_nothing, argument as own}
 use Rattle.table.specs.Records.{configurations, kind_at, argument_at}
 use Rattle.table.specs.Good.{argument_limit}
 use Rattle.table.specs.Spells.{Argues, Spells, Configured, tested}
@@ -28,7 +28,7 @@ use Rattle.letters.specs.Rooms.{Puts}
 use Rattle.printer.specs.Printing.{Fits, linked, link, takes_test, takes_cap, takes_number, capped_text, argument, head}
 use Rattle.printer.specs.Printing.{Printable, Shows, Testable, ShowsTest}
 use Rattle.letters.proofs.Puts.{puts_none, puts_then}
-use Rattle.printer.proofs.SpelledBy.{Takes, takes_none, takes_number_lem, takes_event, takes_test_lem, takes_value, cap_taken, codes_tell}
+use Rattle.printer.proofs.SpelledBy.{Takes, takes_none, by_number, takes_event, by_test, takes_value, cap_taken, codes_tell}
 use Rattle.printer.proofs.FitsInParts.{fits_first, fits_on}
 
 -- what a kind takes, and how its argument is written
@@ -47,10 +47,10 @@ pub data Argued (t : List ℕ) (i : ℕ) (p : Program) : Bool → Bool → Bool 
 argued_so : (t : List ℕ) (i : ℕ) (p : Program) (a : Argument) {x y z : Bool} → own p ≡ a → Takes a x y z → Argues t i a
     → argument_limit t (kind p) ≡ limit_of t a → Argued t i p x y z
 unfolding argument
-argued_so t i p argues-nothing e takes_none h l = no_argument (ap spell_argument e)
-argued_so t i p (number n) e takes_number_lem h l = a_number (ap spell_argument e ∙ ap decimal (sym h))
+argued_so t i p argues_nothing e takes_none h l = no_argument (ap spell_argument e)
+argued_so t i p (number n) e by_number h l = a_number (ap spell_argument e ∙ ap decimal (sym h))
 argued_so t i p (event s) e takes_event h l = a_number (ap spell_argument e ∙ ap decimal (sym h))
-argued_so t i p (configuration c) e takes_test_lem h l = a_test c h l (ap spell_argument e)
+argued_so t i p (configuration c) e by_test h l = a_test c h l (ap spell_argument e)
 argued_so t i p (value v) e takes_value h l = a_number (ap spell_argument e ∙ ap decimal (sym h))
 argued_so t i p (capped v n) e cap_taken (h, g) l = a_cap (ap spell_argument e ∙ rw (h, g) refl)
 
@@ -113,18 +113,18 @@ module _ {x : ℕ} (k : ℕ) (e : x ≡ inside k 3) where
   is_no_cap h = ne_eqb (inside k 3) 141 (λ z. h (e ∙ z))
 
 -- these codes stand behind the name in the table of names
-module _ (l : List ℕ) (k f n : ℕ) (e : l ≡ names) (form-is : f ≡ k) (end_is : n ≡ name_end (form_row f)) where
+module _ (l : List ℕ) (k f n : ℕ) (e : l ≡ names) (form_is : f ≡ k) (end_is : n ≡ name_end (form_row f)) where
   pub first_code : get_or l n 0 ≡ inside k 0
   unfolding inside
-  first_code = rw (e, end_is, form-is, add-zero (name_end (form_row k)))
+  first_code = rw (e, end_is, form_is, add-zero (name_end (form_row k)))
 
   pub cap_code : get_or l (n + 3) 0 ≡ inside k 3
   unfolding inside
-  cap_code = rw (e, end_is, form-is)
+  cap_code = rw (e, end_is, form_is)
 
   pub link_is : linked (get_or l n 0) (get_or l (n + 1) 0) ≡ link k
   unfolding inside link
-  link_is = rw (e, end_is, form-is, add-zero (name_end (form_row k)))
+  link_is = rw (e, end_is, form_is, add-zero (name_end (form_row k)))
 
 -- the test that a node has
 pub test_at : {t : List ℕ} {i : ℕ} {p : Program} → Placed t i p → argument_limit t (kind p) ≡ configurations t → (d : Config)

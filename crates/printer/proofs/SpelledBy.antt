@@ -18,9 +18,9 @@ use Rattle.printer.specs.Printing.{takes_test, takes_cap, takes_number, argument
 -- an argument, and whether a form that has it takes a test, a cap, and a number
 pub data Takes : Argument → Bool → Bool → Bool → Type 0 where
   takes_none : Takes no_argument false false false
-  takes_number_lem : {n : ℕ} → Takes (number n) false false true
+  by_number : {n : ℕ} → Takes (number n) false false true
   takes_event : {s : ℕ} → Takes (event s) false false true
-  takes_test_lem : {c : Config} → Takes (configuration c) true false false
+  by_test : {c : Config} → Takes (configuration c) true false false
   takes_value : {v : ℕ} → Takes (value v) false false true
   cap_taken : {v n : ℕ} → Takes (capped v n) false true true
 
@@ -47,16 +47,16 @@ pub codes_tell : (p : Program) → CodesTell p
 unfolding kind takes_test takes_cap takes_number link
 codes_tell Nothing = record { takes = takes_none; link_is = refl }
 codes_tell Stop = record { takes = takes_none; link_is = refl }
-codes_tell (Atom a) = record { takes = takes_number_lem; link_is = refl }
+codes_tell (Atom a) = record { takes = by_number; link_is = refl }
 codes_tell (Seq p q) = record { takes = takes_none; link_is = refl }
 codes_tell (Par p q) = record { takes = takes_none; link_is = refl }
 codes_tell (Loop p) = record { takes = takes_none; link_is = refl }
-codes_tell (Repeat (exactly n) p) = record { takes = takes_number_lem; link_is = refl }
+codes_tell (Repeat (exactly n) p) = record { takes = by_number; link_is = refl }
 codes_tell (Repeat (asked v n) p) = record { takes = cap_taken; link_is = refl }
 codes_tell (Generate s) = record { takes = takes_event; link_is = refl }
-codes_tell (Await c) = record { takes = takes_test_lem; link_is = refl }
-codes_tell (When c p q) = record { takes = takes_test_lem; link_is = refl }
-codes_tell (Until c p q) = record { takes = takes_test_lem; link_is = refl }
+codes_tell (Await c) = record { takes = by_test; link_is = refl }
+codes_tell (When c p q) = record { takes = by_test; link_is = refl }
+codes_tell (Until c p q) = record { takes = by_test; link_is = refl }
 codes_tell (Control s p) = record { takes = takes_event; link_is = refl }
 codes_tell (Local s p) = record { takes = takes_event; link_is = refl }
 codes_tell (Freezable s p) = record { takes = takes_event; link_is = refl }

@@ -29,3 +29,14 @@ lower_rank n rank lower l e = omega arith
 -- by the falling number of the laws over parts
 pub smaller_by : (table : List ℕ) (i j : ℕ) → falling table j 3 < falling table i 1 → size_at table j < size_at table i
 smaller_by table i j l = omega arith
+
+-- from a node to its form, and from that to its last part
+pub below_child : (n : ℕ) {k : ℕ} → n + child_rank ≡ k → n + form_rank < k
+below_child n e = omega arith
+
+pub below_form : (n : ℕ) {k : ℕ} → n + form_rank ≡ k → n + last_rank < k
+below_form n e = omega arith
+
+-- a smaller part can be run
+pub falls_to : {a b : ℕ} {S : Type 0} (rank lower : ℕ) {k : ℕ} → lower < 8 → (b < a) × S → 8 * a + rank ≡ k → (8 * b + lower < k) × S
+falls_to rank lower c (l, s) e = (lighter rank lower c l e, s)

@@ -24,12 +24,12 @@ use Rattle.runner.proofs.Falling.{smaller_by}
 use Rattle.runner.proofs.GoesOn.{went_as}
 
 -- in its body: that runs
-module _ {table : List ℕ} {i : ℕ} {state : List ℕ} (on : get_or state (4 * i) 0 ≢ 3) (no-star : get_or state (4 * i) 0 ≢ 1) where
+module _ {table : List ℕ} {i : ℕ} {state : List ℕ} (on : get_or state (4 * i) 0 ≢ 3) (no_star : get_or state (4 * i) 0 ≢ 1) where
   in_body : {before part behind : List ℕ} → Around state i before part behind → {t : Term} → OfKind freezable_kind t
       → {words : List ℕ} {rooms : Rooms} {tally : List ℕ} → Ready 0 table i part words rooms tally t → Freezes t
   in_body a w h =
       let at = phase_at_lem a (own_in h 0 (lit< tt)) in
-      freezes_by (w, λ e. on (phase_is a h ∙ e)) h (λ e. no-star (at ∙ e))
+      freezes_by (w, λ e. on (phase_is a h ∙ e)) h (λ e. no_star (at ∙ e))
 
   module _ {m : List ℕ} {rooms : Rooms} {before part behind : List ℕ}
       (o : Stands 0 (OfKind freezable_kind) (lent table state m rooms) i before part behind) where

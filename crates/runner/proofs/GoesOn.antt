@@ -4,7 +4,7 @@ use Prim.Native.Nat.{ℕ, ◌*◌}
 use mathlib.Core.Path.{◌≡◌, sym, ◌∙◌}
 use mathlib.Core.List.{List}
 use lib.ListN.{get_or}
-use denote.Ref.{Bor}
+use Rattle.std.specs.Borrow.{Bor, MutBor}
 use Rattle.junior.specs.Term.{Term}
 use Rattle.steps.specs.Running.{Rooms, rooms_of, Live, Runs, Phase}
 use Rattle.steps.proofs.Children.{unseen}
@@ -33,7 +33,7 @@ pub record GoesOnAs (W U : Term → Type 0) (L : Lent) (i : ℕ) (L₁ : Lent) :
   pub has : {L' : Lent} {r : ℕ} → HasRun 1 W L₁ i L' r → HasRun 0 U L i L' r
 
 -- what is lent where the ways through a function meet
-abbrev pub met : Bor (Bor (List ℕ)) → List (Bor (List ℕ)) → List ℕ → Bor (List ℕ) → Lent
+abbrev pub met : Bor (Bor (List ℕ)) → List (MutBor (List ℕ)) → List ℕ → MutBor (List ℕ) → Lent
 met table bytes numbers atoms = lent table.now.now (state_in bytes).now numbers (rooms_of atoms.now (store_in bytes).now)
 
 module _ {W U : Term → Type 0} {ph : ℕ} (are : (t : Term) → U t → Phase ph t → W t) {table : List ℕ} {i : ℕ} {state m : List ℕ} {rooms : Rooms}

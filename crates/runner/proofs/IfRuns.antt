@@ -9,18 +9,18 @@ use lib.Dec.{eqb}
 use lib.ListN.{length, get_or}
 use borrow.Author.Tests.{eqb-true, eqb-false, le-leb, lt-leb}
 use Rattle.junior.specs.Term.{Term}
-use Rattle.table.specs.Records.{argument_at}
+use Rattle.table.specs.Records.{argument_at, kind_at}
 use Rattle.state.specs.Kinds.{if_kind}
 use Rattle.steps.specs.Running.{Rooms, Ready, values_in}
 use Rattle.steps.specs.Numbers.{tally_of, places_of_row}
-use Rattle.steps.specs.Kinds.{OfKind, InSecond}
+use Rattle.steps.specs.Kinds.{OfKind, InSecond, Choice}
 use Rattle.runner.proofs.Stages.{InThen}
 use Rattle.steps.specs.Lent.{Lent, lent, Around, Stands, CanRun, HasRun}
 use Rattle.steps.proofs.Row.{kept_same}
-use Rattle.steps.proofs.Dispatch.{phase_is}
+use Rattle.steps.proofs.Dispatch.{phase_is, to_kind}
 use Rattle.runner.proofs.If.{If0, if0_by, if_names, first_live, second_live, first_goes, second_goes}
 use Rattle.runner.proofs.GoesOn.{stands_as, went_as}
-use Rattle.runner.proofs.Branches.{Branches}
+use Rattle.runner.proofs.Branches.{Branches, branches_of_kind}
 
 -- the value that its argument names
 read_of : (tally : List ℕ) {a b value : ℕ} → a ≡ b → value ≡ values_in tally a → value ≡ values_in tally b
@@ -75,3 +75,10 @@ module _ {table : List ℕ} {i : ℕ} {state : List ℕ} (is : get_or state (4 *
             to_second = λ e. record { can = now_second o; has = λ run. if_second (eqb-true _ _ (sym says ∙ e)) run };
             to_first = λ e. record { can = now_first o; has = λ run. if_first (eqb-false _ _ (sym says ∙ e)) run };
           }
+
+-- the same of a node of either kind that is read to be an If
+pub if_branches : {table : List ℕ} {i : ℕ} {state m : List ℕ} {rooms : Rooms} {n : ℕ} → n ≡ kind_at table i → n ≡ if_kind → get_or state (4 * i) 0 ≡ 0
+    → {a value : ℕ} → a ≡ argument_at table i → value ≡ values_in (tally_of m) a → {second : Bool} → second ≡ eqb value 0
+    → CanRun 0 Choice (lent table state m rooms) i
+    → Branches Choice (lent table state m rooms) i second
+if_branches read is zero names reads says o = branches_of_kind (sym read ∙ is) (if_chooses zero names reads says (to_kind read is o))

@@ -22,7 +22,7 @@ use Rattle.table.proofs.Tree.{size_pos}
 use Rattle.state.specs.StateBytes.{code, head, zeros, below, state_bytes}
 use Rattle.state.proofs.Parts.{first_of, with_first, rest_of, with_rest, blank_two, part_is, put_is, own_phase, own_flags}
 use Rattle.steps.specs.Running.{Rooms, Ran}
-use Rattle.steps.specs.Running.{left, gone, ended, is_tERM, par_end}
+use Rattle.steps.specs.Running.{left, gone, ended, flag_is_term, par_end}
 use Rattle.steps.proofs.Done.{left_leave}
 
 -- a Par's bytes: its flags, those of its first branch, n nodes, and those of its second
@@ -144,7 +144,7 @@ module _ (t u : Term) (a b : List ℕ) where
   on k α β c d = ap₂ (λ x y. 0 ∷ k ∷ 0 ∷ 0 ∷ (x ++ y)) (as_said α t a c) (as_said β u b d)
 
   joined_bytes : (α β : Flag) → Branch α t a → Branch β u b
-      → 0 ∷ cond (is_tERM (γ α β)) 0 (code (δ₁ α β) + 4 * code (δ₂ α β)) ∷ 0 ∷ 0
+      → 0 ∷ cond (flag_is_term (γ α β)) 0 (code (δ₁ α β) + 4 * code (δ₂ α β)) ∷ 0 ∷ 0
       ∷ (ended α 0 (gone (γ α β)) a ++ ended β 0 (gone (γ α β)) b)
       ≡ left (γ α β) (par (δ₁ α β) (δ₂ α β) t u)
   unfolding below prog size
@@ -162,7 +162,7 @@ module _ (t u : Term) (a b : List ℕ) where
   pub par_ended : {state : List ℕ} {flags n : ℕ} → Two state flags n a b → (α β : Flag) → Branch α t a → Branch β u b
       → par_end α β (4 + 4 * n) state ≡ left (γ α β) (leave (γ α β) (par (δ₁ α β) (δ₂ α β) t u))
   par_ended {n = n} o α β c d =
-      let k = cond (is_tERM (γ α β)) 0 (code (δ₁ α β) + 4 * code (δ₂ α β)) in
+      let k = cond (flag_is_term (γ α β)) 0 (code (δ₁ α β) + 4 * code (δ₂ α β)) in
       let x = gone (γ α β) in
       ap (λ s. ended β (4 + 4 * n) x (ended α 4 x (set s 1 k))) o.state_is
       ∙ (ap (ended β (4 + 4 * n) x) (first_ended k x t a b α c)

@@ -15,10 +15,11 @@ pub mod Freezable
 pub mod If
 pub mod GoesOn
 pub mod EitherKind
-pub mod Branches
 pub mod Told
+pub mod Branches
 pub mod Names
 pub mod Indices
+pub mod Handed
 pub mod WhenRuns
 pub mod UntilRuns
 pub mod FreezableRuns

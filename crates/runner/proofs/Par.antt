@@ -199,7 +199,7 @@ module _ {table : List ℕ} {i : ℕ} {state words : List ℕ} {rooms : Rooms} {
         bytes = first_part (two h);
         going = h.going.1;
         room = omega (arith, h.room);
-        store_room_lem = omega (arith, h.store_room_lem);
+        parking_room = omega (arith, h.parking_room);
       }
 
   module _ {α : Flag} {t u : Term} (h : Ready 0 table i state words rooms tally (par α SUSP t u)) {state₁ : List ℕ}
@@ -218,7 +218,7 @@ module _ {table : List ℕ} {i : ℕ} {state words : List ℕ} {rooms : Rooms} {
           bytes = second_part_lem o;
           going = g;
           room = r.in_row;
-          store_room_lem = r.in_store;
+          parking_room = r.in_store;
         }
 
   -- the state can be cut behind the first child

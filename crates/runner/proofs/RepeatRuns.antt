@@ -170,6 +170,9 @@ Turns table i state tally turns =
     ((get_or state (4 * i) 0 ≡ 0) × (turns ≡ times_at table i tally))
     ⊎ ((get_or state (4 * i) 0 ≢ 0) × (turns ≡ get_or state (4 * i + 2) 0 * 256 + get_or state (4 * i + 2 + 1) 0 + 1))
 
+abbrev pub TurnsIn : Lent → ℕ → ℕ → Type 0
+TurnsIn L i turns = Turns L.table i L.state (tally_of L.numbers) turns
+
 module _ {table : List ℕ} {i : ℕ} {state : List ℕ} (on : get_or state (4 * i) 0 ≢ 3) {before part behind : List ℕ} (a : Around state i before part behind)
     {words : List ℕ} {rooms : Rooms} {tally : List ℕ} {t : Term} (w : Repetition t) (h : Ready 0 table i part words rooms tally t) where
   no_3 : (head t).phase ≢ 3

@@ -93,12 +93,12 @@ module _ {table : List ℕ} {i : ℕ} {state m : List ℕ} {rooms : Rooms} where
       second_done e before part behind o = second_went o (run_at is run) e
 
 -- a node that has gone over, by its phase
-module _ {table : List ℕ} {i : ℕ} {state m : List ℕ} {rooms : Rooms} {W : Term → Type 0} (gone-over : get_or state (4 * i) 0 ≡ 2) where
+module _ {table : List ℕ} {i : ℕ} {state m : List ℕ} {rooms : Rooms} {W : Term → Type 0} (gone_over : get_or state (4 * i) 0 ≡ 2) where
   pub to_second : CanRun 0 W (lent table state m rooms) i → CanRun 1 InSecond (lent table state m rooms) i
-  to_second o = to_phase (λ t w p. p) gone-over o
+  to_second o = to_phase (λ t w p. p) gone_over o
 
   pub by_second : {L' : Lent} {r : ℕ} → HasRun 1 InSecond (lent table state m rooms) i L' r → HasRun 0 W (lent table state m rooms) i L' r
-  by_second run = by_phase (λ t w p. p) gone-over run
+  by_second run = by_phase (λ t w p. p) gone_over run
 
 -- in its first child
 module _ {table : List ℕ} {i : ℕ} {state : List ℕ} (on : get_or state (4 * i) 0 ≢ 3) (in_first : get_or state (4 * i) 0 ≢ 2) {m : List ℕ} {rooms : Rooms}

@@ -21,11 +21,13 @@ use Rattle.steps.specs.Numbers.{ended_at, words_of, tally_of}
 use Rattle.steps.specs.Kinds.{OfKind, InSecond}
 use Rattle.runner.proofs.Stages.{Starred}
 use Rattle.steps.specs.Tests.{CanTest, TestRanked, body_cleared, StarRead, waits, refused, satisfied_late, satisfied}
-use Rattle.steps.specs.Lent.{Lent, lent, Around, Stands, Went, CanRun, HasRun}
+use Rattle.std.specs.Borrow.{MutBor}
+use Rattle.steps.specs.Lent.{Lent, lent, state_in, Around, Stands, Went, CanRun, HasRun}
 use Rattle.steps.proofs.Context.{inner, outer, phase_at_lem, put_phase, byte_in, put_part}
 use Rattle.steps.proofs.Row.{kept_same, still}
 use Rattle.steps.proofs.FlagNumbers.{is_stop, not_stop}
-use Rattle.steps.proofs.Dispatch.{phase_is}
+use Rattle.steps.proofs.Dispatch.{phase_is, phase_reads}
+use Rattle.steps.proofs.Slices.{with, put, in_array}
 use Rattle.steps.proofs.ChildContext.{child_stands}
 use Rattle.runner.proofs.Until.{Until0, until0_by, body_asks, until_waits, star_asks, until_stops}
 use Rattle.runner.proofs.Until.{Star, star_by, star_has, star_waits, star_fails, star_reads, star_fits}
@@ -34,13 +36,13 @@ use Rattle.runner.proofs.Falling.{smaller_by}
 use Rattle.runner.proofs.GoesOn.{GoesOnAs, went_as, goes_by_phase}
 
 -- in its body: that runs
-module _ {table : List ℕ} {i : ℕ} {state : List ℕ} (on : get_or state (4 * i) 0 ≢ 3) (no-star : get_or state (4 * i) 0 ≢ 1)
-    (no-handler : get_or state (4 * i) 0 ≢ 2) where
+module _ {table : List ℕ} {i : ℕ} {state : List ℕ} (on : get_or state (4 * i) 0 ≢ 3) (no_star : get_or state (4 * i) 0 ≢ 1)
+    (no_handler : get_or state (4 * i) 0 ≢ 2) where
   in_body : {before part behind : List ℕ} → Around state i before part behind → {t : Term} → OfKind until_kind t
       → {words : List ℕ} {rooms : Rooms} {tally : List ℕ} → Ready 0 table i part words rooms tally t → Until0 t
   in_body a w h =
       let at = phase_at_lem a (own_in h 0 (lit< tt)) in
-      until0_by (w, λ e. on (phase_is a h ∙ e)) h (λ e. no-star (at ∙ e)) (λ e. no-handler (at ∙ e))
+      until0_by (w, λ e. on (phase_is a h ∙ e)) h (λ e. no_star (at ∙ e)) (λ e. no_handler (at ∙ e))
 
   module _ {m : List ℕ} {rooms : Rooms} {before part behind : List ℕ} (o : Stands 0 (OfKind until_kind) (lent table state m rooms) i before part behind) where
     abbrev n : ℕ
@@ -243,3 +245,11 @@ module _ {table : List ℕ} {i : ℕ} {state m : List ℕ} {rooms : Rooms} where
             has = λ run. on.has (λ before part behind o. handler_went o is reads (ranked_2 a b) z run);
           };
         }
+
+-- the same where the state is one of the slices
+pub star_read_in : {table m row : List ℕ} {i : ℕ} {U : Term → Type 0} {L : Lent} (slices : List (MutBor (List ℕ))) → GoesOnAs Starred U L i (with table slices m row)
+    → {rank : ℕ} → TestRanked table i m rank → {second : ℕ} → second ≡ second_child table i
+    → {bytes : List ℕ} {f : ℕ} → StarRead rank (get_or m ended_at 0) (4 * i) (4 * second) (state_in slices).now bytes f
+    → AfterTest U L i (with table (put slices 0 bytes) m row) f
+star_read_in {i = i} {U = U} {L = L} slices on reads is {bytes} {f} e =
+    in_array (λ L₁. AfterTest U L i L₁ f) slices bytes (phase_reads on.can) (star_read on reads is e)

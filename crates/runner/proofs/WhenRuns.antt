@@ -11,29 +11,30 @@ use borrow.Author.Tests.{eqb-true, eqb-false}
 use Rattle.junior.specs.declared.Verdict.{Verdict}
 use Rattle.junior.specs.declared.Verdict.TheVariants.{Sat, Unsat, Unknown}
 use Rattle.junior.specs.Term.{Term}
-use Rattle.table.specs.Records.{size_at}
+use Rattle.table.specs.Records.{size_at, kind_at}
 use Rattle.table.specs.Inside.Ranks.{unranked}
-use Rattle.state.specs.Kinds.{when_kind}
+use Rattle.state.specs.Kinds.{when_kind, if_kind}
 use Rattle.state.proofs.Parts.{first_of, with_first}
 use Rattle.steps.specs.Running.{Rooms, Ready, Any, TestRead, phase_after}
 use Rattle.steps.proofs.Children.{own_in}
 use Rattle.steps.proofs.Tally.{not_ended, is_ended}
 use Rattle.steps.specs.Numbers.{ended_at, words_of, tally_of}
-use Rattle.steps.specs.Kinds.{OfKind, InSecond}
+use Rattle.steps.specs.Kinds.{OfKind, InSecond, Choice}
 use Rattle.runner.proofs.Stages.{InThen}
 use Rattle.steps.specs.Flags.{flag_of}
 use Rattle.steps.specs.Tests.{CanTest, TestRanked}
 use Rattle.steps.specs.Lent.{Lent, lent, Around, Stands, Went, CanRun, HasRun}
 use Rattle.steps.proofs.Context.{outer, phase_in, put_phase}
 use Rattle.steps.proofs.Row.{kept_same}
-use Rattle.steps.proofs.Dispatch.{phase_is}
+use Rattle.steps.proofs.Dispatch.{phase_is, to_kind}
 use Rattle.steps.proofs.Awaits.{ranked_0, ranked_2}
 use Rattle.steps.proofs.ChildContext.{child_stands}
 use Rattle.runner.proofs.When.{Then, then_by, then_asks, then_writes, then_ran}
 use Rattle.runner.proofs.When.{When0, when0_by, when_has, when_waits, then_live, then_goes, then_later, else_live, else_goes, else_later}
 use Rattle.runner.proofs.Falling.{smaller_by}
 use Rattle.runner.proofs.GoesOn.{stands_as, went_as}
-use Rattle.runner.proofs.Branches.{Branches}
+use Rattle.runner.proofs.EitherKind.{the_first}
+use Rattle.runner.proofs.Branches.{Branches, branches_of_kind}
 
 -- in its first branch: that runs
 module _ {table : List ℕ} {i : ℕ} {state m : List ℕ} {rooms : Rooms} {before part behind : List ℕ}
@@ -193,3 +194,11 @@ module _ {table : List ℕ} {i : ℕ} {state : List ℕ} (untested : get_or stat
       pub when_stops : get_or m ended_at 0 ≢ 0 → {ph : ℕ} → ph ≡ cond second 2 1
           → HasRun 0 (OfKind when_kind) (lent table state m rooms) i (lent table (set state (4 * i) ph) m rooms) 1
       when_stops z is = rw is (waits z second refl)
+
+-- the same of a node of either kind that is read to be no If
+pub when_branches : {table : List ℕ} {i : ℕ} {state m : List ℕ} {rooms : Rooms} {n : ℕ} → n ≡ kind_at table i → n ≢ if_kind → get_or state (4 * i) 0 ≡ 0
+    → {rank : ℕ} → TestRanked table i m rank → rank ≢ 1 → {second : Bool} → second ≡ eqb rank 0 → get_or m ended_at 0 ≡ 0
+    → CanRun 0 Choice (lent table state m rooms) i
+    → Branches Choice (lent table state m rooms) i second
+when_branches read other zero reads known says z o =
+    let is = the_first read other o in branches_of_kind is (when_chooses zero reads known says z (to_kind refl is o))

@@ -1,7 +1,7 @@
 // A pass: a function for each form, or for two that differ in one step; a child is run by `run_child`. A node that answers TERM leaves its subtree's
 // bytes all zero; whoever keeps it in sight marks it as phase 3. What `run_child` goes on to has to stay apart from it in the compiled code, so that a
 // leaf doesn't pay for the registers of the largest form: the larger ones are called from two places, or run a nested node of their own form themselves.
-#![tactic(auto)]
+#![tactic(auto, using(crate::proofs::Indices::own_fits))]
 
 ghost use Rattle.state.specs.Kinds.{seq_kind, loop_kind, control_kind, local_kind};
 ghost use Rattle.steps.specs.Running.{Any};
@@ -25,7 +25,7 @@ use steps::phases::{
 use table::records::{argument_at, kind_at, second_at};
 
 // Runs node i once. The most frequent kinds are told apart first.
-#[cycle(run_child_run_control_run_half_run_local_run_loop_run_par_run_repeat_run_second_run_seq_run_until_run_when)]
+#[cycle(run)]
 pub fn run_child(
     table: &&[u8],
     i: usize,
@@ -75,7 +75,7 @@ pub fn run_child(
 
 // Rule 8: both branches run. Where the first is suspended, so is the Par, whatever its second answers: a second that is such a Par is gone on with
 // here and not by a call. `above` is the Par whose second branch `at` is, its first being suspended; `at` itself at the first turn.
-#[cycle(run_child_run_control_run_half_run_local_run_loop_run_par_run_repeat_run_second_run_seq_run_until_run_when)]
+#[cycle(run)]
 fn run_par(
     table: &&[u8],
     i: usize,
@@ -114,7 +114,7 @@ fn run_par(
 }
 
 // Rules 10 and 11: a branch flagged STOP or TERM is not run.
-#[cycle(run_child_run_control_run_half_run_local_run_loop_run_par_run_repeat_run_second_run_seq_run_until_run_when)]
+#[cycle(run)]
 fn run_half(
     table: &&[u8],
     i: usize,
@@ -144,7 +144,7 @@ fn run_half(
 }
 
 // Rules 4 and 5.
-#[cycle(run_child_run_control_run_half_run_local_run_loop_run_par_run_repeat_run_second_run_seq_run_until_run_when)]
+#[cycle(run)]
 fn run_seq(
     table: &&[u8],
     i: usize,
@@ -180,7 +180,7 @@ fn run_seq(
 }
 
 // A Seq, When, Until or If that has gone over, or now goes over, into its second child: phase 2 until that ends.
-#[cycle(run_child_run_control_run_half_run_local_run_loop_run_par_run_repeat_run_second_run_seq_run_until_run_when)]
+#[cycle(run)]
 fn run_second(
     table: &&[u8],
     i: usize,
@@ -205,7 +205,7 @@ fn run_second(
 
 // A Loop: the rest of its body by rules 4 and 5, or rule 12: the body runs from its start. It stops, so it doesn't end in this pass, and 000's rule 13
 // is never met (L5).
-#[cycle(run_child_run_control_run_half_run_local_run_loop_run_par_run_repeat_run_second_run_seq_run_until_run_when)]
+#[cycle(run)]
 fn run_loop(
     table: &&[u8],
     i: usize,
@@ -236,7 +236,7 @@ fn run_loop(
 
 // A Repeat or a RepeatExt: rules 14 and 15 when it begins, 4 and 5 in the rest of a run of its body. How often a RepeatExt runs is asked of the box when
 // it begins (001, "Extended Repeat"); from then on it is a Repeat. The kind of the body is read once for all runs, and a Nothing costs no call.
-#[cycle(run_child_run_control_run_half_run_local_run_loop_run_par_run_repeat_run_second_run_seq_run_until_run_when)]
+#[cycle(run)]
 fn run_repeat(
     table: &&[u8],
     i: usize,
@@ -283,7 +283,7 @@ fn run_repeat(
 }
 
 // A When by rules 17 to 21. An If (001, "Boolean Test") differs in how its branch is chosen: when it is reached, by a value, and it runs at once.
-#[cycle(run_child_run_control_run_half_run_local_run_loop_run_par_run_repeat_run_second_run_seq_run_until_run_when)]
+#[cycle(run)]
 fn run_when(
     table: &&[u8],
     i: usize,
@@ -326,7 +326,7 @@ fn run_when(
 }
 
 // An Until by rules 29 to 34. A Freezable differs in what follows once its body has stopped: rules 40 and 41, and 42 to 45 in `run_pending`.
-#[cycle(run_child_run_control_run_half_run_local_run_loop_run_par_run_repeat_run_second_run_seq_run_until_run_when)]
+#[cycle(run)]
 fn run_until(
     table: &&[u8],
     i: usize,
@@ -371,7 +371,7 @@ fn run_until(
 }
 
 // Rules 26 to 28.
-#[cycle(run_child_run_control_run_half_run_local_run_loop_run_par_run_repeat_run_second_run_seq_run_until_run_when)]
+#[cycle(run)]
 fn run_control(
     table: &&[u8],
     i: usize,
@@ -395,7 +395,7 @@ fn run_control(
 }
 
 // Rules 35 to 39: the body runs with the event as the sign says, and outside it is again as it was.
-#[cycle(run_child_run_control_run_half_run_local_run_loop_run_par_run_repeat_run_second_run_seq_run_until_run_when)]
+#[cycle(run)]
 fn run_local(
     table: &&[u8],
     i: usize,

@@ -13,7 +13,6 @@ use Rattle.scanner.specs.declared.scan.Took.TheVariants.{Not, To}
 use Rattle.scanner.specs.declared.scan.Tally.{Tally}
 use Rattle.scanner.specs.declared.scan.Scanned.TheVariants as answered
 use Rattle.form.specs.Fails.{Fails}
-use Rattle.form.specs.Made.{tests}
 use Rattle.form.specs.Inside.Machine.{Stack, Sym, byte, prog, name, conf, num}
 use Rattle.form.specs.Inside.Counted.{Counts}
 use Rattle.form.specs.Inside.ReadTo.{start, ReadTo}

@@ -92,7 +92,8 @@ reads (seq2 p t) r = ap (seq2 p) (behind_zeros p t (prog t) r (reads t))
 reads (Term.par α β t u) r =
     let e = from_first (prog t) (state_bytes t) (state_bytes u) r (reads t) in
     let f = from_second (prog u) (state_bytes t) (state_bytes u) r (4 * size (prog t)) (len_bytes t) (reads u) in
-    ap₂ (λ x y. Term.par _ _ x y) e f ∙ ap₂ (λ γ δ. Term.par γ δ t u) (flags_back α β).0 (flags_back α β).1
+    let o = code α + 4 * code β in
+    ap₂ (λ x y. Term.par (flag_for (o % 4)) (flag_for (o / 4)) x y) e f ∙ ap₂ (λ γ δ. Term.par γ δ t u) (flags_back α β).0 (flags_back α β).1
 reads (loop0 p) r = refl
 reads (loop1 t) r = ap loop1 (reads t r)
 reads (repeat0 n p) r = refl

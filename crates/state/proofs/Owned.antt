@@ -112,13 +112,13 @@ module _ (t s : List ℕ) (i : ℕ) where
     flag_so k = same_truth (rests t s i) (one_ended t s i r) (par_flags k) (flags_par k)
 
     -- any other kind with more than a phase rests with a count
-    module _ {k : ℕ} (kind : kind_at t i ≡ k) (not-par : k ≡ 4 → ⊥) (not-2 : r ≡ 33554432 → ⊥) (not-1 : r ≡ 16777216 → ⊥) where
+    module _ {k : ℕ} (kind : kind_at t i ≡ k) (not_par : k ≡ 4 → ⊥) (not-2 : r ≡ 33554432 → ⊥) (not-1 : r ≡ 16777216 → ⊥) where
       abbrev most : ℕ
       most = most_runs k (argument_at t i)
 
       by_count : rests t s i ≡ true → (repeats k && counted_below r most) ≡ true
       unfolding rests count_rests
-      by_count h = go (eqb (phase_at s i) 3) refl (simp (kind, ne_eqb _ _ not-par) at h)
+      by_count h = go (eqb (phase_at s i) 3) refl (simp (kind, ne_eqb _ _ not_par) at h)
         where
           counting : (b : Bool)
               → (repeats k && eqb (phase_at s i) 1) ≡ b

@@ -96,6 +96,7 @@ abbrev pub own_of : List ℕ → List ℕ → List ℕ
 own_of l r = own_phase l ∷ own_flags l ∷ get_or l 2 0 ∷ get_or l 3 0 ∷ r
 
 pub own_below : (l : List ℕ) → 4 ≤ length l → l ≡ own_of l (drop 4 l)
+own_below [] h = absurd (omega arith)
 own_below (a ∷ []) h = absurd (omega arith)
 own_below (a ∷ b ∷ []) h = absurd (omega arith)
 own_below (a ∷ b ∷ c ∷ []) h = absurd (omega arith)
@@ -115,7 +116,7 @@ abbrev pub with_rest : List ℕ → ℕ → List ℕ → List ℕ
 with_rest l n s = put_mid (4 + 4 * n) (length l - (4 + 4 * n)) l s
 
 -- a part from byte a to byte e of a list, and the list with other bytes put there
-module _ (l h x b : List ℕ) (split : l ≡ h ++ (x ++ b)) (a e : ℕ) (at_a : length h ≡ a) (at-e : a + length x ≡ e) where
+module _ (l h x b : List ℕ) (split : l ≡ h ++ (x ++ b)) (a e : ℕ) (at_a : length h ≡ a) (at_e : a + length x ≡ e) where
   pub part_is : mid_of a (e - a) l ≡ x
   part_is = let n : length x ≡ e - a = omega arith in rw (split, drop_at h (x ++ b) a at_a) (take_at x b (e - a) n)
 

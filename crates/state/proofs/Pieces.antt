@@ -9,16 +9,16 @@ use lib.Seq.{take_at, drop_at}
 use Rattle.junior.specs.Program.{size}
 use Rattle.junior.specs.Term.{prog}
 use Rattle.junior.specs.Trace.{Piece, piece}
-use Rattle.junior.specs.Parked.{together, piece_length_lem}
+use Rattle.junior.specs.Parked.{together, stored_length}
 use Rattle.state.specs.StateBytes.{state_bytes}
 use Rattle.state.specs.Pieces.{piece_bytes, pieces_bytes}
 use Rattle.state.proofs.Parts.{len_bytes}
 use Rattle.state.proofs.OneTerm.{one_term}
 
-pub piece_long : (x : Piece) → length (piece_bytes x) ≡ piece_length_lem x
+pub piece_long : (x : Piece) → length (piece_bytes x) ≡ stored_length x
 piece_long x = omega (arith, len_bytes x.state)
 
-pub pieces_long : (l : List Piece) → length (pieces_bytes l) ≡ together piece_length_lem l
+pub pieces_long : (l : List Piece) → length (pieces_bytes l) ≡ together stored_length l
 unfolding pieces_bytes together
 pieces_long [] = refl
 pieces_long (x ∷ l) = simp length-append (ap₂ ◌+◌ (piece_long x) (pieces_long l))

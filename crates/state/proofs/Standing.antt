@@ -212,7 +212,7 @@ module _ (t s : List ℕ) (small : (i : ℕ) → byte s i < 256) (long : 4 * nod
           → ((n : ℕ) → eqb (phase_at s i) n ≡ true → Owns s i (in_phase n))
           → branch_rests t s i (phase_at s i) ≡ true
           → TermAt s i p
-      branched p f g f-is g-is n h f-rests g-rests own phases =
+      branched p f g f_is g_is n h f_rests g_rests own phases =
           let m = size (prog u) in
           let k = size (prog v) in
           either_true _ _ phases
@@ -224,10 +224,10 @@ module _ (t s : List ℕ) (small : (i : ℕ) → byte s i < 256) (long : 4 * nod
           (λ e'. either_true _ _ e'
           (λ e.
           let (ph, z) = both e in
-          subst (TermAt s i) f-is (around f i x (omega arith) (own 1 ph) refl (none₂ (omega arith) z) (rw f-is h) f-rests))
+          subst (TermAt s i) f_is (around f i x (omega arith) (own 1 ph) refl (none₂ (omega arith) z) (rw f_is h) f_rests))
           (λ e.
           let (ph, z) = both e in
-          subst (TermAt s i) g-is (around g i y refl (own 2 ph) (none₁ (omega arith) z) refl (rw g-is h) g-rests)))
+          subst (TermAt s i) g_is (around g i y refl (own 2 ph) (none₁ (omega arith) z) refl (rw g_is h) g_rests)))
 
       of_two : {p : Program} → Two p (prog u) (prog v) → i + size p ≤ nodes t → Active t s i (kind p) → TermAt s i p
       unfolding size kind prog AtRest phase_rests count_rests flags_rest
@@ -266,8 +266,8 @@ module _ (t s : List ℕ) (small : (i : ℕ) → byte s i < 256) (long : 4 * nod
       let (a, b) = spells_two t i f sp in
       let x = find v (i + 1) a (omega (arith, (Table.of_two f).size_is)) in
       let y = find w (i + 1 + size q) (second t i q r a b) (omega (arith, (Table.of_two f).size_is)) in
-      let y-rests : Rests s (i + 1 + size (prog x.term)) y.term = rw x.of_program y.rests_so in
-      split p i sp h (of_two i x.rests_so (rw x.of_program a) y-rests (rw y.of_program b) (rw (x.of_program, y.of_program) f) h)
+      let y_rests : Rests s (i + 1 + size (prog x.term)) y.term = rw x.of_program y.rests_so in
+      split p i sp h (of_two i x.rests_so (rw x.of_program a) y_rests (rw y.of_program b) (rw (x.of_program, y.of_program) f) h)
 
 pub standing : (t s : List ℕ) → Placed t 0 (tree_of t) → ((i : ℕ) → get_or s i 0 < 256) → 4 * nodes t ≤ length s → blamed t s ≡ nodes t
     → (x : Term) × (prog x ≡ tree_of t) × (take (4 * nodes t) s ≡ state_bytes x) × AtRest x

@@ -53,6 +53,13 @@ unfolding zero_nodes
 zero_rest s a zero h = absurd (omega arith)
 zero_rest s a (suc m) h = let e : suc m - 1 ≡ m = omega arith in rw e
 
+-- what the first of them tells of all
+pub zeros_behind : (s : List ℕ) (a m : ℕ) → 0 < m → own s a ≡ 0 → zero_nodes s a m ≡ zero_nodes s (a + 1) (m - 1)
+zeros_behind s a m h e = rw (zero_rest s a m h, own_zero s a e)
+
+pub not_all_zero : (s : List ℕ) (a m : ℕ) → 0 < m → (own s a ≡ 0 → ⊥) → zero_nodes s a m ≡ false
+not_all_zero s a m h e = rw (zero_rest s a m h, own_not_zero s a e)
+
 pub zero_all : (s : List ℕ) (a m : ℕ) → ((k : ℕ) → a ≤ k → k < a + m → zero_node s k ≡ true) → zero_nodes s a m ≡ true
 unfolding zero_nodes
 zero_all s a zero h = refl

@@ -32,6 +32,7 @@ fn two_at(state: &[u8], i: usize) -> usize
 }
 
 // Whether the m nodes from a on have no byte but zeros.
+#[tactic(auto, using(crate::proofs::Zeros::zeros_behind, crate::proofs::Zeros::not_all_zero), unfolding(crate::specs::Resting::zero_nodes))]
 fn zero_nodes(state: &[u8], a: usize, m: usize) -> bool
     requires { 4 * (a + m) ≤ length state.now }
     ensures { result ≡ zero_nodes state.now a m }

@@ -11,7 +11,7 @@ use Rattle.junior.specs.declared.Flag.{Flag}
 use Rattle.junior.specs.declared.Flag.TheVariants.{SUSP, STOP, TERM}
 use Rattle.junior.specs.Flags.{γ, δ₁, δ₂}
 use Rattle.state.specs.StateBytes.{code}
-use Rattle.steps.specs.Running.{Rooms, Live, Any, is_tERM, gone, ended, par_end}
+use Rattle.steps.specs.Running.{Rooms, Live, Any, flag_is_term, gone, ended, par_end}
 use Rattle.steps.specs.Numbers.{Numbers, words_of, tally_of}
 use Rattle.steps.specs.Flags.{par_end_at}
 use Rattle.steps.specs.Lent.{lent, Around, Stands}
@@ -44,7 +44,7 @@ pub par_end_around : {state : List ℕ} {i : ℕ} {before part behind : List ℕ
     → 4 < length part → second < length part
     → Around (par_end_at α β (4 * i) (4 * i + second) state) i before (par_end α β second part) behind
 par_end_around {part = part} o α β second a b =
-    let flags = cond (is_tERM (γ α β)) 0 (code (δ₁ α β) + 4 * code (δ₂ α β)) in
+    let flags = cond (flag_is_term (γ α β)) 0 (code (δ₁ α β) + 4 * code (δ₂ α β)) in
     let phase = gone (γ α β) in
     let l = length-set part 1 flags in
     let both = ended_around (put_byte o 1 flags (omega arith)) α 4 phase (omega arith) in

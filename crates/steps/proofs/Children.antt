@@ -64,7 +64,7 @@ module _ {table : List ℕ} {i : ℕ} {state words : List ℕ} {rooms : Rooms} {
         bytes = ap (drop skip) h.bytes;
         going = h.going;
         room = h.room;
-        store_room_lem = h.store_room_lem;
+        parking_room = h.parking_room;
       }
 
 -- a node's falling number: its size first, then a rank at the node, run_node's being the highest
@@ -137,7 +137,7 @@ module _ {own : Own} {ahead behind : ℕ} {f : Term → Term} (o : Frame own ahe
           bytes = part;
           going = g;
           room = omega (arith, h.room, o.pot_in (per 2) x);
-          store_room_lem = omega (arith, h.store_room_lem, o.pot_in parking x);
+          parking_room = omega (arith, h.parking_room, o.pot_in parking x);
         }
 
     pub put_back : skip ≤ 4 → (s : List ℕ) → put_mid a (e - a) state s ≡ own_of state (blank ahead ++ (s ++ blank behind))

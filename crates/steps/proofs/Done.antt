@@ -102,7 +102,7 @@ leaves_then h {l} {m} v w =
       atoms_in = wrote_as (collect-++ atom_of l m) (wrote_then v.atoms_in (omega (arith, h.room)) w.atoms_in);
       pieces_in =
           wrote_as (ap pieces_bytes (collect-++ piece_of l m) ∙ pieces-++ (parks l) (parks m))
-          (wrote_then v.pieces_in (omega (arith, h.store_room_lem)) w.pieces_in);
+          (wrote_then v.pieces_in (omega (arith, h.parking_room)) w.pieces_in);
     }
 
 pub ran_flag : {P : Place} {t : Term} {words : List ℕ} {rooms : Rooms} {tally state' words' : List ℕ} {rooms' : Rooms} {tally' : List ℕ} {α β : Flag}
@@ -128,7 +128,7 @@ pub room_for : {skip : ℕ} {table : List ℕ} {i : ℕ} {state words : List ℕ
     → Ready skip table i state words rooms tally t
     → {t' : Term} → ((k : Program → ℕ) → pot k t' ≤ pot k t)
     → HasRoom rooms tally t'
-room_for h e = record { in_row = omega (arith, h.room, e (per 2)); in_store = omega (arith, h.store_room_lem, e parking) }
+room_for h e = record { in_row = omega (arith, h.room, e (per 2)); in_store = omega (arith, h.parking_room, e parking) }
 
 -- room is left for a node t' that goes on after a part of t ran
 pub room_after : {skip : ℕ} {table : List ℕ} {i : ℕ} {state words : List ℕ} {rooms : Rooms} {tally : List ℕ} {t : Term}
@@ -143,10 +143,10 @@ room_after h g t' e =
     let p = cost-F g.acts ∙ sym (pieces_long (parks g.acts)) in
     let q = e parking in
     let l = wrote_long g.wrote.atoms_in (omega (arith, h.room)) in
-    let m = wrote_long g.wrote.pieces_in (omega (arith, h.store_room_lem)) in
+    let m = wrote_long g.wrote.pieces_in (omega (arith, h.parking_room)) in
     record {
       in_row = omega (arith, h.room, g.wrote.atoms_in.done_is);
-      in_store = omega (arith, h.store_room_lem, g.wrote.pieces_in.done_is);
+      in_store = omega (arith, h.parking_room, g.wrote.pieces_in.done_is);
     }
 
 -- lengths that stay
@@ -198,7 +198,7 @@ ready_as h e l k b g r =
       bytes = b;
       going = g;
       room = r.in_row;
-      store_room_lem = r.in_store;
+      parking_room = r.in_store;
     }
 
 -- the own bytes that a node leaves

@@ -11,7 +11,7 @@ use Rattle.junior.specs.declared.Flag.{Flag}
 use Rattle.junior.specs.declared.Flag.TheVariants.{SUSP, STOP, TERM}
 use Rattle.junior.specs.Flags.{γ, δ₁, δ₂}
 use Rattle.state.specs.StateBytes.{code}
-use Rattle.steps.specs.Running.{is_tERM, ended}
+use Rattle.steps.specs.Running.{flag_is_term, ended}
 use Rattle.steps.proofs.FlagTables.{code_below, joined_at, kept_at}
 use Rattle.steps.specs.Flags.{flag_of, ParEnds}
 
@@ -61,7 +61,7 @@ module _ (f g : ℕ) (k : f < 3) (l : g < 3) where
   joined_is = ap flag_of joined_code ∙ flag_of_code (γ (flag_of f) (flag_of g))
 
   pub kept_is : get_or (get_or kept_table f []) g 0
-      ≡ cond (is_tERM (γ (flag_of f) (flag_of g))) 0 (code (δ₁ (flag_of f) (flag_of g)) + 4 * code (δ₂ (flag_of f) (flag_of g)))
+      ≡ cond (flag_is_term (γ (flag_of f) (flag_of g))) 0 (code (δ₁ (flag_of f) (flag_of g)) + 4 * code (δ₂ (flag_of f) (flag_of g)))
   kept_is = ap₂ (λ a b. get_or (get_or kept_table a []) b 0) (sym (code_of f k)) (sym (code_of g l)) ∙ kept_at (flag_of f) (flag_of g)
 
 -- a byte that is there already

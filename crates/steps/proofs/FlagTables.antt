@@ -15,7 +15,7 @@ use Rattle.junior.specs.declared.Flag.{Flag}
 use Rattle.junior.specs.declared.Flag.TheVariants.{SUSP, STOP, TERM}
 use Rattle.junior.specs.Flags.{γ, δ₁, δ₂}
 use Rattle.state.specs.StateBytes.{code}
-use Rattle.steps.specs.Running.{sign_after, is_tERM}
+use Rattle.steps.specs.Running.{sign_after, flag_is_term}
 
 -- a flag whose place is one of the keys of an arm is none whose place isn't
 pub other_flag : (keys : List ℕ) (f g : Flag) → T (not (has_key keys (tag_of the_type g))) → OneOf keys (tag_of the_type f) → f ≢ g
@@ -75,7 +75,7 @@ joined_at TERM SUSP = refl
 joined_at TERM STOP = refl
 joined_at TERM TERM = refl
 
-pub kept_at : (f g : Flag) → get_or (get_or kept_table (code f) []) (code g) 0 ≡ cond (is_tERM (γ f g)) 0 (code (δ₁ f g) + 4 * code (δ₂ f g))
+pub kept_at : (f g : Flag) → get_or (get_or kept_table (code f) []) (code g) 0 ≡ cond (flag_is_term (γ f g)) 0 (code (δ₁ f g) + 4 * code (δ₂ f g))
 kept_at SUSP SUSP = refl
 kept_at SUSP STOP = refl
 kept_at SUSP TERM = refl

@@ -109,7 +109,7 @@ module _ {table : List ℕ} {i : ℕ} {state m : List ℕ} {rooms : Rooms} where
         → HasRun 0 (OfKind generate_kind) (lent table state m rooms) i (lent table state (set m₁ moved_at 1) rooms) 2
     generate_run e names there {m₁} q before part behind o =
         let long = q.kept.long ∙ o.numbers.long in
-        let in-set : put e true (marks (words_of m)) ≡ put e (ltb e (64 * length (words_of m))) (marks (words_of m)) =
+        let in_set : put e true (marks (words_of m)) ≡ put e (ltb e (64 * length (words_of m))) (marks (words_of m)) =
         rw (lt-ltb e (64 * length (words_of m)) (omega (arith, words_wide o.numbers))) in
         record {
           part' = part;
@@ -118,5 +118,5 @@ module _ {table : List ℕ} {i : ℕ} {state m : List ℕ} {rooms : Rooms} where
           below = lit< tt;
           runs = λ t w h P at.
               ran_in (words_stay m₁ moved_at 1 (lit< tt)) (tally_1 m₁ 1 long ∙ ap (λ (l : List ℕ). set l 1 1) q.tally)
-              (generate_ran (shape_by t w refl) (λ z. on (phase_is o.around h ∙ z)) h e names (words_of m₁) q.wide (q.events ∙ in-set));
+              (generate_ran (shape_by t w refl) (λ z. on (phase_is o.around h ∙ z)) h e names (words_of m₁) q.wide (q.events ∙ in_set));
         }

@@ -61,7 +61,7 @@ module _ {table : List ℕ} {i : ℕ} {state words : List ℕ} {rooms : Rooms} {
   pub pending_room : {t : Term} → Pends t → Ready 1 table i state words rooms tally t
       → bytes_parked tally + length state ≤ length rooms.store
   unfolding pot kind prog size
-  pending_room (pends s x) h = omega (arith, h.store_room_lem, h.long)
+  pending_room (pends s x) h = omega (arith, h.parking_room, h.long)
 
   -- its body's bytes; all of its own with the phase written anew
   body_there : (s : ℕ) (x : Term) → Ready 1 table i state words rooms tally (freezable* s x) → drop 4 state ≡ state_bytes x

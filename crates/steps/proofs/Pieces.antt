@@ -7,7 +7,7 @@ use native.Mathlib.Nat.{add-zero}
 use lib.ListN.{length, get_or, take, drop, set, length-append, length-drop}
 use lib.Seq.{sets-eq, get_or-drop, drop-drop, take-add, take_all, take_at, drop_at, drop-append-le, length-take-le}
 use borrow.Rule.Slice.PartMut.{mid_of, post_of, put_mid, same_len_mid, put_same}
-use denote.Ref.{Bor}
+use Rattle.std.specs.Borrow.{MutBor}
 use Rattle.steps.specs.Lent.{state_in, store_in, SameBytes}
 use Rattle.steps.specs.Parking.{piece_from, Copied}
 use Rattle.steps.proofs.Slices.{put, state_stays, store_stays, store_back, same_state_back, same_store_back}
@@ -85,10 +85,10 @@ put_front a n k l ys zs h e =
     (simp append_assoc)
 
 -- none is copied at first
-pub copied_none : (from to : ℕ) (slices : List (Bor (List ℕ))) → Copied from to 0 slices slices
+pub copied_none : (from to : ℕ) (slices : List (MutBor (List ℕ))) → Copied from to 0 slices slices
 copied_none from to slices = record { state_is = refl; store_is = sym (put_same to 0 (store_in slices).now); same = (refl, refl) }
 
-module _ {from to n : ℕ} {slices slices' : List (Bor (List ℕ))} (o : Copied from to n slices slices') where
+module _ {from to n : ℕ} {slices slices' : List (MutBor (List ℕ))} (o : Copied from to n slices slices') where
   -- the store is as long as it was
   pub copied_long : from + 4 * n ≤ length (state_in slices).now → to + 4 * n ≤ length (store_in slices).now
       → length (store_in slices').now ≡ length (store_in slices).now

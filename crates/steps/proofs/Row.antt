@@ -165,9 +165,9 @@ module _ (table words : List ℕ) (l : length words ≡ event_words) where
 
     pub first_tally : tally_of (first_numbers words low high base) ≡ 0 ∷ 0 ∷ 0 ∷ 0 ∷ low ∷ high ∷ []
     first_tally =
-        let low-is = others valued (values_at + 1) high 4 (λ e. omega arith) ∙ get_or-set_same based values_at low 0 (omega (arith, based_long)) in
+        let low_is = others valued (values_at + 1) high 4 (λ e. omega arith) ∙ get_or-set_same based values_at low 0 (omega (arith, based_long)) in
         let high_is = get_or-set_same valued (values_at + 1) high 0 (omega (arith, length-set based values_at low, based_long)) in
-        rw (nothing_done, nothing_moved, nothing_ended, nothing_parked, low-is, high_is)
+        rw (nothing_done, nothing_moved, nothing_ended, nothing_parked, low_is, high_is)
 
     pub first_holds : base ≡ 6 * nodes table → Numbers table (first_numbers words low high base)
     first_holds e =

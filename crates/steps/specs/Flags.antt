@@ -4,7 +4,7 @@ use Rattle.junior.specs.declared.Flag.{Flag}
 use Rattle.junior.specs.declared.Flag.TheVariants.{SUSP, STOP, TERM}
 use Rattle.junior.specs.Flags.{γ, δ₁, δ₂}
 use Rattle.state.specs.StateBytes.{code}
-use Rattle.steps.specs.Running.{ended, gone, is_tERM}
+use Rattle.steps.specs.Running.{ended, gone, flag_is_term}
 
 abbrev pub flag_of : ℕ → Flag
 flag_of zero = SUSP
@@ -14,7 +14,7 @@ flag_of (suc (suc n)) = TERM
 -- the bytes s of a state whose Par at byte `at` has heard α and β from its branches, the second standing at byte `second`
 abbrev pub par_end_at : Flag → Flag → ℕ → ℕ → List ℕ → List ℕ
 par_end_at α β at second s =
-    let flags = cond (is_tERM (γ α β)) 0 (code (δ₁ α β) + 4 * code (δ₂ α β)) in
+    let flags = cond (flag_is_term (γ α β)) 0 (code (δ₁ α β) + 4 * code (δ₂ α β)) in
     ended β second (gone (γ α β)) (ended α (at + 4) (gone (γ α β)) (set s (at + 1) flags))
 
 pub record ParEnds (f g at second : ℕ) (s s' : List ℕ) (r : ℕ) : Type 0 where

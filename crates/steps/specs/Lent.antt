@@ -17,22 +17,22 @@ abbrev pub lent : List ℕ → List ℕ → List ℕ → Rooms → Lent
 lent table state numbers rooms = record { table = table; state = state; numbers = numbers; rooms = rooms }
 
 -- State and store are lent by one reference, to an array of two slices. What stands in a place of it; beyond its places there is nothing.
-abbrev pub slice_at : List (Bor (List ℕ)) → ℕ → Bor (List ℕ)
-slice_at slices place = get_or slices place (record { ref_ptr = (0, 0); now = [] })
+abbrev pub slice_at : List (MutBor (List ℕ)) → ℕ → MutBor (List ℕ)
+slice_at slices place = get_or slices place (record { ref_ptr = (0, 0); ghost_name = 0; now = [] })
 
-abbrev pub state_in : List (Bor (List ℕ)) → Bor (List ℕ)
+abbrev pub state_in : List (MutBor (List ℕ)) → MutBor (List ℕ)
 state_in slices = slice_at slices 0
 
-abbrev pub store_in : List (Bor (List ℕ)) → Bor (List ℕ)
+abbrev pub store_in : List (MutBor (List ℕ)) → MutBor (List ℕ)
 store_in slices = slice_at slices 1
 
 -- what stands behind the references
-abbrev pub held : Bor (Bor (List ℕ)) → Bor (List (Bor (List ℕ))) → Bor (List ℕ) → Bor (Bor (List ℕ)) → Lent
+abbrev pub held : Bor (Bor (List ℕ)) → MutBor (List (MutBor (List ℕ))) → MutBor (List ℕ) → MutBor (MutBor (List ℕ)) → Lent
 held table bytes numbers atoms =
     lent table.now.now (state_in bytes.now).now numbers.now (rooms_of atoms.now.now (store_in bytes.now).now)
 
 -- the same for a node that does no atom, whatever the row is
-abbrev pub storing : Bor (Bor (List ℕ)) → Bor (List (Bor (List ℕ))) → Bor (List ℕ) → List ℕ → Lent
+abbrev pub storing : Bor (Bor (List ℕ)) → MutBor (List (MutBor (List ℕ))) → MutBor (List ℕ) → List ℕ → Lent
 storing table bytes numbers row =
     lent table.now.now (state_in bytes.now).now numbers.now (rooms_of row (store_in bytes.now).now)
 
@@ -74,10 +74,10 @@ HasRunBeside skip W L i L' r = (row : List ℕ) → HasRun skip W (L row) i (L' 
 
 -- the slices behind a thin reference, or in the two places of the array, are the same ones
 abbrev pub Same : MutBor (List ℕ) → MutBor (List ℕ) → Type 0
-Same slice slice' = slice'.name ≡ slice.name
+Same slice slice' = slice'.ghost_name ≡ slice.ghost_name
 
-abbrev pub SameBytes : List (Bor (List ℕ)) → List (Bor (List ℕ)) → Type 0
+abbrev pub SameBytes : List (MutBor (List ℕ)) → List (MutBor (List ℕ)) → Type 0
 SameBytes bytes bytes' = Same (state_in bytes) (state_in bytes') × Same (store_in bytes) (store_in bytes')
 
-abbrev pub Named : List (Bor (List ℕ)) → List (Bor (List ℕ)) → Bor (List ℕ) → Bor (List ℕ) → Type 0
+abbrev pub Named : List (MutBor (List ℕ)) → List (MutBor (List ℕ)) → MutBor (List ℕ) → MutBor (List ℕ) → Type 0
 Named bytes bytes' atoms atoms' = SameBytes bytes bytes' × Same atoms atoms'

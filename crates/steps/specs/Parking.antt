@@ -1,7 +1,7 @@
 -- What parking does to the state, the row of numbers and the store.
 use Rattle.std.specs.Prelude.{ℕ, ◌+◌, ◌*◌, ◌/◌, ◌%◌, Bool, ◌&&◌, not, ◌≡◌, List, ◌∷◌, eqb, get_or, drop, set, replicate}
 use borrow.Rule.Slice.PartMut.{mid_of, put_mid}
-use Rattle.std.specs.Borrow.{Bor}
+use Rattle.std.specs.Borrow.{MutBor}
 use Rattle.events.specs.Members.{marks}
 use Rattle.table.specs.Records.{argument_at, size_at}
 use Rattle.steps.specs.Running.{end_declared}
@@ -25,7 +25,7 @@ pub record Parked (table : List ℕ) (i event : ℕ) (state numbers store state'
   pub numbers_is : numbers' ≡ set numbers parked_at (get_or numbers parked_at 0 + 4 * size_at table i)
 
 -- before that, the bytes of so many nodes are copied from the state to the store
-pub record Copied (from to nodes : ℕ) (slices slices' : List (Bor (List ℕ))) : Type 0 where
+pub record Copied (from to nodes : ℕ) (slices slices' : List (MutBor (List ℕ))) : Type 0 where
   pub state_is : (state_in slices').now ≡ (state_in slices).now
   pub store_is : (store_in slices').now ≡ put_mid to (4 * nodes) (store_in slices).now (mid_of from (4 * nodes) (state_in slices).now)
   pub same : SameBytes slices slices'

@@ -69,7 +69,7 @@ pub record Ready (skip : ℕ) (table : List ℕ) (i : ℕ) (state words : List �
   pub bytes : Bytes skip state t
   pub going : Going (marks words) t
   pub room : atoms_done tally + pot (per 2) t ≤ length rooms.row
-  pub store_room_lem : bytes_parked tally + pot parking t ≤ length rooms.store
+  pub parking_room : bytes_parked tally + pot parking t ≤ length rooms.store
 
 -- the bytes that a node leaves: all zero if it answers TERM, for whoever keeps it in sight to mark it as phase 3
 abbrev pub left : Flag → Term → List ℕ
@@ -184,10 +184,10 @@ sign_after SUSP present = cond present 1 0
 sign_after STOP present = 0
 sign_after TERM present = 0
 
-abbrev pub is_tERM : Flag → Bool
-is_tERM SUSP = false
-is_tERM STOP = false
-is_tERM TERM = true
+abbrev pub flag_is_term : Flag → Bool
+flag_is_term SUSP = false
+flag_is_term STOP = false
+flag_is_term TERM = true
 
 -- an ended branch is phase 3 while its Par goes on
 abbrev pub gone : Flag → ℕ
@@ -204,5 +204,5 @@ ended TERM at phase s = set s at phase
 -- the bytes of a Par whose branches answered α and β, the second standing at byte `second`
 abbrev pub par_end : Flag → Flag → ℕ → List ℕ → List ℕ
 par_end α β second s =
-    let flags = cond (is_tERM (γ α β)) 0 (code (δ₁ α β) + 4 * code (δ₂ α β)) in
+    let flags = cond (flag_is_term (γ α β)) 0 (code (δ₁ α β) + 4 * code (δ₂ α β)) in
     ended β second (gone (γ α β)) (ended α 4 (gone (γ α β)) (set s 1 flags))

@@ -66,12 +66,12 @@ module _ {t : List ℕ} (d : Loaded t) (s : List ℕ) (end : ℕ) (long : end �
   good_pieces (next {x = x} {l = l} h a) n at b m e =
       let r = pieces_bytes l in
       let sum = both_long s (piece_bytes x) r at (end - at) (omega arith) e in
-      let x-there = there s r at (end - at) h (omega arith) e in
-      let good = good_one at h x-there (omega arith) in
+      let x_there = there s r at (end - at) h (omega arith) e in
+      let good = good_one at h x_there (omega arith) in
       let less : end - at - length (piece_bytes x) ≡ end - (at + length (piece_bytes x)) = omega arith in
       let later = rw less at (behind_is s (piece_bytes x) r at (end - at) (omega arith) e) in
       pieces_more t s end n at m (omega arith)
-      ∙ rw (is_good good, x-there.long) (good_pieces a (n - 1) (at + length (piece_bytes x)) (omega arith) (omega arith) later)
+      ∙ rw (is_good good, x_there.long) (good_pieces a (n - 1) (at + length (piece_bytes x)) (omega arith) (omega arith) later)
 
   module _ (low : (i : ℕ) → get_or s i 0 < 256) where
     -- the state of a good piece
@@ -105,8 +105,8 @@ module _ {t : List ℕ} (d : Loaded t) (s : List ℕ) (end : ℕ) (long : end �
         let behind = joined s (state_bytes y) (pieces_bytes l) (at + 4) (m - 2 - 2) n (omega (arith, g.ends)) state (rw (b, c) later) in
         let rest_is = state_bytes y ++ pieces_bytes l in
         let two_here = two_there s low at (omega (arith, g.ends)) in
-        let two-next = two_there s low (at + 2) (omega (arith, g.ends)) in
-        let node = joined s (two j) rest_is (at + 2) (m - 2) 2 (omega (arith, g.ends)) two-next (rw a behind) in
+        let two_next = two_there s low (at + 2) (omega (arith, g.ends)) in
+        let node = joined s (two j) rest_is (at + 2) (m - 2) 2 (omega (arith, g.ends)) two_next (rw a behind) in
         let all = joined s (two (event_at s at)) (two j ++ rest_is) at m 2 (omega (arith, g.ends)) two_here node in
         (piece (event_at s at) j y ∷ l, (all, next (record { body = g.body; program = spelled; at_rest = rest }) each))
 
@@ -122,8 +122,8 @@ module _ {t : List ℕ} (d : Loaded t) (s : List ℕ) (end : ℕ) (long : end �
             let less : suc n - 1 ≡ n = omega arith in
             let (good, more) = both {a = piece_good t s end at} (sym (pieces_more t s end (suc n) at m (omega arith)) ∙ h) in
             let g = good_is good in
-            let (l, there-so) = later (at + piece_length t s at) g.ends (omega arith) (rw less at more) in
-            one_more at g l there-so
+            let (l, there_so) = later (at + piece_length t s at) g.ends (omega arith) (rw less at more) in
+            one_more at g l there_so
 
 pub good_store : {t s : List ℕ} {l : List Piece} → Loaded t → Stored t s l → store_good t s ≡ true
 good_store {t} {s} d a =

@@ -57,7 +57,7 @@ module _ (t s : List ℕ) (e end : ℕ) (long : end ≤ length s) where
   find done (next {x = x} {l = l} g a) n at found b m p h f =
       let r = pieces_bytes l in
       let sum = both_long s (piece_bytes x) r at (end - at) (omega arith) h in
-      let x-there = there s r at (end - at) g (omega arith) h in
+      let x_there = there s r at (end - at) g (omega arith) h in
       let less : end - at - length (piece_bytes x) ≡ end - (at + length (piece_bytes x)) = omega arith in
       let later = rw less at (behind_is s (piece_bytes x) r at (end - at) (omega arith) h) in
       let more : length (pieces_bytes (done ++ (x ∷ []))) ≡ length (pieces_bytes done) + length (piece_bytes x) =
@@ -65,9 +65,9 @@ module _ (t s : List ℕ) (e end : ℕ) (long : end ≤ length s) where
       ∙ (length-append (pieces_bytes done) _ ∙ ap (λ (k : List ℕ). length (pieces_bytes done) + length k) (append-nil (piece_bytes x)))
       in
       let now = cond (eqb x.event e) at found in
-      let found-so : Last e (done ++ (x ∷ [])) now = rw p (found_now done x found f) in
-      let so = find (done ++ (x ∷ [])) a (n - 1) (at + length (piece_bytes x)) now (omega arith) (omega arith) (omega (arith, more)) later found-so in
-      rw (newest_more t s e end n at found m (omega arith), x-there.long, x-there.event_is) (rw (append_assoc done (x ∷ []) l) at so)
+      let found_so : Last e (done ++ (x ∷ [])) now = rw p (found_now done x found f) in
+      let so = find (done ++ (x ∷ [])) a (n - 1) (at + length (piece_bytes x)) now (omega arith) (omega arith) (omega (arith, more)) later found_so in
+      rw (newest_more t s e end n at found m (omega arith), x_there.long, x_there.event_is) (rw (append_assoc done (x ∷ []) l) at so)
 
 pub newest_last : {t s : List ℕ} {l : List Piece} (e : ℕ) → Stored t s l → Last e l (newest t s e)
 unfolding newest pieces_bytes

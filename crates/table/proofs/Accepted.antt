@@ -3,11 +3,9 @@ use Prim.Native.Nat.{ℕ, ◌≤◌, ◌<◌}
 use mathlib.Core.Bool.{Bool, true, false, cond, not}
 use mathlib.Core.Path.{◌≡◌, refl}
 use mathlib.Core.Logic.{◌≢◌}
-use mathlib.Core.List.{List, [], ◌∷◌}
+use mathlib.Core.List.{List}
 use native.Mathlib.Omega.{arith}
 use lib.Dec.{ltb}
-use types.Run.{OneOf, miss}
-use denote.Enum.Declared.{tag_of}
 use borrow.Author.Tests.{le-ltb, ltb-false}
 use Rattle.events.specs.Events.{lowest}
 use Rattle.table.specs.declared.Checked.{Checked}
@@ -21,7 +19,6 @@ use Rattle.table.specs.Verdict.{length_good, counts_good, distances_good, progra
 use Rattle.table.specs.Verdict.{verdict_of, number_of}
 use Rattle.table.specs.Inside.{ConfigurationsGood, NodesGood, Loaded}
 use Rattle.table.specs.Inside.Framing.{frame_of}
-use Rattle.table.specs.contracts.Checked.{the_type}
 use Rattle.table.proofs.Lowest.{lowest_bad, none_bad}
 use Rattle.table.proofs.Framing.{frame_counts}
 
@@ -66,12 +63,12 @@ past_5 t h =
     let l = chosen Past5 (length_good t) h (λ e. omega (arith, e (omega arith))) in
     let c = chosen Past5 (counts_good t) l.1 (λ e. omega (arith, e (omega arith))) in
     let d = chosen Past5 (distances_good t) c.1 (λ e. omega (arith, e (omega arith))) in
-    let bad-configuration = lowest (configurations t) (λ j. not (good_configuration t j)) in
-    let g = passed Past5 (ltb bad-configuration (configurations t)) d.1 (λ e. omega (arith, e (omega arith))) in
-    let bad-node = lowest (nodes t) (λ i. not (good_node t i)) in
-    let n = passed Past5 (ltb bad-node (nodes t)) g.1 (λ e. omega (arith, e (omega arith))) in
-    let good = none_bad (good_configuration t) (configurations t) bad-configuration refl (ltb-false bad-configuration (configurations t) g.0) in
-    let all = none_bad (good_node t) (nodes t) bad-node refl (ltb-false bad-node (nodes t) n.0) in
+    let bad_configuration = lowest (configurations t) (λ j. not (good_configuration t j)) in
+    let g = passed Past5 (ltb bad_configuration (configurations t)) d.1 (λ e. omega (arith, e (omega arith))) in
+    let bad_node = lowest (nodes t) (λ i. not (good_node t i)) in
+    let n = passed Past5 (ltb bad_node (nodes t)) g.1 (λ e. omega (arith, e (omega arith))) in
+    let good = none_bad (good_configuration t) (configurations t) bad_configuration refl (ltb-false bad_configuration (configurations t) g.0) in
+    let all = none_bad (good_node t) (nodes t) bad_node refl (ltb-false bad_node (nodes t) n.0) in
     record {
       loaded = record { framed = frame_counts t _ _ _ (rw (l.0, c.0, d.0)); configurations_good = good; nodes_good = all };
       verdict_is = by_program t l.0 c.0 d.0 good all;
@@ -80,15 +77,15 @@ past_5 t h =
 pub accepted : (t : List ℕ) → number_of (verdict_of t) ≡ 0 → Accepted t
 accepted t h = past_5 t (λ l. absurd (omega arith))
 
--- the arms of a match on a verdict beside `Accepted`
-pub not_accepted : (c : Checked) → OneOf (0 ∷ 1 ∷ 2 ∷ 3 ∷ 4 ∷ 5 ∷ 6 ∷ 7 ∷ []) (tag_of the_type c) → number_of c ≢ 0
+-- a verdict other than `Accepted` has a number
+pub not_accepted : (c : Checked) → ((g a w f : ℕ) → c ≡ variants.Accepted g a w f → ⊥) → number_of c ≢ 0
 unfolding number_of
-not_accepted BadLength o e = omega arith
-not_accepted BadCounts o e = omega arith
-not_accepted BadDistances o e = omega arith
-not_accepted (BadConfiguration j) o e = omega arith
-not_accepted (BadNode i) o e = omega arith
-not_accepted (TooDeep i) o e = omega arith
-not_accepted (EndlessLoop i) o e = omega arith
-not_accepted TooHeavy o e = omega arith
-not_accepted (variants.Accepted g a w f) o e = miss (0 ∷ 1 ∷ 2 ∷ 3 ∷ 4 ∷ 5 ∷ 6 ∷ 7 ∷ []) 8 tt o
+not_accepted BadLength n e = omega arith
+not_accepted BadCounts n e = omega arith
+not_accepted BadDistances n e = omega arith
+not_accepted (BadConfiguration j) n e = omega arith
+not_accepted (BadNode i) n e = omega arith
+not_accepted (TooDeep i) n e = omega arith
+not_accepted (EndlessLoop i) n e = omega arith
+not_accepted TooHeavy n e = omega arith
+not_accepted (variants.Accepted g a w f) n e = n g a w f refl

@@ -92,15 +92,15 @@ allowed_before : (p : Program) {g a w f : ℕ} → program_before p ≡ Accepted
 unfolding program_before light_before number_of
 allowed_before p {g} {a} {w} {f} h =
     let Is : Checked → Type 0 = λ c. c ≡ Accepted g a w f in
-    let Deep-one = passed Is (ltb (first_such deep (preorder 1 p)) (size p)) h (not_accepted (TooDeep _) 5 refl) in
-    let loop-one = passed Is (ltb (first_such endless_before (preorder 1 p)) (size p)) Deep-one.1 (not_accepted (EndlessLoop _) 6 refl) in
-    let (light-one, same) = chosen Is (light_before p) loop-one.1 (not_accepted TooHeavy 7 refl) in
-    let few-G = both {a = leb (G_before p) 4094} light-one in
+    let deep_one = passed Is (ltb (first_such deep (preorder 1 p)) (size p)) h (not_accepted (TooDeep _) 5 refl) in
+    let loop_one = passed Is (ltb (first_such endless_before (preorder 1 p)) (size p)) deep_one.1 (not_accepted (EndlessLoop _) 6 refl) in
+    let (light_one, same) = chosen Is (light_before p) loop_one.1 (not_accepted TooHeavy 7 refl) in
+    let few-G = both {a = leb (G_before p) 4094} light_one in
     let few-A = both {a = leb (A_before p) 4096} few-G.1 in
     let few-W = both {a = leb (W_before p) 65535} few-A.1 in
     record {
-      shallow = Deep-one.0;
-      loops = ltb-false (first_such endless_before (preorder 1 p)) (size p) loop-one.0;
+      shallow = deep_one.0;
+      loops = ltb-false (first_such endless_before (preorder 1 p)) (size p) loop_one.0;
       figures_are = (cc, cc, cc, cc);
       few = (
         leb-true (G_before p) 4094 few-G.0,
@@ -145,7 +145,7 @@ accepts_still t h =
     let table = past_5 t past in
     let p = tree_of t in
     let b = allowed_before p before in
-    let (g-is, a-is, w-is, f-is) = b.figures_are in
+    let (g_is, a_is, w_is, f_is) = b.figures_are in
     record {
       tree = p;
       spelled =
@@ -153,10 +153,10 @@ accepts_still t h =
       before = b.figures_are;
       now = table.verdict_is ∙ still_allowed p b;
       no_larger = (
-        rw g-is (no_larger (per 7) p),
-        rw a-is (no_larger (per 2) p),
-        rw w-is (no_larger every p),
-        rw f-is (no_larger parking p),
+        rw g_is (no_larger (per 7) p),
+        rw a_is (no_larger (per 2) p),
+        rw w_is (no_larger every p),
+        rw f_is (no_larger parking p),
       );
     }
 

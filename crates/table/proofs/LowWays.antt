@@ -215,6 +215,6 @@ module _ {t : List ℕ} {i c way : ℕ} (h : Looking t i c way) where
       unfolding height_at_most
       look_high l =
           let deep : 15 ≤ length h.steps = numbered_long 15 h.steps (omega (arith, l, h.number, few_parts h.begins is)) in
-          let no-level : 15 - length h.steps ≡ 0 = omega arith in
-          let none-low = rw no-level at by_parts in
-          sym (h.same ∙ ap (λ (x : Bool). x && low_to_come t (h.index + size_of t h.index) h.steps) (none-low ∙ neither p some))
+          let no_level : 15 - length h.steps ≡ 0 = omega arith in
+          let none_low = rw no_level at by_parts in
+          sym (h.same ∙ ap (λ (x : Bool). x && low_to_come t (h.index + size_of t h.index) h.steps) (none_low ∙ neither p some))

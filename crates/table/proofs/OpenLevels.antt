@@ -13,7 +13,7 @@ use Rattle.table.specs.Records.{part_kind, part_size, second_part}
 use Rattle.table.specs.Spells.{weight, Configured}
 use Rattle.table.specs.Reading.{height}
 use Rattle.table.specs.Inside.Ranks.{rank}
-use Rattle.table.specs.Inside.Levels.{Level, denied, and_first, or-first, and_second, or-second, digit, levelled, closing}
+use Rattle.table.specs.Inside.Levels.{Level, denied, and_first, or_first, and_second, or_second, digit, levelled, closing}
 use Rattle.table.specs.Inside.Levels.{Standing, ToCome, Open, Left, Next, Decided, unsat, sat, ClosesOne, ClosesDecided, Closes, unsettled}
 use Rattle.table.proofs.ByParts.{written, some_record, rank_not, rank_and, rank_or, rank_most}
 
@@ -38,9 +38,9 @@ few_digits (suc k) (l ∷ o) h = omega (arith, few_digits k o (omega arith), pow
     small : (l : Level) → digit l ≤ 5
     small denied = omega arith
     small (and_first d) = omega arith
-    small (or-first d) = omega arith
+    small (or_first d) = omega arith
     small and_second = omega arith
-    small or-second = omega arith
+    small or_second = omega arith
 
 -- with at most 16 levels in all, one word of 64 bits holds those open around a configuration
 pub one_word : (d : Config) (o : List Level) → height d + length o ≤ 16 → levelled o < 2 ^ 64
@@ -60,18 +60,18 @@ none_open (l ∷ o) h = absurd (omega (arith, levelled_least o))
 pub data Top : ℕ → ℕ → List Level → Type 0 where
   a_not : (o : List Level) → Top 1 (levelled o) (denied ∷ o)
   an_and : (d : Config) (o : List Level) → Top 2 (levelled o) (and_first d ∷ o)
-  an_or : (d : Config) (o : List Level) → Top 3 (levelled o) (or-first d ∷ o)
+  an_or : (d : Config) (o : List Level) → Top 3 (levelled o) (or_first d ∷ o)
   half_and : (o : List Level) → Top 4 (levelled o) (and_second ∷ o)
-  half_or : (o : List Level) → Top 5 (levelled o) (or-second ∷ o)
+  half_or : (o : List Level) → Top 5 (levelled o) (or_second ∷ o)
 
 pub top : {n : ℕ} (o : List Level) → n ≡ levelled o → 2 < n → Top (n % 16) (n / 16) o
 unfolding levelled
 top {n} [] e h = absurd (omega arith)
 top {n} (denied ∷ o) e h = let a : n % 16 ≡ 1 = omega arith in let b : n / 16 ≡ levelled o = omega arith in rw (a, b) (a_not o)
 top {n} (and_first d ∷ o) e h = let a : n % 16 ≡ 2 = omega arith in let b : n / 16 ≡ levelled o = omega arith in rw (a, b) (an_and d o)
-top {n} (or-first d ∷ o) e h = let a : n % 16 ≡ 3 = omega arith in let b : n / 16 ≡ levelled o = omega arith in rw (a, b) (an_or d o)
+top {n} (or_first d ∷ o) e h = let a : n % 16 ≡ 3 = omega arith in let b : n / 16 ≡ levelled o = omega arith in rw (a, b) (an_or d o)
 top {n} (and_second ∷ o) e h = let a : n % 16 ≡ 4 = omega arith in let b : n / 16 ≡ levelled o = omega arith in rw (a, b) (half_and o)
-top {n} (or-second ∷ o) e h = let a : n % 16 ≡ 5 = omega arith in let b : n / 16 ≡ levelled o = omega arith in rw (a, b) (half_or o)
+top {n} (or_second ∷ o) e h = let a : n % 16 ≡ 5 = omega arith in let b : n / 16 ≡ levelled o = omega arith in rw (a, b) (half_or o)
 
 pub top_least : {k m : ℕ} {o : List Level} → Top k m o → (k ≡ 1 → ⊥) → 2 ≤ k
 top_least (a_not o) n = absurd (n refl)
@@ -144,7 +144,7 @@ module _ {t : List ℕ} {c n : ℕ} {o : List Level} where
       let end : c + 4 + 4 * weight d + 4 * weight f ≡ c + 4 * (1 + weight d + weight f) = omega arith in
       record {
         part = d;
-        still = or-first f ∷ o;
+        still = or_first f ∷ o;
         stands = record { configured = h.configured.2; inside = omega arith; low = omega arith };
         opened = record {
           number = omega arith;
@@ -373,27 +373,27 @@ unfolding closing unsettled
 unsettled_same E [] = refl
 unsettled_same E (denied ∷ o) = unsettled_same E o
 unsettled_same E (and_first d ∷ o) = refl
-unsettled_same E (or-first d ∷ o) = refl
+unsettled_same E (or_first d ∷ o) = refl
 unsettled_same E (and_second ∷ o) = unsettled_same E o
-unsettled_same E (or-second ∷ o) = unsettled_same E o
+unsettled_same E (or_second ∷ o) = unsettled_same E o
 
 unsettled_to_come : (t : List ℕ) (c : ℕ) (o : List Level) → ToCome t c o → ToCome t c (unsettled o)
 unfolding ToCome unsettled
 unsettled_to_come t c [] p = p
 unsettled_to_come t c (denied ∷ o) p = unsettled_to_come t c o p
 unsettled_to_come t c (and_first d ∷ o) p = p
-unsettled_to_come t c (or-first d ∷ o) p = p
+unsettled_to_come t c (or_first d ∷ o) p = p
 unsettled_to_come t c (and_second ∷ o) p = unsettled_to_come t c o p
-unsettled_to_come t c (or-second ∷ o) p = unsettled_to_come t c o p
+unsettled_to_come t c (or_second ∷ o) p = unsettled_to_come t c o p
 
 pub unsettled_digit : (o : List Level) → levelled (unsettled o) % 16 ≤ 3
 unfolding levelled unsettled
 unsettled_digit [] = omega arith
 unsettled_digit (denied ∷ o) = unsettled_digit o
 unsettled_digit (and_first d ∷ o) = omega arith
-unsettled_digit (or-first d ∷ o) = omega arith
+unsettled_digit (or_first d ∷ o) = omega arith
 unsettled_digit (and_second ∷ o) = unsettled_digit o
-unsettled_digit (or-second ∷ o) = unsettled_digit o
+unsettled_digit (or_second ∷ o) = unsettled_digit o
 
 -- the levels n, of those from which an unknown part leaves u
 pub record Leaves (n : ℕ) (u : List Level) : Type 0 where
@@ -412,9 +412,9 @@ leaves_fewer {n} {u} a h = go a.still a.number a.leaves
     go [] e f = absurd (omega arith)
     go (denied ∷ o) e f = record { still = o; number = omega arith; leaves = f }
     go (and_first d ∷ o) e f = absurd (omega arith)
-    go (or-first d ∷ o) e f = absurd (omega arith)
+    go (or_first d ∷ o) e f = absurd (omega arith)
     go (and_second ∷ o) e f = record { still = o; number = omega arith; leaves = f }
-    go (or-second ∷ o) e f = record { still = o; number = omega arith; leaves = f }
+    go (or_second ∷ o) e f = record { still = o; number = omega arith; leaves = f }
 
 pub leaves_last : {n : ℕ} {u : List Level} → Leaves n u → 2 ≤ n % 4 → n ≡ levelled u
 unfolding levelled unsettled
@@ -424,9 +424,9 @@ leaves_last {n} {u} a h = go a.still a.number a.leaves
     go [] e f = e ∙ ap levelled f
     go (denied ∷ o) e f = absurd (omega arith)
     go (and_first d ∷ o) e f = e ∙ ap levelled f
-    go (or-first d ∷ o) e f = e ∙ ap levelled f
+    go (or_first d ∷ o) e f = e ∙ ap levelled f
     go (and_second ∷ o) e f = absurd (omega arith)
-    go (or-second ∷ o) e f = absurd (omega arith)
+    go (or_second ∷ o) e f = absurd (omega arith)
 
 -- the levels left are none, or a second part is next
 pub unknown_all : {t : List ℕ} {c n m : ℕ} {o : List Level} {p : Place} → Open t c n o → m ≡ levelled (unsettled o) → m ≡ 2
@@ -443,16 +443,16 @@ unknown_all {o = o} h e z w =
 data Waiting : List Level → Type 0 where
   for_none : Waiting []
   for_and : (d : Config) (o : List Level) → Waiting (and_first d ∷ o)
-  for_or : (d : Config) (o : List Level) → Waiting (or-first d ∷ o)
+  for_or : (d : Config) (o : List Level) → Waiting (or_first d ∷ o)
 
 waiting : (o : List Level) → Waiting (unsettled o)
 unfolding unsettled
 waiting [] = for_none
 waiting (denied ∷ o) = waiting o
 waiting (and_first d ∷ o) = for_and d o
-waiting (or-first d ∷ o) = for_or d o
+waiting (or_first d ∷ o) = for_or d o
 waiting (and_second ∷ o) = waiting o
-waiting (or-second ∷ o) = waiting o
+waiting (or_second ∷ o) = waiting o
 
 pub unknown_next : {t : List ℕ} {c n m : ℕ} {o : List Level} → Open t c n o → m ≡ levelled (unsettled o) → (m ≡ 2 → ⊥)
     → Closes t c o 1 (place c (m + 2) 3 false)
@@ -477,7 +477,7 @@ unknown_next {t} {c} {n} {m} {o} h e z =
     go (for_or d u) e p s =
         record {
           part = d;
-          still = or-second ∷ u;
+          still = or_second ∷ u;
           stands = p.0;
           opened = record { number = omega arith; to_come = p.1 };
           same = s;

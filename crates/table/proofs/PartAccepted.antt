@@ -57,7 +57,7 @@ module _ (t : List ℕ) (P : Program → Type 0) (s j : ℕ) (x : Program) (ther
       (λ l. here i p h (omega arith) g)
 
 -- a repetition that runs counts its body
-some_times : (n : ℕ) (stops-too : Bool) → eqb n 0 ≡ false → 1 ≤ times n stops-too
+some_times : (n : ℕ) (stops_too : Bool) → eqb n 0 ≡ false → 1 ≤ times n stops_too
 some_times zero b e = absurd (false≢true (sym e))
 some_times (suc n) true e = omega arith
 some_times (suc n) false e = omega arith
@@ -79,9 +79,9 @@ first_weighs w t i p q h v e =
     let a = argued t i p h in
     let counts : Counts (argument_at t i) p = record { same = λ n f. rw f at a; cap_is = λ c cap f. (rw f at a).1 } in
     let is = (figures_of_one v counts).figure_is w in
-    let often-so = rw (kind_is t i p h) at (some_often (kind_at t i) (argument_at t i) (stops q) e) in
+    let often_so = rw (kind_is t i p h) at (some_often (kind_at t i) (argument_at t i) (stops q) e) in
     let all : figure w q ≤ figure w q = omega arith in
-    let more = mul-le-mul often-so all in
+    let more = mul-le-mul often_so all in
     omega arith
 
 pair_weighs : (w : Program → ℕ) (p q r : Program) → Two p q r → (figure w q ≤ figure w p) × (figure w r ≤ figure w p)
@@ -127,12 +127,12 @@ passed_so : (p : Program) → number_of (program_verdict p) ≡ 0 → Passes p
 unfolding program_verdict number_of
 passed_so p h =
     let Is : Checked → Type 0 = λ c. number_of c ≡ 0 in
-    let too-deep = first_such deep (preorder 1 p) in
+    let too_deep = first_such deep (preorder 1 p) in
     let never = first_such endless (preorder 1 p) in
-    let (shallow, h') = passed Is (ltb too-deep (size p)) h (λ e. omega arith) in
+    let (shallow, h') = passed Is (ltb too_deep (size p)) h (λ e. omega arith) in
     let (ending, h'') = passed Is (ltb never (size p)) h' (λ e. omega arith) in
     record {
-      shallow = omega (arith, ltb-false too-deep (size p) shallow, such_within deep (preorder 1 p), length_preorder p 1);
+      shallow = omega (arith, ltb-false too_deep (size p) shallow, such_within deep (preorder 1 p), length_preorder p 1);
       endings = omega (arith, ltb-false never (size p) ending, such_within endless (preorder 1 p), length_preorder p 1);
       light_so = (chosen Is (light p) h'' (λ e. omega arith)).0;
     }

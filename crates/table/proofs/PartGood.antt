@@ -126,16 +126,16 @@ module _ {t u : List ℕ} {j : ℕ} (p : Part t u j) where
       let f = p.front in
       let g : i < size_at t j = omega (arith, p.nodes_are) in
       let good = l.nodes_good (j + i) (inside f i g) in
-      let (Known-so, more) = both {a = known (kind_at t (j + i))} good in
-      let (zero-so, more') = both {a = eqb (zero_at t (j + i)) 0} more in
+      let (known_so, more) = both {a = known (kind_at t (j + i))} good in
+      let (zero_so, more') = both {a = eqb (zero_at t (j + i)) 0} more in
       let (below, rest) = both {a = ltb (argument_at t (j + i)) (argument_limit t (kind_at t (j + i)))} more' in
       rw (
         same_kind f i g,
         same_zero f i g,
         same_argument f i g,
         same_limit (kind_at t (j + i)),
-        Known-so,
-        zero-so,
+        known_so,
+        zero_so,
         below,
         root i g,
         p.nodes_are,
@@ -168,20 +168,20 @@ module _ {t u : List ℕ} {j : ℕ} (p : Part t u j) where
       let whole : 0 + configurations t ≡ configurations t = omega arith in
       let here : 0 + c ≡ c = omega arith in
       let good = (own_good_lem t l.configurations_good c h).0 in
-      let (kind-byte, more) = both {a = ltb (kind_byte t (configuration_at t c)) 64} good in
-      let (kind-low, more') = both {a = leb (kind_of t c) 3} more in
-      let (event-low, rest) = both {a = ltb (part_event t (configuration_at t c)) (cond (eqb (kind_of t c) 0) (events t) 1)} more' in
-      let laid-there : Laid (size_of t) (0 + configurations t) (0 + c) (parts (kind_of t c)) =
+      let (kind_known, more) = both {a = ltb (kind_byte t (configuration_at t c)) 64} good in
+      let (kind_low, more') = both {a = leb (kind_of t c) 3} more in
+      let (event_low, rest) = both {a = ltb (part_event t (configuration_at t c)) (cond (eqb (kind_of t c) 0) (events t) 1)} more' in
+      let laid_in_t : Laid (size_of t) (0 + configurations t) (0 + c) (parts (kind_of t c)) =
       rw (whole, here) (fine t c (kind_of t c) refl good).laid_out in
-      let laid_so = copied (size_of t) (size_of u) 0 (configurations t) c same h laid-there in
+      let laid_so = copied (size_of t) (size_of u) 0 (configurations t) c same h laid_in_t in
       rw (
         same_kind_byte c h,
         same_event_byte c h,
         p.events_are,
         p.configurations_are,
-        kind-byte,
-        kind-low,
-        event-low,
+        kind_known,
+        kind_low,
+        event_low,
         laid_so,
       )
     where

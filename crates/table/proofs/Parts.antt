@@ -46,7 +46,7 @@ node d p = record { depth = d; part = p }
 
 -- how often a figure counts the part of a program of kind k, a being its argument
 abbrev pub often : ℕ → ℕ → Bool → ℕ
-often k a part-stops = cond (eqb k 5) 2 (cond (eqb k 6) (times a part-stops) (cond (eqb k 15) (times (cap_in a) part-stops) 1))
+often k a part_stops = cond (eqb k 5) 2 (cond (eqb k 6) (times a part_stops) (cond (eqb k 15) (times (cap_in a) part_stops) 1))
 
 -- a program of kind k with one part never counts as stopping
 abbrev pub never_stops : ℕ → Bool
@@ -86,7 +86,7 @@ never_true : (e : ℕ) → not (leb 1 e) ≡ eqb e 0
 never_true zero = refl
 never_true (suc e) = rw (le-leb 1 (suc e) (omega arith), eqb-suc-zero e)
 
-spared : (never stops-too : Bool) → (never || stops-too) ≡ (stops-too || never)
+spared : (never stops_too : Bool) → (never || stops_too) ≡ (stops_too || never)
 spared true true = refl
 spared true false = refl
 spared false true = refl

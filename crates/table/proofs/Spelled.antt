@@ -133,15 +133,15 @@ module _ (t : List ℕ) where
   configuration_is c more (Event s) (k, z, e) = let n : 1 + more ≡ suc more = omega arith in rw (n, k) (ap Event e)
   configuration_is c more (Not d) (k, z, h) =
       let n : 1 + weight d + more ≡ suc (weight d + more) = omega arith in
-      rw (n, k) (ap Not (configuration_is _ more d h))
+      rw (n, k) (ap Not (configuration_is (c + 4) more d h))
   configuration_is c more (And d e) (k, z, h, g) =
       let n : 1 + weight d + weight e + more ≡ suc (weight d + (weight e + more)) = omega arith in
       let swap : weight d + (weight e + more) ≡ weight e + (weight d + more) = omega arith in
-      rw (n, k) (ap₂ And (configuration_is _ (weight e + more) d h) (rw swap (configuration_is _ (weight d + more) e g)))
+      rw (n, k) (ap₂ And (configuration_is (c + 4) (weight e + more) d h) (rw swap (configuration_is (second_part t c) (weight d + more) e g)))
   configuration_is c more (Or d e) (k, z, h, g) =
       let n : 1 + weight d + weight e + more ≡ suc (weight d + (weight e + more)) = omega arith in
       let swap : weight d + (weight e + more) ≡ weight e + (weight d + more) = omega arith in
-      rw (n, k) (ap₂ Or (configuration_is _ (weight e + more) d h) (rw swap (configuration_is _ (weight d + more) e g)))
+      rw (n, k) (ap₂ Or (configuration_is (c + 4) (weight e + more) d h) (rw swap (configuration_is (second_part t c) (weight d + more) e g)))
 
   pub one_configuration : (c : ℕ) (d e : Config) → Configured t c d → Configured t c e → d ≡ e
   one_configuration c d e h k =

@@ -18,10 +18,10 @@ rooted {t} l = record { long = omega (arith, l.framed.long); whole = root_size l
   where
     fits : (i : ℕ) → i < nodes t → (known (kind_at t i) && is_laid_out (size_at t) (nodes t) i (children (kind_at t i))) ≡ true
     fits i h =
-        let (kind-known, more) = both {a = known (kind_at t i)} (l.nodes_good i h) in
-        let (zero-so, more') = both {a = eqb (zero_at t i) 0} more in
+        let (kind_known, more) = both {a = known (kind_at t i)} (l.nodes_good i h) in
+        let (zero_so, more') = both {a = eqb (zero_at t i) 0} more in
         let (below, laid_so) = both {a = ltb (argument_at t i) (argument_limit t (kind_at t i))} more' in
-        rw (kind-known, (both {a = is_laid_out (size_at t) (nodes t) i (children (kind_at t i))} laid_so).0)
+        rw (kind_known, (both {a = is_laid_out (size_at t) (nodes t) i (children (kind_at t i))} laid_so).0)
 
 module _ {t : List ℕ} {n : ℕ} (r : Rooted t n) where
   pub known_at : (i : ℕ) → i < n → known (kind_at t i) ≡ true

@@ -112,8 +112,8 @@ module _ {t w : List ℕ} {n m v i top : ℕ} (P : SizedWhole t n m v) (s : Swep
 
   pub whole_weighs : Weighs (weight_at w 0) (tree_at t 0)
   whole_weighs =
-      let i-is : i ≡ 0 = omega arith in
-      let a = topmost t w top 0 (omega arith) (rw i-is at s.waits) in
+      let i_is : i ≡ 0 = omega arith in
+      let a = topmost t w top 0 (omega arith) (rw i_is at s.waits) in
       let k_is = none_behind t w (top - 1) (0 + size_at t 0) (omega arith) a.rest in
       rw k_is at a.weighs
 

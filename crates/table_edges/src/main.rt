@@ -1,28 +1,32 @@
 // The edges of refusals 1 to 8: each line is a point's name, then number, index, G, A, W and F of a table that stands on it.
 #![tactic(auto)]
 
+use console::{print_decimal, write_out};
+use std::io::Write;
 use table::Checked;
 
-fn main() {
-    any_size();
-    heights();
-    written_sizes();
-    by_written_sizes();
-    shared_parts();
-    bytes_that_are_0();
-    repeats();
-    no_times();
-    too_heavy();
-    order_of_records();
-    endless_loops();
-    order_of_frames();
-    parked();
+fn main(rt: HostRuntime) {
+    let mut out = rt.stdout();
+    any_size(&mut out);
+    heights(&mut out);
+    written_sizes(&mut out);
+    by_written_sizes(&mut out);
+    shared_parts(&mut out);
+    bytes_that_are_0(&mut out);
+    repeats(&mut out);
+    no_times(&mut out);
+    too_heavy(&mut out);
+    order_of_records(&mut out);
+    endless_loops(&mut out);
+    order_of_frames(&mut out);
+    parked(&mut out);
 }
 
 // Record 0 of the configurations is free to have any size that its parts give.
-fn any_size() {
+fn any_size(out: &mut impl Write) {
     // two lone events: record 0 needn't span both
     show(
+        out,
         b"A1",
         b"\x00\x00\x00\x00\x00\x01\
         \x00\x00\x00\x01\
@@ -31,6 +35,7 @@ fn any_size() {
     );
     // an event's size is 1 plus nothing, in record 0 too
     show(
+        out,
         b"A1",
         b"\x00\x00\x00\x00\x00\x01\
         \x00\x00\x00\x02\
@@ -40,9 +45,10 @@ fn any_size() {
 }
 
 // Heights of configurations.
-fn heights() {
+fn heights(out: &mut impl Write) {
     // 15 nots over an event are 16 high
     show(
+        out,
         b"A2",
         b"\x00\x00\x00\x00\x00\x01\
         \x01\x00\x00\x10\
@@ -65,6 +71,7 @@ fn heights() {
     );
     // 16 nots over an event are 17 high; the topmost is the lowest index
     show(
+        out,
         b"A2",
         b"\x00\x00\x00\x00\x00\x01\
         \x01\x00\x00\x11\
@@ -88,6 +95,7 @@ fn heights() {
     );
     // 16 nots over a record of kind 4, which counts 1: record 0 is 17 high
     show(
+        out,
         b"A2",
         b"\x00\x00\x00\x00\x00\x01\
         \x01\x00\x00\x11\
@@ -111,6 +119,7 @@ fn heights() {
     );
     // 15 nots over it are 16 high, so only record 15 is bad
     show(
+        out,
         b"A2",
         b"\x00\x00\x00\x00\x00\x01\
         \x01\x00\x00\x10\
@@ -134,9 +143,10 @@ fn heights() {
 }
 
 // The second child stands where the first's written size says.
-fn written_sizes() {
+fn written_sizes(out: &mut impl Write) {
     // record 1's second child is record 4, and 1 + 2 + 65,535 isn't 2
     show(
+        out,
         b"A3",
         b"\x03\x00\x00\x00\x00\x05\
         \x03\x00\x00\x00\x00\x02\
@@ -147,6 +157,7 @@ fn written_sizes() {
     );
     // a written size 0 makes record 1 both parts of the and, whose size 1 is then right; record 1 is bad itself
     show(
+        out,
         b"A3",
         b"\x00\x00\x00\x00\x00\x01\
         \x02\x00\x00\x01\
@@ -156,9 +167,10 @@ fn written_sizes() {
 }
 
 // A record is judged by its children's written sizes alone.
-fn by_written_sizes() {
+fn by_written_sizes(out: &mut impl Write) {
     // a Loop of size 3 over a Stop of size 2: only the Stop is bad
     show(
+        out,
         b"A4",
         b"\x05\x00\x00\x00\x00\x03\
         \x01\x00\x00\x00\x00\x02\
@@ -168,9 +180,10 @@ fn by_written_sizes() {
 }
 
 // A test may name a part of another configuration.
-fn shared_parts() {
+fn shared_parts(out: &mut impl Write) {
     // an Await of configuration 1, which is the part of configuration 0
     show(
+        out,
         b"A5",
         b"\x08\x00\x00\x01\x00\x01\
         \x01\x00\x00\x02\
@@ -179,6 +192,7 @@ fn shared_parts() {
     );
     // configuration 2 of 2 isn't there
     show(
+        out,
         b"A5",
         b"\x08\x00\x00\x02\x00\x01\
         \x01\x00\x00\x02\
@@ -188,15 +202,17 @@ fn shared_parts() {
 }
 
 // What must be 0.
-fn bytes_that_are_0() {
+fn bytes_that_are_0(out: &mut impl Write) {
     // a Nothing with argument 1
     show(
+        out,
         b"A6",
         b"\x00\x00\x00\x01\x00\x01\
         \x00\x01\x00\x00\x00\x01\x00\x06\x00\x00",
     );
     // a not with event byte 1
     show(
+        out,
         b"A6",
         b"\x00\x00\x00\x00\x00\x01\
         \x01\x01\x00\x02\
@@ -206,9 +222,10 @@ fn bytes_that_are_0() {
 }
 
 // How often a Repeat counts its body.
-fn repeats() {
+fn repeats(out: &mut impl Write) {
     // Repeat(1, Stop): the body stops, so it counts min(1, 2) times
     show(
+        out,
         b"A7",
         b"\x06\x00\x00\x01\x00\x02\
         \x01\x00\x00\x00\x00\x01\
@@ -216,6 +233,7 @@ fn repeats() {
     );
     // Repeat(3, Stop) counts it twice
     show(
+        out,
         b"A7",
         b"\x06\x00\x00\x03\x00\x02\
         \x01\x00\x00\x00\x00\x01\
@@ -223,6 +241,7 @@ fn repeats() {
     );
     // Repeat(3, Nothing) three times
     show(
+        out,
         b"A7",
         b"\x06\x00\x00\x03\x00\x02\
         \x00\x00\x00\x00\x00\x01\
@@ -231,9 +250,10 @@ fn repeats() {
 }
 
 // A Repeat of 0.
-fn no_times() {
+fn no_times(out: &mut impl Write) {
     // 0 times a body of 65,535 times 65,535 Generates weighs the Repeat alone
     show(
+        out,
         b"A8",
         b"\x06\x00\x00\x00\x00\x04\
         \x06\x00\xff\xff\x00\x03\
@@ -243,6 +263,7 @@ fn no_times() {
     );
     // once that body is too heavy
     show(
+        out,
         b"A8",
         b"\x06\x00\x00\x01\x00\x04\
         \x06\x00\xff\xff\x00\x03\
@@ -252,6 +273,7 @@ fn no_times() {
     );
     // a Loop that doesn't stop is refused below a Repeat of 0 too
     show(
+        out,
         b"A8",
         b"\x06\x00\x00\x00\x00\x03\
         \x05\x00\x00\x00\x00\x02\
@@ -261,9 +283,10 @@ fn no_times() {
 }
 
 // Refusal 8.
-fn too_heavy() {
+fn too_heavy(out: &mut impl Write) {
     // 4,094 Generates are the limit
     show(
+        out,
         b"A9",
         b"\x06\x00\x0f\xfe\x00\x02\
         \x07\x00\x00\x00\x00\x01\
@@ -271,6 +294,7 @@ fn too_heavy() {
     );
     // one more is refused with index and figures 0
     show(
+        out,
         b"A9",
         b"\x06\x00\x0f\xff\x00\x02\
         \x07\x00\x00\x00\x00\x01\
@@ -279,9 +303,10 @@ fn too_heavy() {
 }
 
 // Configurations before nodes, all records before the program.
-fn order_of_records() {
+fn order_of_records(out: &mut impl Write) {
     // node 0 has no kind 16, but configuration 1 is judged first
     show(
+        out,
         b"A10",
         b"\x10\x00\x00\x00\x00\x01\
         \x00\x00\x00\x01\
@@ -290,6 +315,7 @@ fn order_of_records() {
     );
     // Seq(Loop(Nothing), ..): the record of kind 16 comes before the Loop that doesn't stop
     show(
+        out,
         b"A10",
         b"\x03\x00\x00\x00\x00\x04\
         \x05\x00\x00\x00\x00\x02\
@@ -300,9 +326,10 @@ fn order_of_records() {
 }
 
 // The lowest Loop whose body doesn't stop.
-fn endless_loops() {
+fn endless_loops(out: &mut impl Write) {
     // Loop(Loop(Nothing)): the inner Loop's body doesn't stop; the inner Loop counts as stopping
     show(
+        out,
         b"A11",
         b"\x05\x00\x00\x00\x00\x03\
         \x05\x00\x00\x00\x00\x02\
@@ -312,15 +339,17 @@ fn endless_loops() {
 }
 
 // The counts before the distances.
-fn order_of_frames() {
+fn order_of_frames(out: &mut impl Write) {
     // no node, and a distance that is wrong as well
     show(
+        out,
         b"A12",
         b"\x00\x00\x00\x00\x00\x01\
         \x00\x00\x00\x00\x00\x01\x00\x05\x00\x00",
     );
     // N, M and V are fine, so the distance is what is wrong
     show(
+        out,
         b"A12",
         b"\x00\x00\x00\x00\x00\x01\
         \x00\x01\x00\x00\x00\x01\x00\x05\x00\x00",
@@ -328,9 +357,10 @@ fn order_of_frames() {
 }
 
 // Freezables: 8 for F, an event that isn't listed, and a Loop's body that doesn't stop.
-fn parked() {
+fn parked(out: &mut impl Write) {
     // 2,048 times a Freezable of two nodes parks 16,384 bytes
     show(
+        out,
         b"A13",
         b"\x06\x00\x08\x00\x00\x03\
         \x0d\x00\x00\x00\x00\x02\
@@ -339,6 +369,7 @@ fn parked() {
     );
     // once more is too much
     show(
+        out,
         b"A13",
         b"\x06\x00\x08\x01\x00\x03\
         \x0d\x00\x00\x00\x00\x02\
@@ -347,6 +378,7 @@ fn parked() {
     );
     // a Freezable in a Freezable: 12 bytes and 8
     show(
+        out,
         b"A13",
         b"\x0d\x00\x00\x00\x00\x03\
         \x0d\x00\x00\x00\x00\x02\
@@ -355,6 +387,7 @@ fn parked() {
     );
     // event 1 of one
     show(
+        out,
         b"A13",
         b"\x0d\x00\x00\x01\x00\x02\
         \x01\x00\x00\x00\x00\x01\
@@ -362,6 +395,7 @@ fn parked() {
     );
     // a Freezable over a Stop doesn't count as stopping
     show(
+        out,
         b"A13",
         b"\x05\x00\x00\x00\x00\x03\
         \x0d\x00\x00\x00\x00\x02\
@@ -370,38 +404,46 @@ fn parked() {
     );
 }
 
-fn show(point: &[u8], bytes: &[u8]) {
-    io::write_all(1, point);
+fn show(out: &mut impl Write, point: &[u8], bytes: &[u8]) {
+    write_out(out, point);
     let checked = table::check(bytes);
     match checked {
-        Checked::BadLength => fields(1, 0, 0, 0, 0, 0),
-        Checked::BadCounts => fields(2, 0, 0, 0, 0, 0),
-        Checked::BadDistances => fields(3, 0, 0, 0, 0, 0),
-        Checked::BadConfiguration(index) => fields(4, index, 0, 0, 0, 0),
-        Checked::BadNode(index) => fields(5, index, 0, 0, 0, 0),
-        Checked::TooDeep(index) => fields(6, index, 0, 0, 0, 0),
-        Checked::EndlessLoop(index) => fields(7, index, 0, 0, 0, 0),
-        Checked::TooHeavy => fields(8, 0, 0, 0, 0, 0),
+        Checked::BadLength => fields(out, 1, 0, 0, 0, 0, 0),
+        Checked::BadCounts => fields(out, 2, 0, 0, 0, 0, 0),
+        Checked::BadDistances => fields(out, 3, 0, 0, 0, 0, 0),
+        Checked::BadConfiguration(index) => fields(out, 4, index, 0, 0, 0, 0),
+        Checked::BadNode(index) => fields(out, 5, index, 0, 0, 0, 0),
+        Checked::TooDeep(index) => fields(out, 6, index, 0, 0, 0, 0),
+        Checked::EndlessLoop(index) => fields(out, 7, index, 0, 0, 0, 0),
+        Checked::TooHeavy => fields(out, 8, 0, 0, 0, 0, 0),
         Checked::Accepted {
             generations,
             atoms,
             nodes,
             parked,
-        } => fields(0, 0, generations, atoms, nodes, parked),
+        } => fields(out, 0, 0, generations, atoms, nodes, parked),
     }
 }
 
-fn fields(number: usize, index: usize, g: usize, a: usize, w: usize, f: usize) {
-    field(number);
-    field(index);
-    field(g);
-    field(a);
-    field(w);
-    field(f);
-    io::write_all(1, b"\n");
+fn fields(
+    out: &mut impl Write,
+    number: usize,
+    index: usize,
+    g: usize,
+    a: usize,
+    w: usize,
+    f: usize,
+) {
+    field(out, number);
+    field(out, index);
+    field(out, g);
+    field(out, a);
+    field(out, w);
+    field(out, f);
+    write_out(out, b"\n");
 }
 
-fn field(n: usize) {
-    io::write_all(1, b" ");
-    io::print_decimal(1, n as u64);
+fn field(out: &mut impl Write, n: usize) {
+    write_out(out, b" ");
+    print_decimal(out, n as u64);
 }

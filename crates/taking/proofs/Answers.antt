@@ -7,12 +7,14 @@ use mathlib.Core.List.{List, ◌++◌}
 use native.Mathlib.Omega.{arith}
 use lib.ListN.{length, take, drop}
 use Rattle.table.specs.declared.Checked.{Checked}
+use Rattle.table.specs.declared.Checked.TheVariants.{BadLength, BadCounts, BadDistances, BadConfiguration, BadNode, TooDeep}
+use Rattle.table.specs.declared.Checked.TheVariants.{EndlessLoop, TooHeavy, Accepted}
 use Rattle.table.specs.Records.{configurations, size_at}
 use Rattle.table.specs.Part.{part_table, part_length}
 use Rattle.table.specs.Verdict.{verdict_of, number_of}
 use Rattle.store.specs.Store.{node_of, piece_length, store_good, newest, without}
 use Rattle.taking.specs.declared.Taking.{Taking}
-use Rattle.taking.specs.declared.Taking.TheVariants.{Taken as was-taken, Table, BadStore, NoPiece, NoRoom}
+use Rattle.taking.specs.declared.Taking.TheVariants.{Taken as was_taken, Table, BadStore, NoPiece, NoRoom}
 use Rattle.taking.specs.declared.Taken.{Taken}
 use Rattle.taking.specs.Taking.{taking_number, has_rooms, take_outcome, Kept, Took}
 use Rattle.taking.specs.Inside.{TookAt}
@@ -26,7 +28,7 @@ kept : {s tableRoom stateRoom : List ℕ} {r : Taken} {o : Taking} → Refused r
 kept (i, a, b) = record { no_table = a; no_state = b; store_is = refl; table_is = refl; state_is = refl }
 
 -- a number other than 0 is no taking's
-not_taken : {q o : Taking} → q ≡ o → taking_number o ≢ 0 → q ≢ was-taken
+not_taken : {q o : Taking} → q ≡ o → taking_number o ≢ 0 → q ≢ was_taken
 unfolding taking_number
 not_taken i n z = n (ap taking_number (sym i ∙ z))
 
@@ -86,7 +88,7 @@ module _ {t s : List ℕ} {at j n m : ℕ} {tableRoom stateRoom : List ℕ} (i :
       → tableRoom' ≡ part_table t j ++ drop (part_length t j) tableRoom
       → stateRoom' ≡ take (4 * n) (drop (at + 4) s) ++ drop (4 * n) stateRoom
       → s' ≡ without (4 + 4 * n) at s
-      → TookAt t s at tableRoom stateRoom s' tableRoom' stateRoom' (record { outcome = was-taken; table = 6 * n + 4 * m + 10; state = 4 * n })
+      → TookAt t s at tableRoom stateRoom s' tableRoom' stateRoom' (record { outcome = was_taken; table = 6 * n + 4 * m + 10; state = 4 * n })
   left_behind a b x y z =
       let long : part_length t j ≡ 6 * n + 4 * m + 10 = omega arith in
       let bytes : 4 + 4 * n ≡ piece_length t s at = omega (arith, sized t s at i e) in

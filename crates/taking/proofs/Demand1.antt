@@ -23,20 +23,20 @@ use Rattle.store.proofs.OneStore.{one_store}
 use Rattle.store.proofs.GoodStore.{good_store, stored}
 use Rattle.store.proofs.Closed.{parts_of}
 use Rattle.taking.specs.declared.Taking.{Taking}
-use Rattle.taking.specs.declared.Taking.TheVariants.{Taken as was-taken, Table, BadStore, NoPiece, NoRoom}
+use Rattle.taking.specs.declared.Taking.TheVariants.{Taken as was_taken, Table, BadStore, NoPiece, NoRoom}
 use Rattle.taking.specs.Taking.{taking_number, taking_index, has_rooms, take_outcome}
 use Rattle.taking.specs.TakenWell.{Bytes}
-use Rattle.taking.specs.Demand1.{Handed, handed, TooLong, Check, its-table, its-store, its-piece, its-rooms}
+use Rattle.taking.specs.Demand1.{Handed, handed, TooLong, Check, its_table, its_store, its_piece, its_rooms}
 use Rattle.taking.specs.Demand1.{Fails, Passes, FirstFailure, AllPassed, checks, ByFirstCheck, Demand1}
 use Rattle.taking.proofs.Found.{found, none_found, found_there}
 
 module _ (h : Handed) where
   -- a check fails with one number and one index
   one_failure : (c : Check) (n i m j : ℕ) → Fails c h n i → Fails c h m j → (n ≡ m) × (i ≡ j)
-  one_failure its-table n i m j (x, a, b) (y, c, d) = (a ∙ sym c, b ∙ sym d)
-  one_failure its-store n i m j (x, a, b) (y, c, d) = (a ∙ sym c, b ∙ sym d)
-  one_failure its-piece n i m j (x, a, b) (y, c, d) = (a ∙ sym c, b ∙ sym d)
-  one_failure its-rooms n i m j (x, a, b) (y, c, d) = (a ∙ sym c, b ∙ sym d)
+  one_failure its_table n i m j (x, a, b) (y, c, d) = (a ∙ sym c, b ∙ sym d)
+  one_failure its_store n i m j (x, a, b) (y, c, d) = (a ∙ sym c, b ∙ sym d)
+  one_failure its_piece n i m j (x, a, b) (y, c, d) = (a ∙ sym c, b ∙ sym d)
+  one_failure its_rooms n i m j (x, a, b) (y, c, d) = (a ∙ sym c, b ∙ sym d)
 
   one_first : (l : List Check) (n i m j : ℕ) → FirstFailure l h n i → FirstFailure l h m j → (n ≡ m) × (i ≡ j)
   unfolding FirstFailure
@@ -124,8 +124,8 @@ module _ (t s : List ℕ) (e : ℕ) (tableRoom stateRoom : List ℕ) (small : By
       let same = same_last e z.older f.older (one_store y.stood x.stood) x.its_event y.its_event x.no_newer y.no_newer in
       let n : size_at t (node_of s at) ≡ size (prog z.piece.state) =
       ap (size_at t) there.node_is ∙ (there.sized ∙ ap (λ (p : Piece). size (prog p.state)) (sym same)) in
-      let (roomy-table, roomy-state) = both {a = leb (part_length t (node_of s at)) (length tableRoom)} h in
-      go n (leb-true _ _ roomy-table) (leb-true _ _ roomy-state) z.short
+      let (roomy_table, roomy_state) = both {a = leb (part_length t (node_of s at)) (length tableRoom)} h in
+      go n (leb-true _ _ roomy_table) (leb-true _ _ roomy_state) z.short
     where
       go : {k : ℕ} → size_at t (node_of s at) ≡ k → part_length t (node_of s at) ≤ length tableRoom → 4 * size_at t (node_of s at) ≤ length stateRoom
           → (length tableRoom < 6 * k + 4 * configurations t + 10) ⊎ (length stateRoom < 4 * k)
@@ -133,22 +133,22 @@ module _ (t s : List ℕ) (e : ℕ) (tableRoom stateRoom : List ℕ) (small : By
       go n a b (inl c) = omega arith
       go n a b (inr c) = omega arith
 
-  passes_table : number_of (verdict_of t) ≡ 0 → Passes its-table given
+  passes_table : number_of (verdict_of t) ≡ 0 → Passes its_table given
   passes_table ok n i (f, a, b) = f ok
 
   module _ (ok : number_of (verdict_of t) ≡ 0) (l : List Piece) (a : Stored t s l) where
-    passes_store : Passes its-store given
+    passes_store : Passes its_store given
     passes_store n i (f, x, y) = f l a
 
-    passes_piece : at ≢ 0 → Passes its-piece given
+    passes_piece : at ≢ 0 → Passes its_piece given
     passes_piece some n i (f, x, y) =
         let g = found e a some in
         f g.older g.newer g.piece g.is_newest.stood g.is_newest.its_event
 
-    passes_rooms : at ≢ 0 → has_rooms t (node_of s at) tableRoom stateRoom ≡ true → Passes its-rooms given
+    passes_rooms : at ≢ 0 → has_rooms t (node_of s at) tableRoom stateRoom ≡ true → Passes its_rooms given
     passes_rooms some h n i (z, x, y) = long_enough l a some h z
 
-    by_rooms : at ≢ 0 → (b : Bool) → has_rooms t (node_of s at) tableRoom stateRoom ≡ b → By (cond b was-taken NoRoom)
+    by_rooms : at ≢ 0 → (b : Bool) → has_rooms t (node_of s at) tableRoom stateRoom ≡ b → By (cond b was_taken NoRoom)
     unfolding taking_number taking_index FirstFailure AllPassed
     by_rooms some true h =
         passed_by given (passes_table ok, (passes_store, (passes_piece some, (passes_rooms some h, tt))))
@@ -157,7 +157,7 @@ module _ (t s : List ℕ) (e : ℕ) (tableRoom stateRoom : List ℕ) (small : By
         (inr (passes_table ok, inr (passes_store, inr (passes_piece some, inl (short_for l a some h, refl, refl)))))
         (λ z. omega arith)
 
-    by_piece : (b : Bool) → eqb at 0 ≡ b → By (cond b NoPiece (cond (has_rooms t (node_of s at) tableRoom stateRoom) was-taken NoRoom))
+    by_piece : (b : Bool) → eqb at 0 ≡ b → By (cond b NoPiece (cond (has_rooms t (node_of s at) tableRoom stateRoom) was_taken NoRoom))
     unfolding taking_number taking_index FirstFailure
     by_piece true h =
         refused_by given 14 0
@@ -169,7 +169,7 @@ module _ (t s : List ℕ) (e : ℕ) (tableRoom stateRoom : List ℕ) (small : By
     by_piece false h = by_rooms (eqb-false _ _ h) (has_rooms t (node_of s at) tableRoom stateRoom) refl
 
   by_store : number_of (verdict_of t) ≡ 0 → (b : Bool) → store_good t s ≡ b
-      → By (cond b (cond (eqb at 0) NoPiece (cond (has_rooms t (node_of s at) tableRoom stateRoom) was-taken NoRoom)) BadStore)
+      → By (cond b (cond (eqb at 0) NoPiece (cond (has_rooms t (node_of s at) tableRoom stateRoom) was_taken NoRoom)) BadStore)
   unfolding taking_number taking_index FirstFailure
   by_store ok true h = let (l, a) = stored (accepted t ok).loaded small h in by_piece ok l a (eqb at 0) refl
   by_store ok false h =
@@ -182,7 +182,7 @@ module _ (t s : List ℕ) (e : ℕ) (tableRoom stateRoom : List ℕ) (small : By
   by_checks = go (eqb (number_of (verdict_of t)) 0) refl
     where
       go : (b : Bool) → eqb (number_of (verdict_of t)) 0 ≡ b
-          → By (cond b (cond (store_good t s) (cond (eqb at 0) NoPiece (cond (has_rooms t (node_of s at) tableRoom stateRoom) was-taken NoRoom)) BadStore)
+          → By (cond b (cond (store_good t s) (cond (eqb at 0) NoPiece (cond (has_rooms t (node_of s at) tableRoom stateRoom) was_taken NoRoom)) BadStore)
           (Table (verdict_of t)))
       go true h = by_store (eqb-true _ _ h) (store_good t s) refl
       go false h = refused_by given (number_of (verdict_of t)) (index_of (verdict_of t)) (inl (eqb-false _ _ h, refl, refl)) (eqb-false _ _ h)

@@ -9,12 +9,12 @@ use Rattle.table.specs.Records.{size_at}
 use Rattle.table.specs.Part.{part_table, part_length}
 use Rattle.store.specs.Store.{node_of, piece_length, newest, without}
 use Rattle.taking.specs.declared.Taking.{Taking}
-use Rattle.taking.specs.declared.Taking.TheVariants.{Taken as was-taken, Table, BadStore, NoPiece, NoRoom}
+use Rattle.taking.specs.declared.Taking.TheVariants.{Taken as was_taken, Table, BadStore, NoPiece, NoRoom}
 use Rattle.taking.specs.declared.Taken.{Taken}
 use Rattle.taking.specs.Taking.{take_outcome, Took}
 
-unfoldable pub taken_or_not : (o : Taking) → (o ≡ was-taken) ⊎ (o ≢ was-taken)
-taken_or_not was-taken = inl refl
+unfoldable pub taken_or_not : (o : Taking) → (o ≡ was_taken) ⊎ (o ≢ was_taken)
+taken_or_not was_taken = inl refl
 taken_or_not (Table c) = inr (λ e. let z : ◌≡◌ {A = ℕ} 0 1 = cc in omega arith)
 taken_or_not BadStore = inr (λ e. let z : ◌≡◌ {A = ℕ} 0 1 = cc in omega arith)
 taken_or_not NoPiece = inr (λ e. let z : ◌≡◌ {A = ℕ} 0 1 = cc in omega arith)
@@ -29,7 +29,7 @@ pub record Outcome : Type 0 where
 
 module _ (t s : List ℕ) (e : ℕ) (tableRoom stateRoom : List ℕ) where
   -- the one that the bytes allow
-  unfoldable pub worked_out_by : (o : Taking) → (o ≡ was-taken) ⊎ (o ≢ was-taken) → Outcome
+  unfoldable pub worked_out_by : (o : Taking) → (o ≡ was_taken) ⊎ (o ≢ was_taken) → Outcome
   worked_out_by o (inl h) =
       let at = newest t s e in
       let j = node_of s at in
@@ -53,7 +53,7 @@ module _ (t s : List ℕ) (e : ℕ) (tableRoom stateRoom : List ℕ) where
   unfolding worked_out_by
   is_worked_out q h = go (take_outcome t s e tableRoom stateRoom) h.outcome_is (taken_or_not (take_outcome t s e tableRoom stateRoom))
     where
-      go : (o : Taking) → q.answer.outcome ≡ o → (c : (o ≡ was-taken) ⊎ (o ≢ was-taken)) → q ≡ worked_out_by o c
+      go : (o : Taking) → q.answer.outcome ≡ o → (c : (o ≡ was_taken) ⊎ (o ≢ was_taken)) → q ≡ worked_out_by o c
       go o i (inl c) =
           let l = h.taken (i ∙ c) in
           λ k. record {
@@ -72,7 +72,7 @@ module _ (t s : List ℕ) (e : ℕ) (tableRoom stateRoom : List ℕ) where
           }
 
   -- and it is allowed
-  worked_out_so : (o : Taking) → o ≡ take_outcome t s e tableRoom stateRoom → (c : (o ≡ was-taken) ⊎ (o ≢ was-taken)) → (q : Outcome)
+  worked_out_so : (o : Taking) → o ≡ take_outcome t s e tableRoom stateRoom → (c : (o ≡ was_taken) ⊎ (o ≢ was_taken)) → (q : Outcome)
       → q ≡ worked_out_by o c
       → Took t s e tableRoom stateRoom q.store q.table q.state q.answer
   unfolding worked_out_by

@@ -15,7 +15,7 @@ use Rattle.table.proofs.Accepted.{chosen, passed}
 use Rattle.table.proofs.Laid.{both}
 use Rattle.store.specs.Store.{node_of, store_good, newest}
 use Rattle.taking.specs.declared.Taking.{Taking}
-use Rattle.taking.specs.declared.Taking.TheVariants.{Taken as was-taken, Table, BadStore, NoPiece, NoRoom}
+use Rattle.taking.specs.declared.Taking.TheVariants.{Taken as was_taken, Table, BadStore, NoPiece, NoRoom}
 use Rattle.taking.specs.Taking.{has_rooms, take_outcome}
 
 -- 15, by the two rooms
@@ -45,23 +45,23 @@ module _ (t s : List ℕ) (e : ℕ) (tableRoom stateRoom : List ℕ) where
       no_piece h = rw (eq-eqb (number_of (verdict_of t)) 0 ok, good, eq-eqb (newest t s e) 0 h)
 
       pub by_rooms : newest t s e ≢ 0
-          → take_outcome t s e tableRoom stateRoom ≡ cond (has_rooms t (node_of s (newest t s e)) tableRoom stateRoom) was-taken NoRoom
+          → take_outcome t s e tableRoom stateRoom ≡ cond (has_rooms t (node_of s (newest t s e)) tableRoom stateRoom) was_taken NoRoom
       unfolding take_outcome
       by_rooms h = rw (eq-eqb (number_of (verdict_of t)) 0 ok, good, ne_eqb (newest t s e) 0 h)
 
 -- past all checks
 pub record Passed (t s : List ℕ) (e : ℕ) (tableRoom stateRoom : List ℕ) : Type 0 where
   pub table_good : number_of (verdict_of t) ≡ 0
-  pub store_good_lem : store_good t s ≡ true
+  pub store_passes : store_good t s ≡ true
   pub some : newest t s e ≢ 0
   pub table_room : part_length t (node_of s (newest t s e)) ≤ length tableRoom
   pub state_room : 4 * size_at t (node_of s (newest t s e)) ≤ length stateRoom
 
-pub all_passed : (t s : List ℕ) (e : ℕ) (tableRoom stateRoom : List ℕ) → take_outcome t s e tableRoom stateRoom ≡ was-taken
+pub all_passed : (t s : List ℕ) (e : ℕ) (tableRoom stateRoom : List ℕ) → take_outcome t s e tableRoom stateRoom ≡ was_taken
     → Passed t s e tableRoom stateRoom
 unfolding take_outcome
 all_passed t s e tableRoom stateRoom h =
-    let Is : Taking → Type 0 = λ o. o ≡ was-taken in
+    let Is : Taking → Type 0 = λ o. o ≡ was_taken in
     let j = node_of s (newest t s e) in
     let (ok, h') = chosen Is (eqb (number_of (verdict_of t)) 0) h (λ z. let n : ◌≡◌ {A = ℕ} 0 1 = cc in omega arith) in
     let (good, h'') = chosen Is (store_good t s) h' (λ z. let n : ◌≡◌ {A = ℕ} 0 1 = cc in omega arith) in
@@ -70,7 +70,7 @@ all_passed t s e tableRoom stateRoom h =
     let (a, b) = both {a = leb (part_length t j) (length tableRoom)} rooms in
     record {
       table_good = eqb-true _ _ ok;
-      store_good_lem = good;
+      store_passes = good;
       some = eqb-false _ _ there;
       table_room = leb-true _ _ a;
       state_room = leb-true _ _ b;

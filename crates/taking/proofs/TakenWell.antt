@@ -119,21 +119,21 @@ takes_well =
       well = λ {t} {s} {e} {tableRoom} {stateRoom} {s'} {tableRoom'} {stateRoom'} {r} small o taken.
           let p = all_passed t s e tableRoom stateRoom (sym o.outcome_is ∙ taken) in
           let l = (accepted t p.table_good).loaded in
-          let f = found_in e l small p.store_good_lem p.some in
+          let f = found_in e l small p.store_passes p.some in
           let x = f.piece in
           let there = found_there f in
           let left = o.taken taken in
           let b = belongs f in
           let stood = f.is_newest.stood in
           let bytes : length (piece_bytes x) ≡ piece_length t s (newest t s e) = sym there.long in
-          let own-part = own p.table_good b in
+          let own_part = own p.table_good b in
           let table : take r.table tableRoom' ≡ part_table t x.node =
           ap (take r.table) (rw there.node_is at left.table_is)
-          ∙ take_at (part_table t x.node) _ r.table (own-part.long ∙ sym (rw there.node_is at left.table_length)) in
-          let state-bytes : take r.state (drop (newest t s e + 4) s) ≡ state_bytes x.state =
+          ∙ take_at (part_table t x.node) _ r.table (own_part.long ∙ sym (rw there.node_is at left.table_length)) in
+          let bytes_taken : take r.state (drop (newest t s e + 4) s) ≡ state_bytes x.state =
           rw (left.state_length, there.node_is) there.state_is in
           let state : take r.state stateRoom' ≡ state_bytes x.state =
-          ap (take r.state) (rw state-bytes at left.state_is)
+          ap (take r.state) (rw bytes_taken at left.state_is)
           ∙ take_at (state_bytes x.state) _ r.state
           (len_bytes x.state ∙ sym (rw (there.node_is, there.sized) at left.state_length)) in
           let stays = rw (bytes, ← f.at_is) at (closed f.older x f.newer stood) in
@@ -150,7 +150,7 @@ takes_well =
                 (room_more s _ (newest t s e) (omega (arith, f.at_is))
                 (rw (bytes, ← f.at_is) at (within f.older x f.newer stood)) stood.all small);
             accepts = own_accepts p.table_good b;
-            same_events = own-part.events_are;
+            same_events = own_part.events_are;
             no_heavier = no_heavier p.table_good b;
           });
     }

@@ -5,7 +5,7 @@ use Rattle.table.specs.declared.Checked.TheVariants.{EndlessLoop}
 use Rattle.table.specs.Bytes.{node, configuration, trailer}
 use Rattle.store.specs.Store.{two}
 use Rattle.taking.specs.declared.Taking.{Taking}
-use Rattle.taking.specs.declared.Taking.TheVariants.{Taken as was-taken, Table, BadStore, NoPiece, NoRoom}
+use Rattle.taking.specs.declared.Taking.TheVariants.{Taken as was_taken, Table, BadStore, NoPiece, NoRoom}
 use Rattle.taking.specs.declared.Taken.{Taken}
 use Rattle.taking.specs.Taking.{taking_number, taking_index, Took}
 
@@ -82,7 +82,7 @@ takes k t s e u x s' =
       event = e;
       table_room = replicate (length u + k) 255;
       state_room = replicate (length x + k) 255;
-      answer = record { outcome = was-taken; table = length u; state = length x };
+      answer = record { outcome = was_taken; table = length u; state = length x };
       number = 0;
       index = 0;
       store_after = s';

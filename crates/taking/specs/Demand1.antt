@@ -34,19 +34,19 @@ pub record TooLong (h : Handed) : Type 0 where
 
 -- the checks, in their order: "taking gives 1 to 8, 25, 14 no such piece, 15 no room to take it"
 pub data Check : Type 0 where
-  its-table its-store its-piece its-rooms : Check
+  its_table its_store its_piece its_rooms : Check
 
 -- a check fails, with a number and an index
 abbrev pub Fails : Check → Handed → ℕ → ℕ → Type 0
 -- "1 to 8": what check refuses, as it does
-Fails its-table h n i =
+Fails its_table h n i =
     (number_of (verdict_of h.table) ≢ 0) × (n ≡ number_of (verdict_of h.table)) × (i ≡ index_of (verdict_of h.table))
 -- 25: no pieces stand in the store so that they are all of it
-Fails its-store h n i = ((l : List Piece) → Stored h.table h.store l → ⊥) × (n ≡ 25) × (i ≡ 0)
+Fails its_store h n i = ((l : List Piece) → Stored h.table h.store l → ⊥) × (n ≡ 25) × (i ≡ 0)
 -- "14 no such piece"
-Fails its-piece h n i =
+Fails its_piece h n i =
     ((l m : List Piece) (x : Piece) → Stored h.table h.store (l ++ (x ∷ m)) → x.event ≢ h.event) × (n ≡ 14) × (i ≡ 0)
-Fails its-rooms h n i = TooLong h × (n ≡ 15) × (i ≡ 0)
+Fails its_rooms h n i = TooLong h × (n ≡ 15) × (i ≡ 0)
 
 abbrev pub Passes : Check → Handed → Type 0
 Passes c h = (n i : ℕ) → Fails c h n i → ⊥
@@ -61,7 +61,7 @@ AllPassed [] h = Unit {0}
 AllPassed (c ∷ l) h = Passes c h × AllPassed l h
 
 abbrev pub checks : List Check
-checks = its-table ∷ its-store ∷ its-piece ∷ its-rooms ∷ []
+checks = its_table ∷ its_store ∷ its_piece ∷ its_rooms ∷ []
 
 -- a taking answers with this number and index
 pub record ByFirstCheck (h : Handed) (n i : ℕ) : Type 0 where

@@ -4,7 +4,7 @@ use Rattle.table.specs.Records.{nodes, configurations, events}
 use Rattle.table.specs.Bytes.{trailer}
 use Rattle.table.specs.Inside.{Loaded}
 use Rattle.store.specs.Store.{in_use, node_of, piece_length}
-use Rattle.taking.specs.declared.Taking.TheVariants.{Taken as was-taken, NoRoom}
+use Rattle.taking.specs.declared.Taking.TheVariants.{Taken as was_taken, NoRoom}
 use Rattle.taking.specs.declared.Taken.{Taken}
 use Rattle.taking.specs.Taking.{has_rooms, Left, Kept}
 
@@ -18,9 +18,9 @@ pub record Holding (t s : List ℕ) (at : ℕ) : Type 0 where
 
 -- it was taken, or there was no room
 pub record TookAt (t s : List ℕ) (at : ℕ) (tableRoom stateRoom s' tableRoom' stateRoom' : List ℕ) (r : Taken) : Type 0 where
-  pub outcome_is : r.outcome ≡ cond (has_rooms t (node_of s at) tableRoom stateRoom) was-taken NoRoom
-  pub taken : r.outcome ≡ was-taken → Left t s at tableRoom stateRoom s' tableRoom' stateRoom' r
-  pub refused : r.outcome ≢ was-taken → Kept s tableRoom stateRoom s' tableRoom' stateRoom' r
+  pub outcome_is : r.outcome ≡ cond (has_rooms t (node_of s at) tableRoom stateRoom) was_taken NoRoom
+  pub taken : r.outcome ≡ was_taken → Left t s at tableRoom stateRoom s' tableRoom' stateRoom' r
+  pub refused : r.outcome ≢ was_taken → Kept s tableRoom stateRoom s' tableRoom' stateRoom' r
 
 -- what stands in a part of a table behind its n nodes
 abbrev pub behind_nodes : List ℕ → ℕ → List ℕ

@@ -5,7 +5,7 @@ use Rattle.junior.specs.Program.{Program}
 use Rattle.junior.specs.Term.{Term, prog}
 use Rattle.junior.specs.Trace.{Piece}
 use Rattle.junior.specs.AtRest.{AtRest}
-use Rattle.junior.specs.Parked.{All, piece_length_lem}
+use Rattle.junior.specs.Parked.{All, stored_length}
 use Rattle.junior.specs.Figures.{figure, G, A, W, F}
 use Rattle.table.specs.declared.Checked.TheVariants.{Accepted}
 use Rattle.table.specs.Records.{byte, nodes, events}
@@ -15,7 +15,7 @@ use Rattle.state.specs.StateBytes.{state_bytes}
 use Rattle.state.specs.Resting.{blamed}
 use Rattle.store.specs.Store.{store_good, store_room}
 use Rattle.store.specs.Stored.{Stored}
-use Rattle.taking.specs.declared.Taking.TheVariants.{Taken as was-taken}
+use Rattle.taking.specs.declared.Taking.TheVariants.{Taken as was_taken}
 use Rattle.taking.specs.declared.Taken.{Taken}
 use Rattle.taking.specs.Taking.{Took}
 
@@ -47,7 +47,7 @@ pub record TakenWell (t s : List ℕ) (e : ℕ) (s' table state : List ℕ) : Ty
   -- the store that stays: its pieces, that it passes 25, its room
   pub stays : Stored t s' (older ++ newer)
   pub good_again : store_good t s' ≡ true
-  pub room_again : store_room s' ≡ store_room s + piece_length_lem piece
+  pub room_again : store_room s' ≡ store_room s + stored_length piece
   -- what leaves, of the same V, and no figure of it above the whole table's
   pub accepts : Accepts table state piece.state
   pub same_events : events table ≡ events t
@@ -58,5 +58,5 @@ pub record TakesWell : Type 0 where
   pub well : {t s : List ℕ} {e : ℕ} {tableRoom stateRoom s' tableRoom' stateRoom' : List ℕ} {r : Taken}
       → Bytes s
       → Took t s e tableRoom stateRoom s' tableRoom' stateRoom' r
-      → r.outcome ≡ was-taken
+      → r.outcome ≡ was_taken
       → TakenWell t s e s' (take r.table tableRoom') (take r.state stateRoom')

@@ -5,12 +5,12 @@ use Rattle.table.specs.Part.{part_table, part_length}
 use Rattle.table.specs.Verdict.{verdict_of, number_of, index_of}
 use Rattle.store.specs.Store.{node_of, piece_length, store_good, newest, without}
 use Rattle.taking.specs.declared.Taking.{Taking}
-use Rattle.taking.specs.declared.Taking.TheVariants.{Taken as was-taken, Table, BadStore, NoPiece, NoRoom}
+use Rattle.taking.specs.declared.Taking.TheVariants.{Taken as was_taken, Table, BadStore, NoPiece, NoRoom}
 use Rattle.taking.specs.declared.Taken.{Taken}
 
 -- "taking gives 1 to 8, 25, 14 no such piece, 15 no room to take it"
 unfoldable pub taking_number : Taking → ℕ
-taking_number was-taken = 0
+taking_number was_taken = 0
 taking_number (Table c) = number_of c
 taking_number BadStore = 25
 taking_number NoPiece = 14
@@ -18,7 +18,7 @@ taking_number NoRoom = 15
 
 -- only a table's refusal has an index other than 0
 unfoldable pub taking_index : Taking → ℕ
-taking_index was-taken = 0
+taking_index was_taken = 0
 taking_index (Table c) = index_of c
 taking_index BadStore = 0
 taking_index NoPiece = 0
@@ -32,7 +32,7 @@ has_rooms t j tableRoom stateRoom = leb (part_length t j) (length tableRoom) && 
 unfoldable pub take_outcome : List ℕ → List ℕ → ℕ → List ℕ → List ℕ → Taking
 take_outcome t s e tableRoom stateRoom =
     let at = newest t s e in
-    let roomy = cond (has_rooms t (node_of s at) tableRoom stateRoom) was-taken NoRoom in
+    let roomy = cond (has_rooms t (node_of s at) tableRoom stateRoom) was_taken NoRoom in
     let found = cond (eqb at 0) NoPiece roomy in
     let stored = cond (store_good t s) found BadStore in
     cond (eqb (number_of (verdict_of t)) 0) stored (Table (verdict_of t))
@@ -57,5 +57,5 @@ pub record Kept (s tableRoom stateRoom s' tableRoom' stateRoom' : List ℕ) (r :
 -- the whole of what a taking answers and leaves: "the newest piece of an event"
 pub record Took (t s : List ℕ) (e : ℕ) (tableRoom stateRoom s' tableRoom' stateRoom' : List ℕ) (r : Taken) : Type 0 where
   pub outcome_is : r.outcome ≡ take_outcome t s e tableRoom stateRoom
-  pub taken : r.outcome ≡ was-taken → Left t s (newest t s e) tableRoom stateRoom s' tableRoom' stateRoom' r
-  pub refused : r.outcome ≢ was-taken → Kept s tableRoom stateRoom s' tableRoom' stateRoom' r
+  pub taken : r.outcome ≡ was_taken → Left t s (newest t s e) tableRoom stateRoom s' tableRoom' stateRoom' r
+  pub refused : r.outcome ≢ was_taken → Kept s tableRoom stateRoom s' tableRoom' stateRoom' r

@@ -35,7 +35,7 @@ use Rattle.text.specs.Examples.{All, none, more, blank, controls, shared, await_
 use Rattle.form.specs.Inside.Machine.{Next, dead, on, run, reach}
 use Rattle.form.specs.Inside.ReadTo.{start}
 use Rattle.form.proofs.Spelled.{says_spell}
-use Rattle.form.proofs.FailsHere.{stops as stops-there, fails as fails-there}
+use Rattle.form.proofs.FailsHere.{stops as stops_there, fails as fails_there}
 use Rattle.form.proofs.RoundTrip.{made_too_large}
 
 -- nothing is still to come
@@ -46,7 +46,7 @@ read_whole (on (s ∷ σ)) = false
 
 fails_here : (w room : List ℕ) → read_whole (run start w) ≡ false → Reads w room room (answered.Fails (reach start w))
 fails_here w room h =
-    Reads.fails (reach start w) (fails-there w _ (stops-there w start) (λ e. false≢true (sym h ∙ ap read_whole e)))
+    Reads.fails (reach start w) (fails_there w _ (stops_there w start) (λ e. false≢true (sym h ∙ ap read_whole e)))
 
 -- F9
 controls_size : (n : ℕ) → size (controls n) ≡ suc n

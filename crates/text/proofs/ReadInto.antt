@@ -4,8 +4,7 @@ use mathlib.Core.Path.{◌≡◌, ap, subst, ◌∙◌}
 use mathlib.Core.Logic.{◌≢◌}
 use mathlib.Core.List.{List, ◌++◌}
 use native.Mathlib.Omega.{arith}
-use lib.ListN.{length, take, drop}
-use lib.Seq.{take_all}
+use lib.ListN.{length, drop}
 use Rattle.table.specs.declared.Checked.{Checked}
 use Rattle.table.specs.Verdict.{verdict_of, number_of}
 use Rattle.text.specs.declared.TextRead.TheVariants as answered
@@ -48,8 +47,7 @@ module _ {text : List ℕ} {n m v long : ℕ} (b : Buildable text n m v long) (r
   table_refused c e n = rw (e, made) (refused b.0 b.1.says fitting (rw (e, made) at n))
 
   pub table_read : (after : List ℕ) (k : ℕ) → number_of (verdict_of t) ≡ 0 → k ≡ length t
-      → after ≡ take (length t) t ++ drop (length t) room
+      → after ≡ t ++ drop (length t) room
       → Reads text room after (answered.Read k)
   table_read after k e l a =
-      let whole = a ∙ ap (λ (u : List ℕ). u ++ drop (length t) room) (take_all (length t) t (omega arith)) in
-      rw (whole, made, l ∙ (ap length made ∙ table_length b.0)) (read b.0 b.1.says fitting (rw made at e))
+      rw (a, made, l ∙ (ap length made ∙ table_length b.0)) (read b.0 b.1.says fitting (rw made at e))

@@ -3,7 +3,6 @@
 
 use table::Checked;
 
-pub mod exports;
 pub mod numbers;
 pub mod print;
 pub mod read;

@@ -5,7 +5,6 @@ ghost use Rattle.builder.specs.Building.{Buildable};
 
 use crate::TextRead;
 use builder::build::build;
-use bytes::copy;
 use scanner::scan::{Scanned, scan};
 use table::{Checked, check};
 
@@ -94,7 +93,11 @@ fn read_through(
             atoms: _,
             nodes: _,
             parked: _,
-        } => TextRead::Read(copy(made, table)),
+        } => {
+            let long = made.len();
+            table[..long].copy_from_slice(made);
+            TextRead::Read(long)
+        }
         _ => TextRead::Refused(verdict),
     }
 }

@@ -99,9 +99,9 @@ module _ {t s : List ℕ} {i : ℕ} where
   own_view_of (if2 v p u) h X e = neither (λ Y. refl)
 
   module _ {x : Term} (h : StandsAt t s i x) (X : Events) {w : Wait} (e : waiting_in i x X ≡ some w) {k ph : ℕ}
-      (kind-read : k ≡ kind_at t i) (phase-read : ph ≡ get_or s (4 * i) 0) where
+      (kind_read : k ≡ kind_at t i) (phase_read : ph ≡ get_or s (4 * i) 0) where
     view : OwnView t i (is_test k ph) (waits_itself k ph) x
-    view = rw (kind-read ∙ kind_is h, phase-read ∙ phase_is h) (own_view_of x h X e)
+    view = rw (kind_read ∙ kind_is h, phase_read ∙ phase_is h) (own_view_of x h X e)
 
     -- by the code's tests
     pub test_waits : is_test k ph ≡ true → (r : ℕ) → ((c : Config) → Configured t (tested t i) c → Tells (lacks c X) r) → Tells (own_wait x X) r
@@ -155,7 +155,7 @@ pub event_tells : {t s : List ℕ} {i k r : ℕ} {x : Term} → StandsAt t s i x
     → o ≡ cond (X (argument_at t i)) none (some (argument_at t i))
     → X (argument_at t i) ≡ false
     → Tells o r
-event_tells h kind-read so r-is X e y = rw (e, y) (r-is, omega (arith, event_below h kind-read so))
+event_tells h kind_read so r_is X e y = rw (e, y) (r_is, omega (arith, event_below h kind_read so))
 
 -- a node that waits by itself is the one
 own_named : {i a : ℕ} {w : Wait} → some (record { node = i; event = a }) ≡ some w → (i ≡ w.node) × (a ≡ w.event)

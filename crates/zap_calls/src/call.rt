@@ -2,12 +2,12 @@
 ghost use Rattle.std.specs.Prelude.{◌≤◌, length};
 ghost use Rattle.call_lines.specs.Rooms.{LongRoom, StateRoom, Rooms, AnswerRoom};
 
-use bytes::scan::find;
 use call_lines::bad_line;
 use call_lines::instant::answer_instant;
 use call_lines::take::answer_take;
 use calls::{put_bytes, put_numbers, read_bytes, read_pair};
 use kernel::numbers::refusal_of;
+use octets::find;
 use table::Checked;
 use table::numbers::{Refusal, refusal_of_table};
 use text::numbers::{refusal_of_print, refusal_of_read};

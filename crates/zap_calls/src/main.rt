@@ -1,5 +1,5 @@
 // zap_calls: makes one public call for each line of standard input and lists what it answered and what the lent rooms then hold (calls.md).
-// Here are the system calls; call.rt makes a line's call.
+// Here are input and output; call.rt makes a line's call.
 #![tactic(auto)]
 
 ghost use Rattle.std.specs.Prelude.{◌≡◌, ◌+◌, ◌≤◌, length};
@@ -7,6 +7,8 @@ ghost use Rattle.call_lines.specs.Rooms.{Rooms};
 
 use call::{LONGEST, answer_call};
 use console::{TURNS, keep_rest, read_some, write_out};
+use octets::find;
+use std::io::{Read, Write};
 
 mod call;
 
@@ -28,7 +30,9 @@ const OUTPUT: usize = 262144;
 // The room that an answer line can take at most.
 const ANSWER: usize = 233000;
 
-fn main() {
+fn main(rt: HostRuntime) {
+    let mut reader = rt.reader();
+    let mut out = std::io::writer(&rt);
     let mut table = [0u8; TABLE];
     let mut state = [0u8; STATE];
     let mut row = [0u16; ROW];
@@ -37,6 +41,8 @@ fn main() {
     let mut input = [0u8; INPUT];
     let mut output = [0u8; OUTPUT];
     answer_lines(
+        &mut reader,
+        &mut out,
         &mut table,
         &mut state,
         &mut row,
@@ -48,7 +54,9 @@ fn main() {
 }
 
 // Answers the lines of standard input. All of a block's whole lines are answered before the program waits for more.
-fn answer_lines(
+fn answer_lines<R: Read, W: Write>(
+    reader: &mut R,
+    out: &mut W,
     table: &mut [u8],
     state: &mut [u8],
     row: &mut [u16],
@@ -62,12 +70,13 @@ fn answer_lines(
 {
     let mut held = 0;
     for _ in 0..TURNS {
-        let got = read_some(0, &mut input[held..]).count;
+        let got = read_some(reader, &mut input[held..]).unwrap_or(0);
         if got == 0 {
-            answer_last(table, state, row, text, store, &input[..held], output);
+            answer_last(out, table, state, row, text, store, &input[..held], output);
             return;
         }
         held = answer_block(
+            out,
             table,
             state,
             row,
@@ -82,7 +91,8 @@ fn answer_lines(
 }
 
 // Answers a last line without a newline, if it has a byte.
-fn answer_last(
+fn answer_last<W: Write>(
+    out: &mut W,
     table: &mut [u8],
     state: &mut [u8],
     row: &mut [u16],
@@ -98,11 +108,12 @@ fn answer_last(
         return;
     }
     let n = answer_call(line, table, state, row, text, store, output);
-    write_out(&output[..n]);
+    write_out(out, &output[..n]);
 }
 
 // Answers the whole lines among the first `to` bytes of the block, of which the first `held` have no newline, and answers how many bytes are then held.
-fn answer_block(
+fn answer_block<W: Write>(
+    out: &mut W,
     table: &mut [u8],
     state: &mut [u8],
     row: &mut [u16],
@@ -119,9 +130,9 @@ fn answer_block(
 {
     let mut from = 0;
     let mut filled = 0;
-    let mut end = bytes::scan::find(input, held, to, 10);
+    let mut end = find(input, held, to, 10);
     while end < to {
-        filled = room_for_answer(output, filled);
+        filled = room_for_answer(out, output, filled);
         filled += answer_call(
             &input[from..end],
             table,
@@ -132,20 +143,20 @@ fn answer_block(
             &mut output[filled..],
         );
         from = end + 1;
-        end = bytes::scan::find(input, from, to, 10);
+        end = find(input, from, to, 10);
     }
-    write_out(&output[..filled]);
+    write_out(out, &output[..filled]);
     keep_rest(input, from, to, LONGEST)
 }
 
 // Where the next answer goes: where the block has no room for it behind the answers there, these are written out.
-fn room_for_answer(output: &[u8], filled: usize) -> usize
+fn room_for_answer<W: Write>(out: &mut W, output: &[u8], filled: usize) -> usize
     requires { (filled ≤ length output.now) × (length output.now ≡ 262144) }
     ensures { result + 233000 ≤ length output.now }
 {
     if filled + ANSWER <= output.len() {
         return filled;
     }
-    write_out(&output[..filled]);
+    write_out(out, &output[..filled]);
     0
 }

@@ -2,40 +2,48 @@
 // table that can't be read counts as empty.
 #![tactic(auto)]
 
-use console::read_table;
+use console::{print_decimal, read_table, write_out};
+use std::io::Write;
 use table::Checked;
 use table::numbers::refusal_of_table;
 
 // One byte more than the longest table, so that a longer file is seen to be longer.
 const TABLE: usize = 32779;
 
-fn main() {
+fn main(rt: HostRuntime) {
     let mut room = [0u8; TABLE];
-    let length = read_table(&mut room);
+    let length = read_table(&rt, &mut room);
     let verdict = table::check(&room[..length]);
     let refusal = refusal_of_table(verdict);
-    put(refusal.number, b" ");
-    put(refusal.index, b" ");
+    let mut out = rt.stdout();
+    put(&mut out, refusal.number, b" ");
+    put(&mut out, refusal.index, b" ");
     match verdict {
         Checked::Accepted {
             generations,
             atoms,
             nodes,
             parked,
-        } => put_figures(generations, atoms, nodes, parked),
-        _ => put_figures(0, 0, 0, 0),
+        } => put_figures(&mut out, generations, atoms, nodes, parked),
+        _ => put_figures(&mut out, 0, 0, 0, 0),
     }
 }
 
-fn put_figures(generations: usize, atoms: usize, weight: usize, parked: usize) {
-    put(generations, b" ");
-    put(atoms, b" ");
-    put(weight, b" ");
-    put(parked, b"\n");
+fn put_figures(
+    out: &mut impl Write,
+    generations: usize,
+    atoms: usize,
+    weight: usize,
+    parked: usize,
+) {
+    put(out, generations, b" ");
+    put(out, atoms, b" ");
+    put(out, weight, b" ");
+    put(out, parked, b"\n");
 }
 
 // Prints a number and what stands behind it.
-fn put(number: usize, behind: &[u8]) {
-    io::print_decimal(1, number as u64);
-    io::write_all(1, behind);
+fn put(out: &mut impl Write, number: usize, behind: &[u8]) {
+    print_decimal(out, number as u64);
+    write_out(out, behind);
 }

@@ -4,8 +4,7 @@
 
 ghost use Rattle.std.specs.Prelude.{◌≡◌, length};
 
-use console::read_table;
-use io::write_all;
+use console::{read_table, write_out};
 use listing::write_table_refused;
 use text::TextPrinted;
 use text::numbers::refusal_of_print;
@@ -17,19 +16,20 @@ const TABLE: usize = 32779;
 // Only copies of shared configurations make a longer text; it is refused with 24.
 const TEXT: usize = 1048576;
 
-fn main() {
+fn main(rt: HostRuntime) {
     let mut table = [0u8; TABLE];
     let mut text = text_room();
-    let length = read_table(&mut table);
+    let length = read_table(&rt, &mut table);
     let answer = print(&table[..length], &mut text);
+    let mut out = rt.stdout();
     match answer {
         TextPrinted::Printed(n) => {
-            write_all(1, &text[..n]);
+            write_out(&mut out, &text[..n]);
         }
         _ => {
             let refusal = refusal_of_print(answer);
             let n = write_table_refused(&mut text, refusal.number, refusal.index);
-            write_all(1, &text[..n]);
+            write_out(&mut out, &text[..n]);
         }
     }
 }

@@ -2,21 +2,18 @@
 use Prim.Native.Nat.{ℕ, suc, ◌<◌, ◌≤◌}
 use mathlib.Core.Bool.{Bool, true, false}
 use mathlib.Core.Path.{◌≡◌, refl, subst, sym, ap, ◌∙◌}
-use mathlib.Core.List.{List, [], ◌∷◌, ◌++◌, append_assoc, append-nil}
+use mathlib.Core.List.{List, [], ◌++◌, append_assoc, append-nil}
 use native.Mathlib.Omega.{arith}
 use lib.Dec.{eqb}
 use lib.ListN.{length, take, drop, take-append-drop, length-append}
 use lib.Seq.{take_all}
 use borrow.Author.Tests.{eqb-true, eqb-false}
-use types.Run.{OneOf, miss}
-use denote.Enum.Declared.{tag_of}
 use Rattle.text.specs.declared.TextRead.{TextRead}
 use Rattle.text.specs.declared.TextRead.TheVariants as answered
 use Rattle.form.specs.Form.{Says, whole}
 use Rattle.form.specs.Fails.{Begins, Fails}
 use Rattle.form.specs.Made.{table_of}
 use Rattle.text.specs.Answers.{Reads, fails, no_room, refused, read}
-use Rattle.text.specs.contracts.TextRead.{the_type}
 use Rattle.form.proofs.MadeLength.{table_length}
 use Rattle.zap_read.specs.Told.{Told, HasReading}
 
@@ -42,8 +39,8 @@ module _ {text room after : List ℕ} {r : TextRead} (o : Reads text room after 
       go true h = subst Begins (take_all k text (omega (arith, eqb-true k (length text) h))) there.so_far
       go false h = λ (p, x, d).
           let lt : k < length text = omega (arith, eqb-false k (length text) h, there.within) in
-          let whole-text = append_assoc (take (suc k) text) (drop (suc k) text) x in
-          let split = ap (λ (l : List ℕ). l ++ x) (sym (take-append-drop (suc k) text)) ∙ whole-text in
+          let whole_text = append_assoc (take (suc k) text) (drop (suc k) text) x in
+          let split = ap (λ (l : List ℕ). l ++ x) (sym (take-append-drop (suc k) text)) ∙ whole_text in
           there.no_further lt (p, drop (suc k) text ++ x, subst (Says (whole p)) split d)
 
 -- a table that was read is within its room
@@ -56,8 +53,9 @@ pub read_within : {text room after : List ℕ} {r : TextRead} → Reads text roo
 read_within {text} {room} {after} o e = read_fits (subst (Reads text room after) e o)
 
 -- any other answer is of a text with a reading
-pub others_whole : {text room after : List ℕ} {r : TextRead} → Reads text room after r → OneOf (1 ∷ 2 ∷ 3 ∷ []) (tag_of the_type r) → HasReading text
-others_whole (fails k f) o = absurd (miss (1 ∷ 2 ∷ 3 ∷ []) 0 tt o)
+pub others_whole : {text room after : List ℕ} {r : TextRead} → Reads text room after r
+    → ((k : ℕ) → r ≡ answered.Fails k → ⊥) → HasReading text
+others_whole (fails k f) o = absurd (o k refl)
 others_whole (no_room p d n) o = (p, d)
 others_whole (refused p d f n) o = (p, d)
 others_whole (read p d f n) o = (p, d)

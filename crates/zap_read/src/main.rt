@@ -4,8 +4,11 @@
 
 ghost use Rattle.std.specs.Prelude.{◌<◌, ◌≡◌, length};
 
-use io::write_all;
+use console::{read_all, write_out};
 use listing::write_table_refused;
+use std::io::Write;
+use std::rt::Files;
+use std::{fs, io};
 use text::TextRead;
 use text::numbers::refusal_of_read;
 use text::read::read;
@@ -20,14 +23,16 @@ const TEXT: usize = 1048577;
 // The longest table.
 const TABLE: usize = 32778;
 
-fn main() {
+fn main(rt: HostRuntime) -> io::Result<()> {
     let mut text = text_room();
-    let long = io::read_full(0, &mut text);
+    let long = read_all(&mut rt.stdin(), &mut text)?;
+    let mut out = rt.stdout();
     if TEXT <= long {
-        write_all(1, b"text longer than 1048576 bytes\n");
-        return;
+        write_out(&mut out, b"text longer than 1048576 bytes\n");
+        return Ok(());
     }
-    read_text(&mut text, long);
+    read_text(&rt, &mut out, &mut text, long);
+    Ok(())
 }
 
 fn text_room() -> [u8; TEXT]
@@ -43,27 +48,25 @@ fn table_room() -> [u8; TABLE]
 }
 
 // Reads the text at the start of a longer room.
-fn read_text(text: &mut [u8], long: usize)
+fn read_text(files: &impl Files, out: &mut impl Write, text: &mut [u8], long: usize)
     requires { long < length text.old }
 {
     let mut table = table_room();
     let answer = read(&text[..long], &mut table);
     match answer {
-        TextRead::Fails(k) => tell_failure(text, long, k),
-        TextRead::Read(n) => write_table(&table[..n]),
+        TextRead::Fails(k) => tell_failure(out, text, long, k),
+        TextRead::Read(n) => write_table(files, out, &table[..n]),
         _ => {
             let refusal = refusal_of_read(answer);
             let n = write_table_refused(&mut table, refusal.number, refusal.index);
-            write_all(1, &table[..n]);
+            write_out(out, &table[..n]);
         }
     }
 }
 
-fn write_table(table: &[u8]) {
-    let file = os::open_overwrite(b"table.bin");
-    if write_all(file, table) {
-        libc::close(file);
+fn write_table(files: &impl Files, out: &mut impl Write, table: &[u8]) {
+    if fs::write(files, "table.bin", table).is_ok() {
         return;
     }
-    write_all(1, b"table.bin can't be written\n");
+    write_out(out, b"table.bin can't be written\n");
 }

@@ -3,7 +3,8 @@ ghost use Rattle.std.specs.Prelude.{◌+◌, ◌<◌, ◌≤◌, length};
 ghost use Rattle.zap_read.specs.Told.{OthersKept};
 
 use crate::expected::{begins, is_whole};
-use io::{print_decimal, write_all};
+use console::{print_decimal, write_out};
+use std::io::Write;
 
 // At most so many bytes of the line are shown, and so many of these before the byte that fails.
 const WIDE: usize = 100;
@@ -11,16 +12,16 @@ const WIDE: usize = 100;
 const BEFORE: usize = 60;
 
 // Tells that the text at the start of a longer room fails at byte k; that byte is lost.
-pub fn tell_failure(text: &mut [u8], long: usize, k: usize)
+pub fn tell_failure(out: &mut impl Write, text: &mut [u8], long: usize, k: usize)
     requires { (k ≤ long) × (long < length text.old) }
     ensures { OthersKept k text.old text.new }
 {
-    write_all(1, b"text refused 21 ");
-    print_decimal(1, k as u64);
-    write_all(1, b"\n");
+    write_out(out, b"text refused 21 ");
+    print_decimal(out, k as u64);
+    write_out(out, b"\n");
     let from = line_from(text, k);
-    tell_line(text, from, k, long);
-    tell_expected(text, k);
+    tell_line(out, text, from, k, long);
+    tell_expected(out, text, k);
 }
 
 // Where the shown part of the line begins that byte k stands in.
@@ -42,16 +43,16 @@ fn line_from(text: &[u8], k: usize) -> usize
 }
 
 // Shows the line from there on, and a caret under byte k.
-fn tell_line(text: &[u8], from: usize, k: usize, long: usize)
+fn tell_line(out: &mut impl Write, text: &[u8], from: usize, k: usize, long: usize)
     requires { (from ≤ k) × (k ≤ from + 60) × (k ≤ long) × (long ≤ length text.now) }
 {
     let mut line = [32u8; WIDE];
     let n = put_line(text, from, long, &mut line);
-    write_all(1, &line[..n]);
+    write_out(out, &line[..n]);
     let blanks = [32u8; WIDE];
-    write_all(1, b"\n");
-    write_all(1, &blanks[..k - from]);
-    write_all(1, b"^\n");
+    write_out(out, b"\n");
+    write_out(out, &blanks[..k - from]);
+    write_out(out, b"^\n");
 }
 
 // Puts as much of that line into a room as it takes, and answers how much that is.
@@ -86,38 +87,38 @@ fn shown(b: u8) -> u8 {
 }
 
 // Names the bytes that a text of the form can have behind the first k of this one; byte k is lost.
-fn tell_expected(text: &mut [u8], k: usize)
+fn tell_expected(out: &mut impl Write, text: &mut [u8], k: usize)
     requires { k < length text.old }
     ensures { OthersKept k text.old text.new }
 {
-    write_all(1, b"expected:");
+    write_out(out, b"expected:");
     if is_whole(&text[..k]) {
-        tell_end(text[k]);
+        tell_end(out, text[k]);
         return;
     }
     for b in 32..127 {
         text[k] = b;
         if begins(&text[..k + 1]) {
-            tell_byte(b);
+            tell_byte(out, b);
         }
     }
-    write_all(1, b"\n");
+    write_out(out, b"\n");
 }
 
 // Tells that a text ends here, where byte b stands.
-fn tell_end(b: u8) {
-    write_all(1, b" the end of the text");
+fn tell_end(out: &mut impl Write, b: u8) {
+    write_out(out, b" the end of the text");
     if b == 10 {
-        write_all(1, b" (a text has no newline)");
+        write_out(out, b" (a text has no newline)");
     }
-    write_all(1, b"\n");
+    write_out(out, b"\n");
 }
 
-fn tell_byte(b: u8) {
+fn tell_byte(out: &mut impl Write, b: u8) {
     if b == 32 {
-        write_all(1, b" space");
+        write_out(out, b" space");
         return;
     }
     let pair = [32, b];
-    write_all(1, &pair);
+    write_out(out, &pair);
 }

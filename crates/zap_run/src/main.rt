@@ -3,6 +3,6 @@
 
 use player::play;
 
-fn main() {
-    play(false);
+fn main(rt: HostRuntime) {
+    play(&rt, false);
 }

@@ -4,11 +4,14 @@
 // empty.
 #![tactic(auto)]
 
-use bytes::scan::find;
-use console::{read_file, read_table};
+use console::{print_decimal, read_all, read_file, read_table, write_out};
 use events::EventSet;
-use io::{print_decimal, write_all};
 use listing::read_events;
+use octets::find;
+use std::fs::OpenOptions;
+use std::io::Write;
+use std::rt::Files;
+use std::{fs, io};
 use table::numbers::Refusal;
 use taking::numbers::refusal_of_taking;
 use taking::{Taking, take};
@@ -27,15 +30,17 @@ const PIECE_TABLE: usize = 32778;
 
 const PIECE_STATE: usize = 16384;
 
-fn main() {
+fn main(rt: HostRuntime) -> io::Result<()> {
     let mut line = [0u8; LINE];
-    let long = io::read_full(0, &mut line);
+    let long = read_all(&mut rt.stdin(), &mut line)?;
+    let mut out = rt.stdout();
     let event = event_of(&line[..long]);
     if event == EventSet::PLACES {
-        write_all(1, b"bad-line\n");
-        return;
+        write_out(&mut out, b"bad-line\n");
+        return Ok(());
     }
-    take_piece(event);
+    take_piece(&rt, &mut out, event);
+    Ok(())
 }
 
 // The event that is all of an input but for its newline, if it has one; `PLACES` if it is something else.
@@ -57,15 +62,21 @@ fn event_of(input: &[u8]) -> usize {
 }
 
 // Takes the newest piece of the event out of the files' table and store.
-fn take_piece(event: usize) {
+fn take_piece(files: &impl Files, out: &mut impl Write, event: usize) {
     let mut table = [0u8; TABLE];
     let mut store = [0u8; STORE];
-    let n = read_table(&mut table);
-    let m = read_file(b"store.bin", &mut store);
-    take_from(&table[..n], &mut store[..m], event);
+    let n = read_table(files, &mut table);
+    let m = read_file(files, b"store.bin", &mut store);
+    take_from(files, out, &table[..n], &mut store[..m], event);
 }
 
-fn take_from(table: &[u8], store: &mut [u8], event: usize) {
+fn take_from(
+    files: &impl Files,
+    out: &mut impl Write,
+    table: &[u8],
+    store: &mut [u8],
+    event: usize,
+) {
     let mut piece_table = [0u8; PIECE_TABLE];
     let mut piece_state = [0u8; PIECE_STATE];
     let taken = take(table, store, event, &mut piece_table, &mut piece_state);
@@ -76,42 +87,48 @@ fn take_from(table: &[u8], store: &mut [u8], event: usize) {
             let table_length = taken.table;
             let state_length = taken.state;
             write_piece(
+                files,
+                out,
                 &piece_table[..table_length],
                 &piece_state[..state_length],
                 store,
             );
         }
-        Taking::BadStore => tell(b"store", refusal),
-        Taking::NoPiece => tell(b"event", refusal),
-        _ => tell(b"table", refusal),
+        Taking::BadStore => tell(out, b"store", refusal),
+        Taking::NoPiece => tell(out, b"event", refusal),
+        _ => tell(out, b"table", refusal),
     }
 }
 
 // The store last: a piece that can't be written stays in it.
-fn write_piece(table: &[u8], state: &[u8], store: &[u8]) {
-    if write_file(os::open_overwrite(b"piece-table.bin"), table) {
-        if write_file(os::open_overwrite(b"piece-state.bin"), state) {
-            if write_file(os::open_update(b"store.bin"), store) {
+fn write_piece(files: &impl Files, out: &mut impl Write, table: &[u8], state: &[u8], store: &[u8]) {
+    if write_file(files, "piece-table.bin", table) {
+        if write_file(files, "piece-state.bin", state) {
+            if update_file(files, "store.bin", store).is_ok() {
                 return;
             }
         }
     }
-    write_all(1, b"the piece or the store can't be written\n");
+    write_out(out, b"the piece or the store can't be written\n");
 }
 
-// Writes to the start of a file that was opened, and answers whether that was possible.
-fn write_file(file: i32, text: &[u8]) -> bool {
-    let written = write_all(file, text);
-    libc::close(file);
-    written
+// Makes a file of a text, and answers whether that was possible.
+fn write_file(files: &impl Files, name: &str, text: &[u8]) -> bool {
+    fs::write(files, name, text).is_ok()
+}
+
+// Writes a text over the start of a file that is there.
+fn update_file(files: &impl Files, name: &str, text: &[u8]) -> io::Result<()> {
+    let mut file = OpenOptions::new().read(true).write(true).open(files, name)?;
+    file.write_all(text)
 }
 
 // Tells what was refused, and how.
-fn tell(what: &[u8], refusal: Refusal) {
-    write_all(1, what);
-    write_all(1, b" refused ");
-    print_decimal(1, refusal.number as u64);
-    write_all(1, b" ");
-    print_decimal(1, refusal.index as u64);
-    write_all(1, b"\n");
+fn tell(out: &mut impl Write, what: &[u8], refusal: Refusal) {
+    write_out(out, what);
+    write_out(out, b" refused ");
+    print_decimal(out, refusal.number as u64);
+    write_out(out, b" ");
+    print_decimal(out, refusal.index as u64);
+    write_out(out, b"\n");
 }

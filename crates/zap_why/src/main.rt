@@ -3,6 +3,6 @@
 
 use player::play;
 
-fn main() {
-    play(true);
+fn main(rt: HostRuntime) {
+    play(&rt, true);
 }

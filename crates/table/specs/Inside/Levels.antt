@@ -10,15 +10,15 @@ use Rattle.table.specs.Inside.Ranks.{rank}
 -- a not; the first part of an and or an or, whose second is still to come; the second part, the first being unknown
 pub data Level : Type 0 where
   denied : Level
-  and_first or-first : Config → Level
-  and_second or-second : Level
+  and_first or_first : Config → Level
+  and_second or_second : Level
 
 abbrev pub digit : Level → ℕ
 digit denied = 1
 digit (and_first d) = 2
-digit (or-first d) = 3
+digit (or_first d) = 3
 digit and_second = 4
-digit or-second = 5
+digit or_second = 5
 
 -- levels, the innermost first, as a number: digits to base 16 behind a leading 2
 unfoldable pub levelled : List Level → ℕ
@@ -33,9 +33,9 @@ unfoldable pub closing : Env → List Level → ℕ → ℕ
 closing E [] r = r
 closing E (denied ∷ o) r = closing E o (2 - r)
 closing E (and_first d ∷ o) r = closing E o (min r (rank (test d E)))
-closing E (or-first d ∷ o) r = closing E o (max r (rank (test d E)))
+closing E (or_first d ∷ o) r = closing E o (max r (rank (test d E)))
 closing E (and_second ∷ o) r = closing E o (min 1 r)
-closing E (or-second ∷ o) r = closing E o (max 1 r)
+closing E (or_second ∷ o) r = closing E o (max 1 r)
 
 -- d stands at byte c, within the table, and no more than 16 levels are open in its last record
 pub record Standing (t : List ℕ) (c : ℕ) (d : Config) (o : List Level) : Type 0 where
@@ -48,9 +48,9 @@ unfoldable pub ToCome : List ℕ → ℕ → List Level → Type 0
 ToCome t c [] = Unit {0}
 ToCome t c (denied ∷ o) = ToCome t c o
 ToCome t c (and_first d ∷ o) = Standing t c d (and_second ∷ o) × ToCome t (c + 4 * weight d) o
-ToCome t c (or-first d ∷ o) = Standing t c d (or-second ∷ o) × ToCome t (c + 4 * weight d) o
+ToCome t c (or_first d ∷ o) = Standing t c d (or_second ∷ o) × ToCome t (c + 4 * weight d) o
 ToCome t c (and_second ∷ o) = ToCome t c o
-ToCome t c (or-second ∷ o) = ToCome t c o
+ToCome t c (or_second ∷ o) = ToCome t c o
 
 -- the levels of that number are open behind byte c
 pub record Open (t : List ℕ) (c n : ℕ) (o : List Level) : Type 0 where
@@ -104,6 +104,6 @@ unfoldable pub unsettled : List Level → List Level
 unsettled [] = []
 unsettled (denied ∷ o) = unsettled o
 unsettled (and_first d ∷ o) = and_first d ∷ o
-unsettled (or-first d ∷ o) = or-first d ∷ o
+unsettled (or_first d ∷ o) = or_first d ∷ o
 unsettled (and_second ∷ o) = unsettled o
-unsettled (or-second ∷ o) = unsettled o
+unsettled (or_second ∷ o) = unsettled o

@@ -34,9 +34,9 @@ use sound.WpLaws.{FmC, fm_of, WpFn-mono}
 use denote.RattleType.{owns}
 use denote.Laws.{Is, shows}
 use denote.Builtin.{u8, u16}
-use denote.Ref.{Bor}
+use denote.Ref.{Bor, MutBor}
 use denote.Array.{array_val}
-use denote.Slice.{slice_val, shr_slice_vals, shr_slice_Tells, mut_slice_Tells, ShrSlice, MutSlice, Room}
+use denote.Slice.{slice_val, shr_slice_vals, shr_slice_Tells, mut_slice_vals, mut_slice_Tells, ShrSlice, MutSlice, Room}
 use denote.Steps.{peeks, heard, nothing}
 use denote.Struct.Laws as LL
 use denote.Signature.{plain, shr_slice_of}
@@ -45,7 +45,7 @@ use denote.Triple.Spec.{Meets, triple_of}
 use denote.Triple.Statement.{Contract, Triple}
 use denote.Triple.Call.{calls_at}
 use denote.Triple.Clauses.{ensured, lasts, Lasts}
-use denote.Triple.Table.{entered, cited}
+use denote.Triple.Table.{entered}
 use denote.Triple.Walked.{says, needs, Stays, stay_dropped, stay_slice, walk_of, AllGo, Goes-dropped, Goes-slice, Walks, ends_at, walked}
 use denote.Triple.Walked.{walk_Meets}
 use denote.Exit.{yes}
@@ -69,7 +69,7 @@ use Rattle.kernel.proofs.passes.run_passes.Statement.{statement}
 use Rattle.kernel.proofs.passes.run_passes.Code as code
 
 abbrev Slice : Type 0
-Slice = Bor (List ℕ)
+Slice = MutBor (List ℕ)
 
 -- what the walk still has of its parameters at the end: the three `&mut` slices
 abbrev stayed : Stays (run-passes.ended).signature.params (run-passes.ended).kept
@@ -91,7 +91,7 @@ From 𝓛 memory run = triple_of 𝓛 run-from.signature (run-from.spec 𝓛 mem
 -- each parameter with its lifetime κ and the share q of that one's token: the table t, the state at (sb, so) under sγ, the events, the row of
 -- atoms at (wb, wo) under wγ, the store's free part at (fb, fo) under fγ
 module _ {M : Type 1} {𝓤 : Ura M} (𝓛 : Logic 𝓤) (memory : Memory → SProp 𝓤) (run : Routine → Fun 𝓤)
-    (κt κs κw κf : Lft) (qt qs qw qf : Share) (t : Slice) (sb so : ℕ) (sγ : GName) (state : List ℕ) (handed : HandedIn)
+    (κt κs κw κf : Lft) (qt qs qw qf : Share) (t : Bor (List ℕ)) (sb so : ℕ) (sγ : GName) (state : List ℕ) (handed : HandedIn)
     (wb wo : ℕ) (wγ : GName) (atoms : List ℕ) (fb fo : ℕ) (fγ : GName) (free : List ℕ) where
   open 𝓛 use {H}
 
@@ -104,7 +104,7 @@ module _ {M : Type 1} {𝓤 : Ura M} (𝓛 : Logic 𝓤) (memory : Memory → SP
   abbrev f-with : List ℕ → Slice
   f-with l = record { ref_ptr = (fb, fo); ghost_name = fγ; now = l }
 
-  abbrev args : Slice × (Slice × (HandedIn × (Slice × (Slice × Unit {0}))))
+  abbrev args : Bor (List ℕ) × (Slice × (HandedIn × (Slice × (Slice × Unit {0}))))
   args = (t, (s-with state, (handed, (w-with atoms, (f-with free, tt)))))
 
   -- the parameters in the machine
@@ -159,16 +159,16 @@ module _ {M : Type 1} {𝓤 : Ura M} (𝓛 : Logic 𝓤) (memory : Memory → SP
 
   -- the call, where b stands at block l and w at block m, lent by n and k
   module _ (l m : ℕ) (n : Loans) (k : Loan) where
-    abbrev b-two : Bor (List Slice)
+    abbrev b-two : MutBor (List Slice)
     b-two = two u8 κs κf qs qf sγ fγ sb so fb fo l n state free
 
-    abbrev w-thin : Bor Slice
+    abbrev w-thin : MutBor Slice
     w-thin = thin u16 κw qw wγ wb wo m k atoms
 
     abbrev lives : Lft × (Lft × (Lft × (Lft × (Lft × Unit {0}))))
     lives = (κt, (lifetime n.first, (lifetime n.first, (lifetime k, (lifetime k, tt)))))
 
-    abbrev passed : Slice × (Bor (List Slice) × (HandedIn × (Bor Slice × Unit {0})))
+    abbrev passed : Bor (List ℕ) × (MutBor (List Slice) × (HandedIn × (MutBor Slice × Unit {0})))
     passed = (t, (b-two, (handed, (w-thin, tt))))
 
     abbrev passed-vals : List Val × (List Val × (List Val × (List Val × Unit {0})))
@@ -309,7 +309,9 @@ module _ {M : Type 1} {𝓤 : Ura M} (𝓛 : Logic 𝓤) (memory : Memory → SP
         ⊛ raw (fact 𝓤 (Heard l₆ l₇ n k z.1.0 z.1.1.1.0 r)))) (id⊢ 𝓤 _) $ pick ! (λ z.
         let b' = z.1.0 in let w' = z.1.1.1.0 in
         split ! $ move ! (1 ∷ []) $ heard ! (Heard l₆ l₇ n k b' w' r) (λ e.
-        fsplit ! $ drop ! $ fsplit ! $ move ! (1 ∷ []) $ fsplit ! $ drop ! $ fsplit ! $
+        -- of what a reference leaves its last value is kept, and its loan let go
+        fsplit ! $ drop ! $ fsplit ! $ fsplit ! $ move ! (1 ∷ []) $ drop ! $
+        move ! (1 ∷ []) $ fsplit ! $ drop ! $ fsplit ! $ fsplit ! $ move ! (1 ∷ []) $ drop ! $
         -- [the last w; …; the last b; the tokens and the answer; what waits for w; for b; …; …; _13 .. _0 from 8]: the answer goes into _0
         move ! (3 ∷ []) $ split ! $ move ! (1 ∷ []) $ peeks ! En.the_row (Is En.the_row) (shows 𝓛 En.the_row) r (v ∷ []) (λ is.
         land ! (from ! (stop !)) (init ! 33 refl ((LL.lawful En.the_type En'.the_laws 𝓛).typed r _ is).0) $
@@ -348,7 +350,7 @@ module _ {M : Type 1} {𝓤 : Ura M} (𝓛 : Logic 𝓤) (memory : Memory → SP
       → Walks 𝓛 run-passes.ended stayed (WpFn 𝓤 H C Λ code.function) (run-passes.clauses 𝓛 memory run)
   walks C Λ fm known =
       walked 𝓛 run-passes.ended stayed (run-passes.clauses 𝓛 memory run) (WpFn 𝓤 H C Λ code.function)
-      (λ κs. (shr_slice_vals, (shr_slice_vals, ((λ d. I'.lowered d ∷ []), (shr_slice_vals, (shr_slice_vals, tt))))))
+      (λ κs. (shr_slice_vals, (mut_slice_vals, ((λ d. I'.lowered d ∷ []), (mut_slice_vals, (mut_slice_vals, tt))))))
       (λ κs. (
         shr_slice_Tells (named 0) κs.0 u8,
         (
@@ -385,11 +387,10 @@ module _ {M : Type 1} {𝓤 : Ura M} (𝓛 : Logic 𝓤) (memory : Memory → SP
       walk_Meets 𝓛 run-passes.ended stayed goes-all (run-passes.clauses 𝓛 memory run) (WpFn 𝓤 H 𝓣.C 𝓣.Λ code.function)
       (WpFn-mono 𝓤 H 𝓛.laws 𝓣 code.function) (walks 𝓣.C 𝓣.Λ (fm_of 𝓤 H 𝓛.laws 𝓣) known)
 
-pub run-passes-spec : {M : Type 1} → statement M
-unfolding code.routine tables_of
-run-passes-spec 𝓤 𝓛 𝓜 𝓡 =
-    entered 𝓤 𝓛.H (triple_of 𝓛 run-passes.signature (run-passes.spec 𝓛 𝓜.mem 𝓡.run))
-    (tables 𝓤 𝓛.H 𝓜 𝓡 code.env).C (tables 𝓤 𝓛.H 𝓜 𝓡 code.env).Λ key code.function (code.unfolded 𝓤 𝓛.H 𝓜 𝓡)
-    (meets 𝓛 𝓜.mem 𝓡.run (tables_of 𝓤 𝓛.H 𝓜 (tables 𝓤 𝓛.H 𝓜 𝓡 code.env))
-    (cited 𝓤 𝓛.H (From 𝓛 𝓜.mem 𝓡.run) 𝓜 𝓡 code.env from-symbol.name from-symbol.routine code.calls-kernel::passes::run-from
-    (from-met.met 𝓤 𝓛 𝓜 𝓡)))
+pub run_passes_spec : {M : Type 1} → statement M
+unfolding tables_of
+run_passes_spec 𝓤 𝓛 𝓜 𝓡 wired =
+    entered 𝓤 𝓛.H (triple_of 𝓛 run-passes.signature (run-passes.spec 𝓛 𝓜.mem 𝓡.returns))
+    (tables 𝓤 𝓛.H 𝓜 𝓡 𝓡.env).C (tables 𝓤 𝓛.H 𝓜 𝓡 𝓡.env).Λ key code.function (code.unfolded 𝓤 𝓛.H 𝓜 𝓡 wired)
+    (meets 𝓛 𝓜.mem 𝓡.returns (tables_of 𝓤 𝓛.H 𝓜 (tables 𝓤 𝓛.H 𝓜 𝓡 𝓡.env))
+    (from-met.met 𝓤 𝓛 𝓜 𝓡 (code.calls-kernel::passes::run_from 𝓡.env wired)))

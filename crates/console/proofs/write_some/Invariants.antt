@@ -1,0 +1,6 @@
+-- A write that a signal cut short has put nothing.
+use Rattle.std.specs.Io.KnownBytes.{Keeps}
+use Rattle.console.proofs.write_some.Given as goal
+
+abbrev pub invariant-loop : goal.invariant-loop
+invariant-loop g l = Keeps (g.W.Write.contents l.initial.out) (g.W.Write.contents l.out)

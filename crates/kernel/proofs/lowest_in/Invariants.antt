@@ -1,0 +1,14 @@
+-- `lowest_in` meets its contract: no event of the words before word `at` is marked.
+use borrow.Author.Rules.{rules}
+use Prim.Native.Nat.{◌-◌, ◌*◌, ◌≤◌}
+use native.Mathlib.Omega.{arith}
+use lib.Count.{trailing_le}
+use lib.ListN.{length, get_or}
+use Rattle.kernel.proofs.Unlisted.{Unmarked, over_whole, found_whole, none_found}
+use Rattle.kernel.proofs.lowest_in.Given as goal
+
+abbrev pub invariant-loop-at : goal.invariant-loop-at
+invariant-loop-at l = (64 * l.from ≤ 64 * l.at) × Unmarked l.words (64 * l.from) (64 * l.at)
+
+abbrev pub decreases-loop-at : goal.decreases-loop-at
+decreases-loop-at l = length l.words - l.at
