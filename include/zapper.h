@@ -2,8 +2,8 @@
  * The zapper kernel for C: check a table, start its program, run it one instant at a time; take what it has parked out of its store, to go on with it
  * elsewhere; read a program in written form into a table, and print a table in written form.
  *
- * `rt staticlib kernel` makes libkernel.a, which has zapper_check, zapper_start, zapper_instant and zapper_take; `rt staticlib text` makes libtext.a,
- * which has zapper_read and zapper_print. A program links the one that it needs, or both.
+ * `tools/build --library kernel text` makes target/staticlib/libkernel.a, which has zapper_check, zapper_start, zapper_instant and zapper_take, and
+ * libtext.a, which has zapper_read and zapper_print. A program links the one that it needs, or both.
  *
  * A call takes whatever it is lent and returns: bad tables, damaged states, unknown events, texts that can't be read and short rooms are answered
  * by a number (the requirements' refusal numbers; 0 is success) and an index, and then no room has been written. A call keeps nothing between
@@ -11,8 +11,8 @@
  *
  * Stack: an instant takes 4,736 bytes on x86-64 for its checks, whatever the table; then its passes take, in the same place, some 810 bytes, at most 96
  * for each level of nesting (a Par; 80 a Repeat, an Until or a Freezable, 64 or less the other forms) and 32 to read a configuration of any height:
- * 6,888 for a table of 64 levels, all Pars but the last. A check takes 4,016. So deep did the library change bytes below a caller that had filled its stack with
- * a pattern; nothing proves it.
+ * 6,888 for a table of 64 levels, all Pars but the last. A check takes 4,016. So deep did the library, as rattle-kit-5b built it, change bytes below a caller
+ * that had filled its stack with a pattern; nothing proves it.
  *
  * Pointers are not null, each with as many elements as its length says, and nothing that a call writes overlaps anything else that it is lent.
  * An answer is a row of 64-bit numbers, whose places are named below. All of them are written by every call.
