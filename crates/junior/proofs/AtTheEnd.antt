@@ -26,7 +26,8 @@ use Rattle.junior.proofs.Scopes.{status_own}
 use Rattle.junior.proofs.Ahead.{Around, around_root, further, around_body, Ahead, ahead_inside}
 use Rattle.junior.proofs.Ahead.{earlier as ahead_earlier}
 use Rattle.junior.proofs.Lacking.{named}
-use Rattle.junior.proofs.WayDown.{second_waits, waiting_in, control_waits, way_down}
+use Rattle.junior.proofs.WayDown.{second_waits, waiting_in}
+use Rattle.junior.proofs.WayFound.{control_waits, way_down}
 
 behind : {F : Events} {w : Wait} {l : List Act} (m : List Act) → LacksAtTheEnd F w l → LacksAtTheEnd F w (m ++ l)
 behind m x =

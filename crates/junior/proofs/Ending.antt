@@ -29,7 +29,8 @@ use Rattle.junior.proofs.Little.{STOP≢SUSP, TERM≢SUSP, TERM≢STOP}
 use Rattle.junior.proofs.Verdicts.{lasts, as_it_is, known_at_end, known_present, present, absent}
 use Rattle.junior.proofs.Grows.{end_kept, unchanged}
 use Rattle.junior.proofs.End.{Blocked, idles}
-use Rattle.junior.proofs.WayDown.{branch_that_waits, second_waits, waiting_in, or_else_none}
+use Rattle.junior.proofs.WayDown.{branch_that_waits, second_waits, waiting_in}
+use Rattle.junior.proofs.WayFound.{or_else_none}
 use Rattle.junior.proofs.Settle.{Out, idle, out, plus, bind, says, tested, reads, own_wait, handled, once_stopped, frozen, once_frozen}
 use Rattle.junior.proofs.Settle.{at_last, join, hidden, scoped, starts, settle, steered}
 use Rattle.junior.proofs.Fits.{decides-++, weigh, weigh-++, Alike, alike_same, alike_swapped, alike_nil}

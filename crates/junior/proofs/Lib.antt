@@ -25,6 +25,7 @@ pub mod Lower
 pub mod Lacking
 pub mod Waits
 pub mod WayDown
+pub mod WayFound
 pub mod Settle
 pub mod Fits
 pub mod Meets

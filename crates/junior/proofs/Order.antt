@@ -31,7 +31,7 @@ use Rattle.junior.proofs.Figures.{pot_at_rest}
 use Rattle.junior.proofs.Exists.{pass_exists}
 use Rattle.junior.proofs.Instants.{uses_up, passes_left, within_passes, goes_on, ends_within}
 use Rattle.junior.proofs.Freer.{freer_instant}
-use Rattle.junior.proofs.WayDown.{way_down}
+use Rattle.junior.proofs.WayFound.{way_down}
 use Rattle.junior.proofs.Settle.{Out, held_by, branch, at_last, settle}
 use Rattle.junior.proofs.Fits.{times, Fits, fits_then, within_fits}
 use Rattle.junior.proofs.Meets.{left, branch_idle}

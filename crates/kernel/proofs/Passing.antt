@@ -34,7 +34,7 @@ use Rattle.junior.proofs.Going.{rest_going, stands}
 use Rattle.junior.proofs.End.{ended}
 use Rattle.junior.proofs.Figures.{pot_at_rest}
 use Rattle.junior.proofs.Instants.{uses_up, goes_on}
-use Rattle.junior.proofs.WayDown.{way_leads}
+use Rattle.junior.proofs.WayFound.{way_leads}
 use Rattle.junior.proofs.Waited.{one_waited}
 use Rattle.table.specs.Records.{nodes}
 use Rattle.table.proofs.Tree.{size_pos}

@@ -14,7 +14,8 @@ use Rattle.junior.specs.Rules.{Allowed, Result}
 use Rattle.junior.specs.Instant.{Instant, r47, r48, r49}
 use Rattle.junior.specs.Waited.{Wait, first_wait, before_the_end, waited}
 use Rattle.junior.proofs.Kept.{kept}
-use Rattle.junior.proofs.WayDown.{Within, within_none, waiting_in, widen, inside, way_down}
+use Rattle.junior.proofs.WayDown.{Within, within_none, waiting_in, widen, inside}
+use Rattle.junior.proofs.WayFound.{way_down}
 use Rattle.table.specs.Records.{nodes}
 use Rattle.kernel.specs.declared.Answer.{Answer}
 use Rattle.kernel.specs.declared.Outcome.TheVariants.{Ran}
