@@ -1,7 +1,7 @@
 // The console: standard input and output by blocks, the files of the current folder, and what stays of a block.
 #![tactic(auto)]
 
-ghost use Rattle.std.specs.Prelude.{◌<◌, ◌≤◌, IfOk, length, take};
+ghost use Rattle.std.specs.Prelude.{ℕ, ◌<◌, ◌≤◌, IfOk, OnErr, length, take};
 ghost use Rattle.std.specs.Bool.{OnTrue};
 ghost use Rattle.std.specs.Fmt.{decimal};
 ghost use Rattle.std.specs.Io.KnownBytes.{Appends, Consumes, IsAtEnd, ReadConsumes};
@@ -32,11 +32,12 @@ pub fn read_some<R: Read>(reader: &mut R, room: &mut [u8]) -> io::Result<usize>
     Err(io::Error::from(ErrorKind::Interrupted))
 }
 
-// Reads until the room is full or the input ends. After an error the bytes that came are lost.
+// Reads until the room is full or the input ends. The bytes that came before an error stand in the room, but how many isn't told.
 pub fn read_all<R: Read>(reader: &mut R, room: &mut [u8]) -> io::Result<usize>
     ensures bound { IfOk result (λ n. n ≤ length room.new) }
     ensures bytes { IfOk result (λ n. Consumes (R.remaining reader.old) (R.remaining reader.new) (take n room.new)) }
     ensures end { IfOk result (λ n. n < length room.new → IsAtEnd (R.remaining reader.new)) }
+    ensures error { OnErr result ((n : ℕ) × (n ≤ length room.new) × Consumes (R.remaining reader.old) (R.remaining reader.new) (take n room.new)) }
 {
     let mut done = 0;
     while done < room.len() {
