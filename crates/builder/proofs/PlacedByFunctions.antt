@@ -1,18 +1,19 @@
 -- What each function of the builder places, by the records that it reads.
 use Prim.Native.Nat.{ℕ, ◌+◌, ◌-◌, ◌*◌, ◌/◌, ◌%◌, ◌≤◌, ◌<◌}
-use mathlib.Core.Bool.{Bool, true, false, cond, ◌||◌}
-use mathlib.Core.Path.{◌≡◌, sym, ap, subst, ◌∙◌}
+use mathlib.Core.Bool.{Bool, true, false, cond, ◌&&◌, ◌||◌, false≢true}
+use mathlib.Core.Path.{◌≡◌, refl, sym, ap, subst, ◌∙◌}
 use mathlib.Core.List.{List, ◌++◌}
-use native.Mathlib.Nat.{add-zero}
-use lib.Dec.{eqb, ltb}
+use lib.Dec.{eqb}
 use borrow.Author.Tests.{eq-eqb, ne_eqb, lt-ltb, le-ltb}
 use lib.ListN.{length, take, drop}
-use lib.Seq.{sets, get_or-drop, drop-drop}
+use lib.Seq.{sets}
 use Rattle.table.specs.Records.{byte, word}
 use Rattle.builder.specs.declared.build.Front.{Front}
 use Rattle.form.specs.Made.{big}
 use Rattle.form.specs.Inside.Machine.{is_digit_byte}
-use Rattle.form.specs.Inside.Rows.{word_row, form_row, code_at, name_end, inside, named, form_in}
+use Rattle.form.specs.Inside.Rows.{row_at, word_row, form_row, form_count, code_at, name_end, inside, named, form_in}
+use Rattle.form.proofs.ComputedTests.{both}
+use Rattle.form.proofs.Rows.{code_first, code_behind}
 use Rattle.builder.specs.Building.{SoFar, with_node, with_test, number, joined_size, joint, pair}
 use Rattle.builder.specs.Building.{negation, event}
 use Rattle.builder.specs.Building.{blank, opening, labelled, row, branches, choice, await, opens_part, own_size, capped_number, capped}
@@ -23,18 +24,15 @@ use Rattle.builder.proofs.PlacedGrows.{room_before, length_spread, grows_row_joi
 use Rattle.builder.proofs.PlacedGrows.{grows_await}
 use Rattle.builder.proofs.TableHolds.{nodes_part, tests_part, nodes_anew}
 
-byte_of_drop : (text : List ℕ) (i : ℕ) → byte (drop i text) 0 ≡ byte text i
-byte_of_drop text i = get_or-drop i text 0 0 ∙ ap (byte text) (add-zero i)
-
 -- an event, or none
-module _ (text : List ℕ) (i b : ℕ) (is : b ≡ byte text i) (s : SoFar) where
-  pub event_here : (e : ℕ) → is_digit_byte b ≡ true → e ≡ number 0 (drop i text) → with_test (16 * (e / 256 % 16)) e 1 s ≡ event (drop i text) s
+module _ (w : List ℕ) (b : ℕ) (is : b ≡ byte w 0) (s : SoFar) where
+  pub event_here : (e : ℕ) → is_digit_byte b ≡ true → e ≡ number 0 w → with_test (16 * (e / 256 % 16)) e 1 s ≡ event w s
   unfolding event
-  event_here e h n = rw (n, byte_of_drop text i, ← is, h)
+  event_here e h n = rw (n, ← is, h)
 
-  pub event_none : is_digit_byte b ≡ false → event (drop i text) s ≡ s
+  pub event_none : is_digit_byte b ≡ false → event w s ≡ s
   unfolding event
-  event_none h = rw (byte_of_drop text i, ← is, h)
+  event_none h = rw (← is, h)
 
 -- records whose size is read off those in front
 module _ {n m : ℕ} {t : List ℕ} {f : Front} {s : SoFar} (h : Holds n m t f s) (z : ℕ) where
@@ -64,12 +62,6 @@ module _ {n m : ℕ} {t : List ℕ} {f : Front} {s : SoFar} (h : Holds n m t f s
       → with_node k a z s ≡ single k w s
   unfolding single own_size
   single_here k a w p e g = rw (e, p, g, nodes_part h)
-
--- the two numbers of a RepeatExt
-pub capped_is : (text : List ℕ) (i v r cap : ℕ) → v ≡ number 0 (drop i text) → r ≡ cond (ltb v 10) 3 4 → cap ≡ number 0 (drop (i + r) text)
-    → cap % 256 * 16 + v % 16 ≡ capped_number (drop i text)
-unfolding capped_number
-capped_is text i v r cap e f g = rw (g, f, ← e, drop-drop (cond (ltb v 10) 3 4) i text)
 
 -- an Await: its event, then its node
 module _ (k : ℕ) (w : List ℕ) {t : List ℕ} {f : Front} where
@@ -178,17 +170,20 @@ module _ (level : ℕ) (w : List ℕ) (s : SoFar) where
 
 -- `,`
 module _ (level : ℕ) (w : List ℕ) (s : SoFar) where
-  pub comma_joint : level ≡ 1 → byte w 1 ≡ 74 → joint s ≡ comma level w s
+  pub comma_joint : eqb level 1 && eqb (byte w 1) 74 ≡ true → joint s ≡ comma level w s
   unfolding comma
-  comma_joint e f = rw (e, f)
+  comma_joint e =
+      let h = both {a = eqb level 1} {b = eqb (byte w 1) 74} e in
+      rw (h.0, h.1)
 
-  pub comma_cap : level ≡ 1 → (byte w 1 ≡ 74 → ⊥) → comma level w s ≡ s
+  pub comma_none : eqb level 1 && eqb (byte w 1) 74 ≡ false → comma level w s ≡ s
   unfolding comma
-  comma_cap e f = rw (e, ne_eqb (byte w 1) 74 f)
-
-  pub comma_none : (level ≡ 1 → ⊥) → comma level w s ≡ s
-  unfolding comma
-  comma_none e = rw (ne_eqb level 1 e)
+  comma_none e = go (eqb level 1) (eqb (byte w 1) 74) e
+    where
+      go : (x y : Bool) → x && y ≡ false → cond x (cond y (joint s) s) s ≡ s
+      go true true h = absurd (false≢true (sym h))
+      go true false h = refl
+      go false y h = refl
 
 -- a blank
 module _ (level : ℕ) (w : List ℕ) (s : SoFar) where
@@ -202,57 +197,54 @@ module _ (level : ℕ) (w : List ℕ) (s : SoFar) where
 
 -- the form of a kind, by the codes in its brackets, which begin at place n of the table of names
 module _ (k n : ℕ) (is : n ≡ name_end (form_row k)) (w : List ℕ) (s : SoFar) where
-  code_at_lem : (j : ℕ) → code_at (n + j) ≡ inside k j
-  unfolding inside
-  code_at_lem j = rw is
+  there : (j : ℕ) → code_at (n + j) ≡ inside k j
+  there = code_behind k is
 
-  first_at : code_at n ≡ inside k 0
-  first_at = ap code_at (sym (add-zero n)) ∙ code_at_lem 0
+  first_there : code_at n ≡ inside k 0
+  first_there = code_first k is
 
   pub form_row_lem : code_at (n + 4) ≡ 133 → row k s ≡ form k w s
   unfolding form
-  form_row_lem e = rw (eq-eqb (inside k 4) 133 (sym (code_at_lem 4) ∙ e))
+  form_row_lem e = rw (eq-eqb (inside k 4) 133 (sym (there 4) ∙ e))
 
   module _ (o : code_at (n + 4) ≡ 133 → ⊥) where
     no_row : eqb (inside k 4) 133 ≡ false
-    no_row = ne_eqb (inside k 4) 133 (λ e. o (code_at_lem 4 ∙ e))
+    no_row = ne_eqb (inside k 4) 133 (λ e. o (there 4 ∙ e))
 
     pub form_choice : code_at n ≡ 134 → code_at (n + 1) ≡ 44 → choice k w s ≡ form k w s
     unfolding form
-    form_choice e f = rw (no_row, eq-eqb (inside k 0) 134 (sym first_at ∙ e), eq-eqb (inside k 1) 44 (sym (code_at_lem 1) ∙ f))
+    form_choice e f = rw (no_row, eq-eqb (inside k 0) 134 (sym first_there ∙ e), eq-eqb (inside k 1) 44 (sym (there 1) ∙ f))
 
     pub form_await : code_at n ≡ 134 → (code_at (n + 1) ≡ 44 → ⊥) → await k w s ≡ form k w s
     unfolding form
-    form_await e f = rw (no_row, eq-eqb (inside k 0) 134 (sym first_at ∙ e), ne_eqb (inside k 1) 44 (λ z. f (code_at_lem 1 ∙ z)))
+    form_await e f = rw (no_row, eq-eqb (inside k 0) 134 (sym first_there ∙ e), ne_eqb (inside k 1) 44 (λ z. f (there 1 ∙ z)))
 
     module _ (q : code_at n ≡ 134 → ⊥) where
       no_test : eqb (inside k 0) 134 ≡ false
-      no_test = ne_eqb (inside k 0) 134 (λ z. q (first_at ∙ z))
+      no_test = ne_eqb (inside k 0) 134 (λ z. q (first_there ∙ z))
 
       pub form_asking : code_at n ≡ 140 → (x : ℕ) → x ≡ code_at (n + 3) → asking x k w s ≡ form k w s
       unfolding form
-      form_asking e x f = rw (f, code_at_lem 3, no_row, no_test, eq-eqb (inside k 0) 140 (sym first_at ∙ e))
+      form_asking e x f = rw (f, there 3, no_row, no_test, eq-eqb (inside k 0) 140 (sym first_there ∙ e))
 
       pub form_single : (code_at n ≡ 140 → ⊥) → single k w s ≡ form k w s
       unfolding form
-      form_single e = rw (no_row, no_test, ne_eqb (inside k 0) 140 (λ z. e (first_at ∙ z)))
+      form_single e = rw (no_row, no_test, ne_eqb (inside k 0) 140 (λ z. e (first_there ∙ z)))
 
   pub part_is : {b : Bool} → b ≡ (eqb (code_at n) 128 || eqb (code_at (n + 3)) 128) → b ≡ opens_part k
   unfolding opens_part
-  part_is e = e ∙ rw (first_at, code_at_lem 3)
-
-pub behind_is : (k n : ℕ) → n ≡ name_end (6 + k) → 2 + (n - 20 * (6 + k)) ≡ behind_j k
-unfolding behind_j
-behind_is k n e = rw e
+  part_is e = e ∙ rw (first_there, there 3)
 
 -- `J`
-pub name_here :
-    (w : List ℕ) (k e : ℕ) (s : SoFar)
-    → k ≡ form_in (drop 2 w)
-    → e ≡ behind_j k
-    → form k (drop e w) s ≡ name w s
-unfolding name
-name_here w k e s f h = rw (h, f)
+module _ (w : List ℕ) (s : SoFar) where
+  pub name_here : (k n : ℕ) (y : List ℕ) → k ≡ form_in (drop 2 w) → k < form_count → n ≡ name_end (form_row k)
+      → y ≡ drop (2 + (n - row_at (form_row k))) w → form k y s ≡ name w s
+  unfolding name behind_j
+  name_here k n y f l e h = rw (h, e, ← f, lt-ltb k form_count l)
+
+  pub name_none : form_in (drop 2 w) ≡ form_count → name w s ≡ s
+  unfolding name
+  name_none e = rw e
 
 -- a byte
 module _ (b level : ℕ) (w : List ℕ) (s : SoFar) where

@@ -7,7 +7,7 @@ use native.Mathlib.Nat.{div-add-mod'}
 use native.Mathlib.Omega.{arith}
 use lib.Dec.{eqb, leb}
 use lib.ListN.{length, drop}
-use borrow.Author.Tests.{eqb-false, ne_eqb, le-ltb, leb-true}
+use borrow.Author.Tests.{lt-ltb, eqb-false, ne_eqb, le-ltb, leb-true}
 use Rattle.junior.specs.Configuration.{Config}
 use Rattle.junior.specs.Program.{Program, Seq, Par, size, kind}
 use Rattle.table.specs.Records.{byte, word}
@@ -79,7 +79,7 @@ module _ (m : ℕ) (y : List ℕ) (g : Enclosed y) where
       let e : (u ++ (40 ∷ [])) ++ y ≡ u ++ (40 ∷ y) = append_assoc u (40 ∷ []) y in
       let d : name_end (form_row k) - row_at (form_row k) ≡ suc (length u) = let l = name_long k h in omega arith in
       let f : 2 + suc (length u) ≡ suc (suc (suc (length u))) = omega arith in
-      rw (e, form_told k h y, d, f, past u y) (ap (form k y) (letters u (40 ∷ y) (quiet_name k h) ∙ plain))
+      rw (e, form_told k h y, lt-ltb k form_count h, d, f, past u y) (ap (form k y) (letters u (40 ∷ y) (quiet_name k h) ∙ plain))
 
 -- a comma before a program: the last of its bracket, or another
 module _ (m : ℕ) (y l : List ℕ) (b : byte y 0 ≡ 74) where

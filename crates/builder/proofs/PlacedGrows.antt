@@ -10,7 +10,7 @@ use lib.Seq.{length-sets}
 use Rattle.table.specs.Records.{byte, word}
 use Rattle.form.specs.Made.{big}
 use Rattle.form.specs.Inside.Machine.{is_digit_byte}
-use Rattle.form.specs.Inside.Rows.{word_row, inside, named, form_in}
+use Rattle.form.specs.Inside.Rows.{form_count, word_row, inside, named, form_in}
 use Rattle.builder.specs.Building.{SoFar, with_node, with_test, number, joint, pair, negation, event}
 use Rattle.builder.specs.Building.{opening, spread, labelled, row}
 use Rattle.builder.specs.Building.{blank, branches, choice, await, capped, asking, single, behind_j, form, name, comma, place, levels}
@@ -146,7 +146,7 @@ grows_place b level w s =
     (grows_either
     (eqb b 44)
     (grows_comma level w s)
-    (grows_either (eqb b 74) (grows_form k (drop (behind_j k) w) s) (grows_self s))))
+    (grows_either (eqb b 74) (grows_either (ltb k form_count) (grows_form k (drop (behind_j k) w) s) (grows_self s)) (grows_self s))))
 
 grows_text : (m : ℕ) (w x : List ℕ) → Grows (placed m x) (placed m (w ++ x))
 unfolding placed

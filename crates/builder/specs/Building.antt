@@ -6,9 +6,10 @@ use Rattle.junior.specs.Program.{Program, size}
 use Rattle.table.specs.Bytes.{node, configuration}
 use Rattle.table.specs.Records.{byte, word}
 use Rattle.builder.specs.declared.build.Front.{Front}
+use Rattle.form.specs.declared.Sizes.{Sizes}
 use Rattle.form.specs.Form.{Says, whole}
 use Rattle.form.specs.Inside.Machine.{is_digit_byte}
-use Rattle.form.specs.Inside.Rows.{row_at, word_row, form_row, name_end, inside, named, form_in, pair_of}
+use Rattle.form.specs.Inside.Rows.{row_at, word_row, form_row, form_count, name_end, inside, named, form_in, pair_of}
 use Rattle.form.specs.Made.{big, named as events_of, tests, table_of, needed}
 
 -- the records that are placed, and how many configurations are still to come
@@ -160,12 +161,13 @@ unfoldable pub behind_j : ℕ → ℕ
 unfolding name_end
 behind_j k = 2 + (name_end (form_row k) - row_at (form_row k))
 
--- `J` before this text
+-- `J` before this text, if a form's name follows
 unfoldable pub name : List ℕ → SoFar → SoFar
 unfolding form_in behind_j
 name w s =
     let k = form_in (drop 2 w) in
-    form k (drop (behind_j k) w) s
+    let f = form k (drop (behind_j k) w) s in
+    cond (ltb k form_count) f s
 
 -- `,` at this level, before this text: a program behind it, or a cap
 unfoldable pub comma : ℕ → List ℕ → SoFar → SoFar
@@ -264,8 +266,8 @@ pub record Measured (text : List ℕ) (n m v room : ℕ) (p : Program) : Type 0 
   pub long : room ≡ needed p
   pub small : needed p ≤ 32778
 
-abbrev pub Buildable : List ℕ → ℕ → ℕ → ℕ → ℕ → Type 0
-Buildable text n m v room = (p : Program) × Measured text n m v room p
+abbrev pub Buildable : List ℕ → Sizes → ℕ → Type 0
+Buildable text k room = (p : Program) × Measured text k.nodes k.tests k.events room p
 
-abbrev pub Builds : List ℕ → ℕ → ℕ → ℕ → ℕ → List ℕ → Type 0
-Builds text n m v room table = (p : Program) → Measured text n m v room p → table ≡ table_of p
+abbrev pub Builds : List ℕ → Sizes → ℕ → List ℕ → Type 0
+Builds text k room table = (p : Program) → Measured text k.nodes k.tests k.events room p → table ≡ table_of p

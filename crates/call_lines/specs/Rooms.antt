@@ -14,8 +14,8 @@ RowRoom row = length row ≤ 4200
 abbrev pub StoreRoom : List ℕ → Type 0
 StoreRoom store = length store ≤ 66000
 
-abbrev pub Rooms : List ℕ → List ℕ → List ℕ → List ℕ → List ℕ → Type 0
-Rooms table state row text store = LongRoom table × StateRoom state × RowRoom row × LongRoom text × StoreRoom store
+abbrev pub Lengths : List ℕ → List ℕ → List ℕ → List ℕ → List ℕ → Type 0
+Lengths table state row text store = LongRoom table × StateRoom state × RowRoom row × LongRoom text × StoreRoom store
 
 -- any answer line fits
 abbrev pub AnswerRoom : List ℕ → Type 0

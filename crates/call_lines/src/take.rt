@@ -1,82 +1,64 @@
-// A line that takes a piece out of a store.
-ghost use Rattle.std.specs.Prelude.{◌≤◌, length};
+// A line that takes a piece out of a store: its words are read one after the other.
+ghost use Rattle.std.specs.Prelude.{◌≤◌, length, IfSome};
 ghost use Rattle.call_lines.specs.Rooms.{LongRoom, StateRoom, StoreRoom, AnswerRoom};
 
-use crate::bad_line;
-use calls::{put_bytes, put_numbers, read_pair};
+use crate::{Rooms, bad_line};
+use calls::{put_bytes, put_numbers, read_bytes};
+use letters::Writer;
 use listing::read_events;
-use octets::find;
-use taking::numbers::refusal_of_taking;
+use octets::split_once;
+use table::numbers::Numbered;
 
-pub fn answer_take(
-    words: &[u8],
-    table: &mut [u8],
-    store: &mut [u8],
-    table_room: &mut [u8],
-    state_room: &mut [u8],
-    output: &mut [u8],
-) -> usize
-    requires { StoreRoom store.old × LongRoom table_room.old × StateRoom state_room.old × AnswerRoom output.old }
+// What a line hands in: an event, and how much of each room its words fill. The piece's table goes into the room for a text.
+#[derive(Clone, Copy)]
+struct HandedIn {
+    event: usize,
+    table: usize,
+    store: usize,
+    piece_table: usize,
+    piece_state: usize,
+}
+
+pub fn answer_take(words: &[u8], rooms: &mut Rooms, output: &mut [u8]) -> usize
+    requires { AnswerRoom output.old }
     ensures { result ≤ length output.old }
 {
-    let table_end = find(words, 0, words.len(), 32);
-    if words.len() <= table_end {
+    let Some(handed) = read_words(words, rooms) else {
         return bad_line(output);
-    }
-    let store_end = find(words, table_end + 1, words.len(), 32);
-    if words.len() <= store_end {
-        return bad_line(output);
-    }
-    let p = read_pair(&words[..store_end], table, store);
-    if !p.good {
-        return bad_line(output);
-    }
-    let n = p.first;
-    let m = p.second;
-    with_store(
-        &words[store_end + 1..],
-        &table[..n],
-        &mut store[..m],
-        table_room,
-        state_room,
+    };
+    call_take(
+        &rooms.table[..handed.table],
+        &mut rooms.store[..handed.store],
+        handed.event,
+        &mut rooms.text[..handed.piece_table],
+        &mut rooms.state[..handed.piece_state],
         output,
     )
 }
 
-// A taking whose table and store have been read. Its event is one number: there is no space in a word, which would stand between two.
-fn with_store(
-    words: &[u8],
-    table: &[u8],
-    store: &mut [u8],
-    table_room: &mut [u8],
-    state_room: &mut [u8],
-    output: &mut [u8],
-) -> usize
-    requires { StoreRoom store.old × LongRoom table_room.old × StateRoom state_room.old × AnswerRoom output.old }
-    ensures { result ≤ length output.old }
+// Reads the words: a table, a store, an event and two rooms. The event is one number: there is no space in a word, which would stand between two.
+fn read_words(words: &[u8], rooms: &mut Rooms) -> Option<HandedIn>
+    ensures { IfSome result (λ h. (h.table ≤ length rooms.new.table.now)
+        × (h.store ≤ length rooms.new.store.now)
+        × (h.piece_table ≤ length rooms.new.text.now)
+        × (h.piece_state ≤ length rooms.new.state.now)) }
 {
-    let b = find(words, 0, words.len(), 32);
-    if words.len() <= b {
-        return bad_line(output);
-    }
-    let e = read_events(&words[..b], 32);
-    if !e.good {
-        return bad_line(output);
-    }
-    let p = read_pair(&words[b + 1..], table_room, state_room);
-    if !p.good {
-        return bad_line(output);
-    }
-    let n = p.first;
-    let m = p.second;
-    call_take(
+    let (table_word, behind_table) = split_once(words, b' ')?;
+    let (store_word, behind_store) = split_once(behind_table, b' ')?;
+    let (event_word, behind_event) = split_once(behind_store, b' ')?;
+    let (piece_table_word, piece_state_word) = split_once(behind_event, b' ')?;
+    let table = read_bytes(table_word, rooms.table)?;
+    let store = read_bytes(store_word, rooms.store)?;
+    let events = read_events(event_word, b' ')?;
+    let piece_table = read_bytes(piece_table_word, rooms.text)?;
+    let piece_state = read_bytes(piece_state_word, rooms.state)?;
+    Some(HandedIn {
+        event: events.lowest(),
         table,
         store,
-        e.events.lowest(),
-        &mut table_room[..n],
-        &mut state_room[..m],
-        output,
-    )
+        piece_table,
+        piece_state,
+    })
 }
 
 fn call_take(
@@ -91,19 +73,23 @@ fn call_take(
     ensures { result ≤ length output.old }
 {
     let taken = taking::take(table, store, event, table_room, state_room);
-    let outcome = taken.outcome;
-    let refusal = refusal_of_taking(outcome);
-    let numbers = put_numbers(
-        output,
-        0,
+    let refusal = Numbered::of(taken);
+    let lengths = taken.unwrap_or_default();
+    let mut out = Writer {
+        room: output,
+        at: 0,
+    };
+    put_numbers(
+        &mut out,
         &[
             refusal.number as u64,
             refusal.index as u64,
-            taken.table as u64,
-            taken.state as u64,
+            lengths.table as u64,
+            lengths.state as u64,
         ],
     );
-    let pieces = put_bytes(output, numbers, store, 32);
-    let tables = put_bytes(output, pieces, table_room, 32);
-    put_bytes(output, tables, state_room, 10)
+    put_bytes(&mut out, store, b' ');
+    put_bytes(&mut out, table_room, b' ');
+    put_bytes(&mut out, state_room, b'\n');
+    out.at
 }

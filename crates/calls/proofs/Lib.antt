@@ -1,3 +1,3 @@
 -- The laws, each file named after its subject.
+pub mod Digits
 pub mod Words
-pub mod Pairs

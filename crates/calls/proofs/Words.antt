@@ -7,7 +7,7 @@ use native.Mathlib.Omega.{arith}
 use native.Mathlib.Numerals.{add-one}
 use lib.ListN.{length, get_or, set, take, drop, length-append, length-set}
 use lib.Dec.{leb, ltb, eqb}
-use lib.Seq.{sets, length-take-le, take-length, take-suc, drop-cons, set_at, append_snoc}
+use lib.Seq.{length-take-le, take-suc, drop-cons, set_at, append_snoc}
 use borrow.Author.Tests.{lt-ltb, le-leb, eq-eqb, ne_eqb, ltb-true, ltb-false, leb-true, eqb-true}
 use Rattle.events.specs.Events.{Events, none}
 use Rattle.events.specs.Members.{places}
@@ -15,10 +15,13 @@ use Rattle.letters.specs.Decimal.{decimal}
 use Rattle.letters.specs.Text.{bytes, space, comma}
 use Rattle.listing.specs.Input.{Under, with_all}
 use Rattle.listing.specs.Output.{listed}
-use Rattle.letters.specs.Rooms.{Puts}
-use Rattle.listing.specs.Inside.{Named}
-use Rattle.letters.proofs.Puts.{puts_none, puts_more}
-use Rattle.calls.specs.Words.{byte_at, number_at, is_dash, firsts, WordRead, Counted, ListRead, spelled, word, spaced}
+use Rattle.letters.specs.Writing.{Writes}
+use Rattle.letters.specs.declared.Writer.{Writer}
+use Rattle.events.specs.declared.EventSet.{EventSet}
+use Rattle.std.proofs.Common.{Option, None, Some}
+use Rattle.listing.specs.Inside.{Named, NamedBy}
+use Rattle.letters.proofs.Writes.{writes_then}
+use Rattle.calls.specs.Words.{byte_at, number_at, is_dash, firsts, WordRead, BytesRead, Counted, ListRead, ListIn, spelled, word, spaced, hex_byte, hex_number}
 use Rattle.calls.specs.Inside.{fitting}
 
 false≢true : {A : Type 0} → false ≡ true → A
@@ -107,21 +110,22 @@ module _ (width limit : ℕ) (value : ℕ → ℕ) (text old : List ℕ) (n : �
         let below = rw all at h.below in
         (rw (h.room_is, all) (WordRead.numbers n d (sym f.long_is) f.some f.room below), counted n room (omega (arith, h.long, f.room)))
 
-    pub bad_read : (room : List ℕ) (i v : ℕ) → i < n → v ≡ value i → limit ≤ v → {good : Bool} {count : ℕ} → (good ≡ false) × (count ≡ 0)
-        → Is good count room
-    bad_read room i v l e b (g, c) =
-        rw (g, c) (WordRead.not_a_word room d (λ m s p q. (i, omega (arith, only m s), omega arith)), (omega arith, refl))
+    pub bad_read : (room : List ℕ) (i : ℕ) → i < n → limit ≤ value i → WordRead width limit value text old room false 0
+    bad_read room i l b = WordRead.not_a_word room d (λ m s p q. (i, omega (arith, only m s), b))
 
-    pub unfit_read : fitting (length text) n (width * n) (length old) ≡ false → {good : Bool} {count : ℕ} → (good ≡ false) × (count ≡ 0)
-        → Is good count old
+    pub unfit_read : fitting (length text) n (width * n) (length old) ≡ false → WordRead width limit value text old old false 0
     unfolding fitting
-    unfit_read f (g, c) = rw (g, c) (WordRead.not_a_word old d (λ m s p q. false≢true (sym f ∙ fit m s p q)), (omega arith, refl))
+    unfit_read f = WordRead.not_a_word old d (λ m s p q. false≢true (sym f ∙ fit m s p q))
       where
         fit : (m : ℕ) → length text ≡ width * m → 0 < m → m ≤ length old → ltb 0 n && (eqb (width * n) (length text) && leb n (length old)) ≡ true
         fit m s p q =
             let same = only m s in
             let whole : width * n ≡ length text = sym (s ∙ ap (λ (k : ℕ). width * k) same) in
             simp (lt-ltb 0 n (omega arith), eq-eqb (width * n) (length text) whole, le-leb n (length old) (omega arith))
+
+-- bytes of one text are bytes of the same
+pub bytes_of : {w v a a' : List ℕ} {good : Bool} {n : ℕ} → w ≡ v → BytesRead w a a' good n → BytesRead v a a' good n
+bytes_of e r = rw e at r
 
 -- the list of no event
 pub dash_is : (text : List ℕ) → is_dash text ≡ true → text ≡ bytes "-"
@@ -143,6 +147,11 @@ is_list {text} h (Named.stops n) = ListRead.bad_list go
     go [] u t = false≢true (sym h ∙ ap is_dash t)
     go (e ∷ l) u t = n e l u t
 
+-- the same of an answer
+pub list_by : (text : List ℕ) → is_dash text ≡ false → (r : Option EventSet) → NamedBy comma text r → ListIn text r
+list_by text h None n = is_list h n
+list_by text h (Some s) n = is_list h n
+
 spelled_append : (spelling : ℕ → List ℕ) (l m : List ℕ) → spelled spelling (l ++ m) ≡ spelled spelling l ++ spelled spelling m
 unfolding spelled
 spelled_append spelling [] m = refl
@@ -150,7 +159,7 @@ spelled_append spelling (n ∷ l) m =
     ap (λ (w : List ℕ). spelling n ++ w) (spelled_append spelling l m) ∙ sym (append_assoc (spelling n) (spelled spelling l) (spelled spelling m))
 
 -- one more number
-spelled_more : (spelling : ℕ → List ℕ) (l : List ℕ) (i : ℕ) → i < length l
+pub spelled_more : (spelling : ℕ → List ℕ) (l : List ℕ) (i : ℕ) → i < length l
     → spelled spelling (take (i + 1) l) ≡ spelled spelling (take i l) ++ spelling (get_or l i 0)
 unfolding spelled
 spelled_more spelling l i h =
@@ -177,37 +186,20 @@ pub spaced_more : (l : List ℕ) (i : ℕ) → i < length l → spaced (take (i 
 unfolding spaced
 spaced_more l i h = rw (add-one i, take-suc l i 0 h) (spaced_append (take i l) (get_or l i 0 ∷ []))
 
--- Putting a word of numbers, each in `width` bytes: before number i the first i are put.
-pub record Put (width : ℕ) (spelling : ℕ → List ℕ) (old : List ℕ) (at : ℕ) (list room : List ℕ) (i : ℕ) : Type 0 where
-  pub so_many : i ≤ length list
-  pub long : length room ≡ length old
-  pub puts : Puts old room at (spelled spelling (take i list)) (at + width * i)
+-- a writer that has written numbers ends their word
+pub word_ends : {a b c : Writer} (spelling : ℕ → List ℕ) (l : List ℕ) (e : ℕ) → (length l ≡ 0 → ⊥) → Writes a b (spelled spelling l)
+    → Writes b c (e ∷ []) → Writes a c (word spelling l ++ (e ∷ []))
+word_ends spelling l e some p q = rw (word_some spelling l some) (writes_then p q)
 
-module _ (width : ℕ) (spelling : ℕ → List ℕ) (old : List ℕ) (at : ℕ) (list : List ℕ) where
-  pub put_none : at + width * 0 ≡ at + 0 → Put width spelling old at list old 0
-  unfolding spelled
-  put_none e = record { so_many = omega arith; long = refl; puts = record { next = e; room = refl } }
+-- or a dash, where there is none
+pub dash_ends : {a b c : Writer} (spelling : ℕ → List ℕ) (l : List ℕ) (e : ℕ) → length l ≡ 0 → Writes a b (45 ∷ []) → Writes b c (e ∷ [])
+    → Writes a c (word spelling l ++ (e ∷ []))
+dash_ends spelling l e none p q = rw (word_none spelling l none) (writes_then p q)
 
-  pub put_more : {room new : List ℕ} {i : ℕ} → Put width spelling old at list room i → i < length list → length new ≡ length room
-      → new ≡ sets room (at + width * i) (spelling (get_or list i 0)) → at + width * i + length (spelling (get_or list i 0)) ≡ at + width * (i + 1)
-      → Put width spelling old at list new (i + 1)
-  put_more {room} {new} {i} p h long e place =
-      let more : Puts old new at (spelled spelling (take (i + 1) list)) (at + width * i + length (spelling (get_or list i 0))) =
-      rw (spelled_more spelling list i h) (puts_more (spelling (get_or list i 0)) p.puts e) in
-      record {
-        so_many = omega arith;
-        long = long ∙ p.long;
-        puts = subst (λ (s : ℕ). Puts old new at (spelled spelling (take (i + 1) list)) s) place more;
-      }
+pub hex_two : (b : ℕ) → length (hex_byte b) ≡ 2
+unfolding hex_byte
+hex_two b = refl
 
-  -- the byte behind them
-  pub put_all : {room : List ℕ} {i : ℕ} (e : ℕ) → Put width spelling old at list room i → length list ≤ i → (length list ≡ 0 → ⊥)
-      → Puts old (set room (at + width * length list) e) at (word spelling list ++ (e ∷ [])) (at + width * length list + 1)
-  put_all {room} {i} e p h some =
-      let all : i ≡ length list = omega (arith, p.so_many) in
-      let q : Puts old room at (spelled spelling list) (at + width * length list) = rw (all, take-length list) at p.puts in
-      rw (word_some spelling list some) (puts_more (e ∷ []) q refl)
-
-pub puts_dash : (a : List ℕ) (x : ℕ) (spelling : ℕ → List ℕ) (l : List ℕ) (e : ℕ) → length l ≡ 0
-    → Puts a (set (set a x 45) (x + 1) e) x (word spelling l ++ (e ∷ [])) (x + 2)
-puts_dash a x spelling l e none = rw (word_none spelling l none, add-one x) (puts_more (45 ∷ e ∷ []) (puts_none a x) refl)
+pub hex_four : (n : ℕ) → length (hex_number n) ≡ 4
+unfolding hex_number hex_byte
+hex_four n = refl

@@ -1,9 +1,11 @@
 -- The words of the calls program's lines: BYTES and ROW are numbers in lowercase hexadecimal, two and four digits each, EVENTS are
 -- joined by commas; `-` for none.
-use Rattle.std.specs.Prelude.{ℕ, zero, suc, ◌+◌, ◌-◌, ◌*◌, ◌/◌, ◌%◌, ◌≤◌, ◌<◌, ◌≡◌, Bool, true, false, cond, ◌&&◌, List, [], ◌∷◌, ◌++◌, length, get_or, take, drop, leb, ltb, eqb}
+use Rattle.std.specs.Prelude.{ℕ, zero, suc, ◌+◌, ◌-◌, ◌*◌, ◌/◌, ◌%◌, ◌≤◌, ◌<◌, ◌≡◌, Bool, true, false, cond, ◌&&◌, List, [], ◌∷◌, ◌++◌, length, get_or, take, drop, leb, ltb, eqb, MatchOption}
+use Rattle.std.proofs.Common.{Option}
 use Rattle.octets.specs.Octets.{index_of}
 use Rattle.events.specs.Events.{Events, none}
-use Rattle.events.specs.Members.{places}
+use Rattle.events.specs.Members.{places, members}
+use Rattle.events.specs.declared.EventSet.{EventSet}
 use Rattle.letters.specs.Decimal.{decimal}
 use Rattle.letters.specs.Text.{bytes, space}
 use Rattle.listing.specs.Input.{Under, with_all}
@@ -52,6 +54,17 @@ Counted n room = (n ≤ length room) × (n ≡ length (take n room))
 abbrev pub BytesRead : List ℕ → List ℕ → List ℕ → Bool → ℕ → Type 0
 BytesRead text = WordRead 2 256 (λ i. byte_at text (2 * i)) text
 
+-- the same of an answer: how many numbers there are, or none
+abbrev pub WordIn : (width limit : ℕ) (value : ℕ → ℕ) → List ℕ → List ℕ → List ℕ → Option ℕ → Type 0
+WordIn width limit value text old new r =
+    MatchOption r (WordRead width limit value text old new false 0) (λ n. WordRead width limit value text old new true n × Counted n new)
+
+abbrev pub BytesIn : List ℕ → List ℕ → List ℕ → Option ℕ → Type 0
+BytesIn text = WordIn 2 256 (λ i. byte_at text (2 * i)) text
+
+abbrev pub RowIn : List ℕ → List ℕ → List ℕ → Option ℕ → Type 0
+RowIn text = WordIn 4 65536 (λ i. number_at text (4 * i)) text
+
 -- where the first word of a text ends: at its first space
 abbrev pub word_end : List ℕ → ℕ
 word_end text = index_of space text
@@ -67,10 +80,19 @@ pub data PairRead (text a b : List ℕ) : List ℕ → List ℕ → Bool → ℕ
   two_words : {a' b' : List ℕ} {n m : ℕ} → word_end text < length text → BytesRead (take (word_end text) text) a a' true n
       → BytesRead (drop (word_end text + 1) text) b b' true m → PairRead text a b a' b' true n m
 
+-- the same of an answer: how many bytes each has, or none
+abbrev pub PairIn : List ℕ → List ℕ → List ℕ → List ℕ → List ℕ → Option (ℕ × ℕ) → Type 0
+PairIn text a b a' b' r =
+    MatchOption r (PairRead text a b a' b' false 0 0) (λ p. PairRead text a b a' b' true p.0 p.1 × Counted p.0 a' × Counted p.1 b')
+
 -- reading EVENTS: whether a text is such a list, and the events that it names
 pub data ListRead (text : List ℕ) : Bool → Events → Type 0 where
   good_list : (events : List ℕ) → Under places events → text ≡ listed events → ListRead text true (with_all events none)
   bad_list : ((events : List ℕ) → Under places events → text ≡ listed events → ⊥) → ListRead text false none
+
+-- the same of an answer: the set of the events, or none
+abbrev pub ListIn : List ℕ → Option EventSet → Type 0
+ListIn text r = MatchOption r (ListRead text false none) (λ s. ListRead text true (members s))
 
 unfoldable pub digit : ℕ → ℕ
 digit d = cond (ltb d 10) (48 + d) (87 + d)

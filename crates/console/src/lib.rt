@@ -15,6 +15,9 @@ mod rest;
 
 pub use rest::keep_rest;
 
+// The room for a table: one byte more than the longest has, so that a longer file is seen to be longer.
+pub const TABLE: usize = 32779;
+
 // A proved loop has to end, so it counts its turns, up to a number that no run reaches.
 pub const TURNS: usize = 140737488355328;
 
@@ -50,30 +53,22 @@ pub fn read_all<R: Read>(reader: &mut R, room: &mut [u8]) -> io::Result<usize>
     Ok(done)
 }
 
-// The bytes of `table.bin` at the start of the room; none if it can't be read.
-pub fn read_table(files: &impl Files, room: &mut [u8]) -> usize
-    ensures { result ≤ length room.new }
+// The bytes of `table.bin`, read to the start of the room; none if it can't be read.
+pub fn read_table<'a>(files: &impl Files, room: &'a mut [u8]) -> &'a [u8]
+    ensures { length result.now ≤ length room.old }
 {
     read_named(files, "table.bin", room)
 }
 
-// The same of any file of the current folder. Files are named in UTF-8: any other name is of no file that can be read.
-pub fn read_file(files: &impl Files, name: &[u8], room: &mut [u8]) -> usize
-    ensures { result ≤ length room.new }
+// The same of any file of the current folder.
+pub fn read_named<'a>(files: &impl Files, name: &str, room: &'a mut [u8]) -> &'a [u8]
+    ensures { length result.now ≤ length room.old }
 {
-    match str::from_utf8(name) {
-        Ok(name) => read_named(files, name, room),
-        Err(_) => 0,
-    }
-}
-
-fn read_named(files: &impl Files, name: &str, room: &mut [u8]) -> usize
-    ensures { result ≤ length room.new }
-{
-    match File::open(files, name) {
+    let length = match File::open(files, name) {
         Ok(mut file) => read_all(&mut file, room).unwrap_or(0),
         Err(_) => 0,
-    }
+    };
+    &room[..length]
 }
 
 // Writes a text and answers how much of it could be written.

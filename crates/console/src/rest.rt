@@ -8,18 +8,7 @@ pub fn keep_rest(block: &mut [u8], from: usize, to: usize, longest: usize) -> us
     ensures value { result ≡ min (to - from) (longest + 1) }
     ensures block_after { block.new ≡ take result (drop from block.old) ++ drop result block.old }
 {
-    let n = least(to - from, longest + 1);
-    for i in 0..n {
-        block[i] = block[from + i];
-    }
+    let n = (to - from).min(longest + 1);
+    block.copy_within(from..from + n, 0);
     n
-}
-
-fn least(a: usize, b: usize) -> usize
-    ensures { result ≡ min a b }
-{
-    if a < b {
-        return a;
-    }
-    b
 }

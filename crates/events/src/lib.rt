@@ -64,8 +64,8 @@ impl EventSet {
         ensures { result ≡ how_many places (members self) }
     {
         let mut n: usize = 0;
-        for i in 0..WORDS {
-            n += u64::count_ones(self.words[i]) as usize;
+        for word in self.words.iter() {
+            n += word.count_ones() as usize;
         }
         n
     }
@@ -74,8 +74,8 @@ impl EventSet {
     pub fn lowest(self) -> usize
         ensures { result ≡ lowest places (members self) }
     {
-        for at in 0..WORDS {
-            let low = u64::trailing_zeros(self.words[at]) as usize;
+        for (at, word) in self.words.iter().enumerate() {
+            let low = word.trailing_zeros() as usize;
             if low < 64 {
                 return 64 * at + low;
             }

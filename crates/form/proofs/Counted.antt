@@ -17,7 +17,8 @@ use Rattle.form.specs.Form.{says_repeat_ext}
 use Rattle.form.specs.Made.{larger, named_in, named, tests}
 use Rattle.form.specs.Inside.Machine.{End, close, comma, space, end_byte, Number, event, plain, value, cap, limit, Stack}
 use Rattle.form.specs.Inside.Machine.{byte, prog, conf, inner, joint, num, tail, on, step}
-use Rattle.form.specs.Inside.Counted.{Counts, counts, none, a_node, a_test, an_event, counted, tally}
+use Rattle.form.specs.declared.Sizes.{Sizes}
+use Rattle.form.specs.Inside.Counted.{counts, none, a_node, a_test, an_event, counted, tally}
 use Rattle.letters.proofs.ReadsDecimal.{Reader, reads_decimal}
 use Rattle.form.proofs.Steps.{digit, step_num, step_conf, step_inner, step_tail, step_end, no_end}
 use Rattle.form.proofs.Accepts.{wants}
@@ -43,14 +44,14 @@ at_least_one : (a b : ℕ) → 1 ≤ a → larger a b ≡ larger a (larger b 1)
 at_least_one a b h = rw (larger_max b 1, larger_max a b, larger_max a (max b 1)) (omega arith)
 
 -- so many nodes, tests and events more
-abbrev plus : Counts → ℕ → ℕ → ℕ → Counts
+abbrev plus : Sizes → ℕ → ℕ → ℕ → Sizes
 plus k n m v = counts (k.nodes + n) (k.tests + m) (larger k.events v)
 
 alike : (σ : Stack) (x : List ℕ) {n n' m m' v v' : ℕ} → n ≡ n' → m ≡ m' → v ≡ v'
     → tally σ x (counts n m v) ≡ tally σ x (counts n' m' v')
 alike σ x e f g = rw (e, f, g)
 
-tally_end : (v : ℕ) (e : End) (σ : Stack) (x : List ℕ) (k : Counts)
+tally_end : (v : ℕ) (e : End) (σ : Stack) (x : List ℕ) (k : Sizes)
     → tally (tail event v e ∷ σ) (end_byte e ∷ x) k ≡ tally σ x (an_event v k)
 unfolding tally
 tally_end v e σ x k = rw (step_end event v e σ) (simp (eq-eqb (end_byte e) (end_byte e) refl))
@@ -61,19 +62,19 @@ data NoEvent : Number → Type 0 where
   is_value : NoEvent value
   is_cap : NoEvent cap
 
-counts_nothing : {n : Number} → NoEvent n → (v : ℕ) (e : End) (σ : Stack) (b : ℕ) (k : Counts) → counted (tail n v e ∷ σ) b k ≡ k
+counts_nothing : {n : Number} → NoEvent n → (v : ℕ) (e : End) (σ : Stack) (b : ℕ) (k : Sizes) → counted (tail n v e ∷ σ) b k ≡ k
 unfolding counted
 counts_nothing is_plain v e σ b k = refl
 counts_nothing is_value v e σ b k = refl
 counts_nothing is_cap v e σ b k = refl
 
-tally_other : {n : Number} → NoEvent n → (v : ℕ) (e : End) (σ : Stack) (x : List ℕ) (k : Counts)
+tally_other : {n : Number} → NoEvent n → (v : ℕ) (e : End) (σ : Stack) (x : List ℕ) (k : Sizes)
     → tally (tail n v e ∷ σ) (end_byte e ∷ x) k ≡ tally σ x k
 unfolding tally
 tally_other {n} o v e σ x k = rw (step_end n v e σ, counts_nothing o v e σ (end_byte e) k)
 
 -- digits of a number under way count nothing
-counted_digit : (n : Number) (v : ℕ) (e : End) (σ : Stack) (d : ℕ) (k : Counts)
+counted_digit : (n : Number) (v : ℕ) (e : End) (σ : Stack) (d : ℕ) (k : Sizes)
     → counted (tail n v e ∷ σ) (digit d) k ≡ k
 unfolding counted
 counted_digit event v e σ d k = simp (ne_eqb (48 + d) (end_byte e) (no_end e d))
@@ -81,7 +82,7 @@ counted_digit plain v e σ d k = refl
 counted_digit value v e σ d k = refl
 counted_digit cap v e σ d k = refl
 
-number_reader : (n : Number) (e : End) (σ τ : Stack) (k k' : Counts)
+number_reader : (n : Number) (e : End) (σ τ : Stack) (k k' : Sizes)
     → ((d : ℕ) → d < 10 → step σ (digit d) ≡ on (tail n d e ∷ τ))
     → ((d : ℕ) → d < 10 → counted σ (digit d) k ≡ k')
     → Reader (limit n) (λ w. tally σ w k) (λ v w. tally (tail n v e ∷ τ) w k')
@@ -92,26 +93,26 @@ number_reader n e σ τ k k' f g =
       more = λ v d x a h l. rw (step_tail n v e τ d a h l, counted_digit n v e τ d k');
     }
 
-tally_event : (e : End) (σ : Stack) (x : List ℕ) (k : Counts) (s : ℕ) → s < places
+tally_event : (e : End) (σ : Stack) (x : List ℕ) (k : Sizes) (s : ℕ) → s < places
     → tally (num event e ∷ σ) (decimal s ++ (end_byte e ∷ x)) k ≡ tally σ x (an_event s k)
 unfolding counted
 tally_event e σ x k s h =
     let r = number_reader event e (num event e ∷ σ) σ k k (step_num event e σ) (λ d _. refl) in
     reads_decimal r s (omega arith) (end_byte e ∷ x) ∙ tally_end s e σ x k
 
-tally_number_lem : {n : Number} → NoEvent n → (e : End) (σ : Stack) (x : List ℕ) (k : Counts) (a : ℕ) → a ≤ limit n
+tally_number_lem : {n : Number} → NoEvent n → (e : End) (σ : Stack) (x : List ℕ) (k : Sizes) (a : ℕ) → a ≤ limit n
     → tally (num n e ∷ σ) (decimal a ++ (end_byte e ∷ x)) k ≡ tally σ x k
 unfolding counted
 tally_number_lem {n} o e σ x k a h =
     let r = number_reader n e (num n e ∷ σ) σ k k (step_num n e σ) (λ d _. refl) in
     reads_decimal r a h (end_byte e ∷ x) ∙ tally_other o a e σ x k
 
-conf_reader : (e : End) (σ : Stack) (k : Counts)
+conf_reader : (e : End) (σ : Stack) (k : Sizes)
     → Reader (places - 1) (λ w. tally (conf e ∷ σ) w k) (λ v w. tally (tail event v e ∷ σ) w (a_test k))
 unfolding counted
 conf_reader e σ k = number_reader event e (conf e ∷ σ) σ k (a_test k) (step_conf e σ) (λ d _. refl)
 
-inner_reader : (σ : Stack) (k : Counts)
+inner_reader : (σ : Stack) (k : Sizes)
     → Reader (places - 1) (λ w. tally (inner ∷ σ) w k) (λ v w. tally (tail event v space ∷ joint ∷ σ) w (a_test k))
 unfolding counted
 inner_reader σ k =
@@ -119,7 +120,7 @@ inner_reader σ k =
     (λ d h. simp (ne_eqb (48 + d) 110 (λ z. omega arith)))
 
 -- where a configuration's first part may stand, it is counted as a configuration before a space
-as_conf : {c : Config} {u : List ℕ} → SaysTest c u → (σ : Stack) (x : List ℕ) (k : Counts)
+as_conf : {c : Config} {u : List ℕ} → SaysTest c u → (σ : Stack) (x : List ℕ) (k : Sizes)
     → tally (inner ∷ σ) (u ++ x) k ≡ tally (conf space ∷ joint ∷ σ) (u ++ x) k
 unfolding tally
 as_conf (says_event {s} h) σ x k =
@@ -129,11 +130,11 @@ as_conf (says_not d) σ x k = refl
 as_conf (says_and c d) σ x k = refl
 as_conf (says_or c d) σ x k = refl
 
-tally_byte : (c : ℕ) (σ : Stack) (x : List ℕ) (k : Counts) → tally (byte c ∷ σ) (c ∷ x) k ≡ tally σ x k
+tally_byte : (c : ℕ) (σ : Stack) (x : List ℕ) (k : Sizes) → tally (byte c ∷ σ) (c ∷ x) k ≡ tally σ x k
 unfolding tally
 tally_byte c σ x k = simp (eq-eqb c c refl)
 
-tally_conf : {c : Config} {u : List ℕ} → SaysTest c u → (e : End) (σ : Stack) (x : List ℕ) (k : Counts)
+tally_conf : {c : Config} {u : List ℕ} → SaysTest c u → (e : End) (σ : Stack) (x : List ℕ) (k : Sizes)
     → tally (conf e ∷ σ) (u ++ (end_byte e ∷ x)) k ≡ tally σ x (plus k 0 (weight c) (named_in c))
 unfolding tally weight named_in
 tally_conf (says_event {s} h) e σ x k =
@@ -163,10 +164,10 @@ tree_of (later_seq p) = p
 tree_of (later_par p) = p
 
 -- the counts with a program's added
-abbrev with : Counts → Program → Counts
+abbrev with : Sizes → Program → Sizes
 with k p = plus k (size p) (tests p) (named p)
 
-counts_piece : {s : Piece} {w : List ℕ} → Says s w → (σ : Stack) (x : List ℕ) (k : Counts) → 1 ≤ k.events
+counts_piece : {s : Piece} {w : List ℕ} → Says s w → (σ : Stack) (x : List ℕ) (k : Sizes) → 1 ≤ k.events
     → tally (wants s σ) (w ++ x) k ≡ tally σ x (with k (tree_of s))
 unfolding tally size tests named
 counts_piece says_nothing σ x k h = alike σ x (omega arith) (omega arith) (sym (larger_one k.events h))

@@ -9,7 +9,8 @@ use Rattle.form.specs.Form.{Says, whole}
 use Rattle.form.specs.Fails.{Fails}
 use Rattle.form.specs.Made.{named, tests}
 use Rattle.form.specs.Inside.Machine.{Sym, Stack, dead, on, step, run, reach}
-use Rattle.form.specs.Inside.Counted.{Counts, counts, none, counted, tally}
+use Rattle.form.specs.declared.Sizes.{Sizes}
+use Rattle.form.specs.Inside.Counted.{counts, none, counted, tally}
 use Rattle.form.specs.Inside.ReadTo.{start, ReadTo}
 use Rattle.form.proofs.Counted.{tallied}
 use Rattle.form.proofs.FailsHere.{Stops, stops, fails}
@@ -24,7 +25,7 @@ drop_at [] i h = absurd (omega arith)
 drop_at (b ∷ t) zero h = refl
 drop_at (b ∷ t) (suc i) h = let z : suc i + 1 ≡ suc (i + 1) = omega arith in rw z (drop_at t i (omega arith))
 
-pub stands_on : {t : List ℕ} {i : ℕ} {σ τ : Stack} {k : Counts} → ReadTo t i σ k
+pub stands_on : {t : List ℕ} {i : ℕ} {σ τ : Stack} {k : Sizes} → ReadTo t i σ k
     → i < length t → step σ (get_or t i 0) ≡ on τ → ReadTo t (i + 1) τ (counted σ (get_or t i 0) k)
 unfolding run reach tally
 stands_on {t} {i} s h e =
@@ -38,7 +39,7 @@ stands_on {t} {i} s h e =
     }
 
 -- no reading goes on at byte i
-pub stands_dead : {t : List ℕ} {i : ℕ} {σ : Stack} {k : Counts} → ReadTo t i σ k
+pub stands_dead : {t : List ℕ} {i : ℕ} {σ : Stack} {k : Sizes} → ReadTo t i σ k
     → i < length t → step σ (get_or t i 0) ≡ dead → Fails t i
 unfolding run reach
 stands_dead {t} {i} s h e =
@@ -53,7 +54,7 @@ drop_end [] = refl
 drop_end (b ∷ t) = drop_end t
 
 -- the text ends early
-pub stands_short : {t : List ℕ} {s : Sym} {σ : Stack} {k : Counts} → ReadTo t (length t) (s ∷ σ) k
+pub stands_short : {t : List ℕ} {s : Sym} {σ : Stack} {k : Sizes} → ReadTo t (length t) (s ∷ σ) k
     → Fails t (length t)
 unfolding run reach
 stands_short {t} s =
@@ -63,7 +64,7 @@ stands_short {t} s =
     fails t (length t) (subst (Stops start t) a (stops t start)) (λ o. cons≢nil (sym (rw z at s.runs_on) ∙ o))
 
 -- the text ends with nothing more to come: it has a reading, and its counts are known
-pub stands_whole : {t : List ℕ} {k : Counts} → ReadTo t (length t) [] k
+pub stands_whole : {t : List ℕ} {k : Sizes} → ReadTo t (length t) [] k
     → (p : Program) × Says (whole p) t × (k ≡ counts (size p) (tests p) (named p))
 unfolding run tally
 stands_whole {t} s =

@@ -8,7 +8,8 @@ use native.Mathlib.Omega.{arith}
 use lib.Dec.{leb}
 use borrow.Author.Tests.{le-leb, lt-leb}
 use Rattle.junior.specs.Program.{Program, size}
-use Rattle.table.specs.declared.Checked.TheVariants.{BadCounts}
+use Rattle.std.specs.Prelude.{Err}
+use Rattle.table.specs.declared.TableRefusal.TheVariants.{BadCounts}
 use Rattle.table.specs.Records.{nodes}
 use Rattle.table.specs.Spells.{tree_of}
 use Rattle.table.specs.Verdict.{counts_good, program_verdict, verdict_of, number_of}
@@ -50,11 +51,11 @@ module _ (p : Program) (f : InForm p) where
         ∙ ap program_verdict made_tree
 
   -- 2 where it has too many nodes or tests
-  pub made_too_large : needed p ≤ 32778 → 4096 < size p → verdict_of (table_of p) ≡ BadCounts
+  pub made_too_large : needed p ≤ 32778 → 4096 < size p → verdict_of (table_of p) ≡ Err BadCounts
   unfolding verdict_of
   made_too_large n s = rw (made_length_good p n, made_counts_good p f, lt-leb (size p) 4096 s)
 
-  pub made_too_many : needed p ≤ 32778 → 2048 < tests p → verdict_of (table_of p) ≡ BadCounts
+  pub made_too_many : needed p ≤ 32778 → 2048 < tests p → verdict_of (table_of p) ≡ Err BadCounts
   unfolding verdict_of
   made_too_many n m =
       rw (made_length_good p n, made_counts_good p f, lt-leb (tests p) 2048 m, and-false (leb (size p) 4096))
@@ -74,5 +75,5 @@ module _ (t : List ℕ) (a : number_of (verdict_of t) ≡ 0) where
       let v = made_verdict (tree_of t) formed.in_form formed.low n (omega arith) m in
       (v ∙ sym (accepted t a).verdict_is, made_tree (tree_of t) formed.in_form formed.low)
 
-  pub round_trip_refused : needed (tree_of t) ≤ 32778 → 2048 < tests (tree_of t) → verdict_of (table_of (tree_of t)) ≡ BadCounts
+  pub round_trip_refused : needed (tree_of t) ≤ 32778 → 2048 < tests (tree_of t) → verdict_of (table_of (tree_of t)) ≡ Err BadCounts
   round_trip_refused n m = made_too_many (tree_of t) formed.in_form n m

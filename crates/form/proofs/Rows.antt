@@ -1,16 +1,20 @@
 -- The table of names in bytes: going along a row, and what each row says, by computed tests over the whole table.
 use Prim.Native.Nat.{ℕ, zero, suc, ◌+◌, ◌-◌, ◌≤◌, ◌<◌}
 use mathlib.Core.Bool.{Bool, true, false, cond, ◌&&◌, ◌||◌}
-use mathlib.Core.Path.{◌≡◌, refl, ◌∙◌}
+use mathlib.Core.Path.{◌≡◌, refl, sym, ap, ◌∙◌}
 use mathlib.Core.List.{List, [], ◌∷◌, ◌++◌}
+use native.Mathlib.Nat.{add-zero}
 use native.Mathlib.Omega.{arith}
 use lib.Dec.{eqb, leb}
-use lib.ListN.{length, get_or, take, drop, drop_of_length-le, get_or-eq_default}
-use lib.Seq.{drop-cons}
+use lib.ListN.{length, get_or, take, drop, get_or-eq_default}
 use borrow.Author.Tests.{eqb-true, leb-true, eq-eqb, ne_eqb}
+use Rattle.std.specs.Prelude.{None}
+use Rattle.std.specs.List.{position, position_or_len}
+use Rattle.std.proofs.lemmas.Grind.{common_steps}
+use Rattle.std.proofs.lemmas.List.Sums.{fails_before_first}
 use Rattle.letters.specs.Text.{bytes}
 use Rattle.form.specs.Names.{form_of}
-use Rattle.form.specs.Inside.Rows.{names, row_at, form_row, form_count, long, code_at, ends_name, behind_name, name_end, starts, named}
+use Rattle.form.specs.Inside.Rows.{names, row_at, form_row, form_count, long, code_at, ends_name, behind_name, name_end, inside, starts, named}
 use Rattle.form.specs.Inside.Rows.{word_row, form_from, form_in, pair_of, same}
 use Rattle.form.proofs.ComputedTests.{both, all, all_at, same_list}
 
@@ -24,46 +28,53 @@ unfolding code_at
 behind p h = let l : length names ≤ p = rw length_names h in get_or-eq_default names 0 l
 
 -- a text against a row, byte by byte
-module _ (l t : List ℕ) (p i : ℕ) where
-  pub starts_out : length t ≤ i → starts (drop p l) (drop i t) ≡ false
+module _ (x b : ℕ) (l w : List ℕ) where
+  pub starts_not : (b ≡ x → ⊥) → starts (x ∷ l) (b ∷ w) ≡ false
   unfolding starts
-  starts_out h = rw (drop_of_length-le t h) (go (drop p l))
-    where
-      go : (m : List ℕ) → starts m [] ≡ false
-      go [] = refl
-      go (x ∷ m) = refl
+  starts_not e = rw (ne_eqb b x e)
 
-  pub starts_over : length l ≤ p → starts (drop p l) (drop i t) ≡ false
+  pub starts_ends : b ≡ x → ends_name x ≡ true → starts (x ∷ l) (b ∷ w) ≡ true
   unfolding starts
-  starts_over h = rw (drop_of_length-le l h)
+  starts_ends e f = rw (eq-eqb b x e, f)
 
-  module _ (h : p < length l) (g : i < length t) where
-    pub starts_not : (get_or t i 0 ≡ get_or l p 0 → ⊥) → starts (drop p l) (drop i t) ≡ false
-    unfolding starts
-    starts_not e = rw (drop-cons l p 0 h, drop-cons t i 0 g, ne_eqb (get_or t i 0) (get_or l p 0) e)
+  pub starts_on : b ≡ x → ends_name x ≡ false → starts (x ∷ l) (b ∷ w) ≡ starts l w
+  unfolding starts
+  starts_on e f = rw (eq-eqb b x e, f)
 
-    pub starts_ends : get_or t i 0 ≡ get_or l p 0 → ends_name (get_or l p 0) ≡ true → starts (drop p l) (drop i t) ≡ true
-    unfolding starts
-    starts_ends e f = rw (drop-cons l p 0 h, drop-cons t i 0 g, eq-eqb (get_or t i 0) (get_or l p 0) e, f)
+pub starts_over : (l w : List ℕ) → length l ≡ 0 → starts l w ≡ false
+unfolding starts
+starts_over [] w h = refl
+starts_over (x ∷ l) w h = absurd (omega arith)
 
-    pub starts_on : get_or t i 0 ≡ get_or l p 0 → ends_name (get_or l p 0) ≡ false
-        → starts (drop p l) (drop i t) ≡ starts (drop (suc p) l) (drop (suc i) t)
-    unfolding starts
-    starts_on e f = rw (drop-cons l p 0 h, drop-cons t i 0 g, eq-eqb (get_or t i 0) (get_or l p 0) e, f)
+pub starts_out : (l w : List ℕ) → length w ≡ 0 → starts l w ≡ false
+unfolding starts
+starts_out [] w h = refl
+starts_out (x ∷ l) [] h = refl
+starts_out (x ∷ l) (b ∷ w) h = absurd (omega arith)
 
 -- going along a row to the end of its name
-module _ (l : List ℕ) (p : ℕ) where
-  pub end_here : p < length l → ends_name (get_or l p 0) ≡ true → behind_name p (drop p l) ≡ suc p
-  unfolding behind_name
-  end_here h e = rw (drop-cons l p 0 h, e)
+pub behind_found : (p : ℕ) (l : List ℕ) (i : ℕ) → i < length l → ends_name (get_or l i 0) ≡ true
+    → ((k : ℕ) → k < i → ends_name (get_or l k 0) ≡ false) → behind_name p l ≡ suc (p + i)
+unfolding behind_name
+behind_found p [] i h e f = absurd (omega arith)
+behind_found p (x ∷ l) zero h e f = let z : suc (p + 0) ≡ suc p = omega arith in rw (e, z)
+behind_found p (x ∷ l) (suc i) h e f =
+    let z : suc (suc p + i) ≡ suc (p + suc i) = omega arith in
+    let g : ends_name x ≡ false = f 0 (omega arith) in
+    rw g (behind_found (suc p) l i (omega arith) e (λ k h. f (suc k) (omega arith)) ∙ z)
 
-  pub end_on : p < length l → ends_name (get_or l p 0) ≡ false → behind_name p (drop p l) ≡ behind_name (suc p) (drop (suc p) l)
-  unfolding behind_name
-  end_on h e = rw (drop-cons l p 0 h, e)
+pub behind_none : (p : ℕ) (l : List ℕ) → ((k : ℕ) → k < length l → ends_name (get_or l k 0) ≡ false) → behind_name p l ≡ p + length l
+unfolding behind_name
+behind_none p [] f = omega arith
+behind_none p (x ∷ l) f =
+    let z : suc p + length l ≡ p + suc (length l) = omega arith in
+    let g : ends_name x ≡ false = f 0 (omega arith) in
+    rw g (behind_none (suc p) l (λ k h. f (suc k) (omega arith)) ∙ z)
 
-  pub end_none : length l ≤ p → behind_name p (drop p l) ≡ p
-  unfolding behind_name
-  end_none h = rw (drop_of_length-le l h)
+pub none_passes : (p : ℕ → Bool) (l : List ℕ) → position p l ≡ None → (k : ℕ) → k < length l → p (get_or l k 0) ≡ false
+none_passes p l e k h =
+    let past : length l ≤ position_or_len p l = grind (arith, common_steps) in
+    fails_before_first p l k 0 (omega arith)
 
 behind_le : (p : ℕ) (l : List ℕ) → p ≤ behind_name p l
 unfolding behind_name
@@ -78,6 +89,15 @@ behind_le p (x ∷ l) = go (ends_name x) (behind_name (suc p) l) (behind_le (suc
 pub name_after : (r : ℕ) → row_at r ≤ name_end r
 unfolding name_end
 name_after r = behind_le (row_at r) (drop (row_at r) names)
+
+-- the codes behind the name of a kind's form
+module _ (k : ℕ) {n : ℕ} (is : n ≡ name_end (form_row k)) where
+  pub code_behind : (j : ℕ) → code_at (n + j) ≡ inside k j
+  unfolding inside
+  code_behind j = rw is
+
+  pub code_first : code_at n ≡ inside k 0
+  code_first = ap code_at (sym (add-zero n)) ∙ code_behind 0
 
 -- the search for a name, form by form
 left_over : (k : ℕ) → k < form_count → form_count - k ≡ suc (form_count - suc k)

@@ -1,23 +1,36 @@
-// The written form of programs as definitions (specs/) with their laws (proofs/), and the test that its readers share; the calls that
+// The written form of programs as definitions (specs/) with their laws (proofs/), and what its readers share; the calls that
 // read and print it are crate text's.
 #![tactic(auto)]
 
 pub mod names;
 
-ghost use Rattle.std.specs.Prelude.{◌-◌, ◌<◌, true, ◌≡◌};
+ghost use Rattle.std.specs.Prelude.{◌-◌, ◌<◌, false, true, ◌≡◌, MatchOption, set};
 ghost use Rattle.form.specs.Inside.Machine.{is_digit_byte};
 
-// A byte is a digit.
-pub fn is_digit(b: u8) -> bool
-    ensures { result ≡ is_digit_byte b }
-{
-    (b'0' <= b) & (b <= b'9')
+// What a text tells of its table: nodes, configuration records, and one above the highest event named.
+#[derive(Clone, Copy)]
+pub struct Sizes {
+    pub nodes: usize,
+    pub tests: usize,
+    pub events: usize,
 }
 
-// The value of a digit.
-pub fn digit_value(b: u8) -> usize
-    requires { is_digit_byte b ≡ true }
-    ensures { (result ≡ b - 48) × (result < 256) }
+// The value of a digit; none of another byte.
+pub fn digit_value(b: u8) -> Option<usize>
+    ensures { MatchOption result (is_digit_byte b ≡ false) (λ d. (is_digit_byte b ≡ true) × (d ≡ b - 48) × (d < 10)) }
 {
-    (b - b'0') as usize
+    if b.is_ascii_digit() {
+        Some((b - b'0') as usize)
+    } else {
+        None
+    }
+}
+
+// Byte `at` becomes b, if there is one. (`get_mut` leaves a room of which the check doesn't know what it holds.)
+pub fn store(room: &mut [u8], at: usize, b: u8)
+    ensures { room.new ≡ set room.old at b }
+{
+    if at < room.len() {
+        room[at] = b;
+    }
 }

@@ -1,6 +1,8 @@
 // The table of names: for each form, in the order of the kinds, its name and what stands in its brackets.
-ghost use Rattle.std.specs.Prelude.{◌≡◌, ◌<◌, ◌≤◌, drop};
-ghost use Rattle.form.specs.Inside.Rows.{TheNames, form_row, form_count, long, code_at, ends_name, name_end, named, form_in, pair_of};
+ghost use Rattle.std.specs.Prelude.{◌≡◌, ◌-◌, ◌<◌, ◌≤◌, MatchOption, position, take, drop};
+ghost use Rattle.form.specs.Inside.Rows.{TheNames, names as the_bytes, row_at, form_row, form_count, long, code_at, ends_name, name_end};
+ghost use Rattle.form.specs.Inside.PairKinds.{pair_kind};
+ghost use Rattle.form.specs.Inside.Rows.{named, form_in, pair_of};
 
 // How many forms there are; the length of a row; the first form's row and the first word's; the length of the table.
 pub const FORMS: usize = 16;
@@ -15,7 +17,7 @@ pub const LONG: usize = ROW * (FIRST_FORM + FORMS);
 
 // A text; a program; a configuration behind its bracket; the words of the configurations by kind; the forms. The codes from 128 on
 // are below; zeros fill a row up.
-const NAMES: [u8; LONG] = *b"\
+const BYTES: [u8; LONG] = *b"\
     \x80\0\0\0\0\0\0\0\0\0\0\0\0\0\0\0\0\0\0\0\
     Jr.\x81\0\0\0\0\0\0\0\0\0\0\0\0\0\0\0\0\
     \x88 \x89\0\0\0\0\0\0\0\0\0\0\0\0\0\0\0\0\0\
@@ -61,11 +63,18 @@ pub const VALUE: u8 = 140;
 
 pub const CAP: u8 = 141;
 
-// A copy of the table. Each mention of a constant array copies it, so a call asks for one copy and lends it down.
-pub fn table_of_names() -> [u8; LONG]
-    ensures { TheNames result }
-{
-    NAMES
+// The table as readers and the printer are lent it.
+#[derive(Clone, Copy)]
+pub struct Names {
+    bytes: [u8; LONG],
+    ghost the_names: { TheNames bytes },
+}
+
+// The words between the two parts of a configuration.
+#[derive(Clone, Copy)]
+pub enum Pair {
+    And,
+    Or,
 }
 
 // A name ends with its bracket, a word with a space.
@@ -75,83 +84,92 @@ fn ends_name(x: u8) -> bool
     (x == b'(') | (x == b' ')
 }
 
-// The code at a place; 0 behind the end.
-pub fn code(names: &[u8; LONG], at: usize) -> u8
-    requires { TheNames names.now }
-    ensures { result ≡ code_at at }
+// Which byte ends the name that begins a row.
+fn last_of_name(row: &[u8]) -> Option<usize>
+    ensures { result ≡ position ends_name row.now }
 {
-    if at < LONG {
-        return names[at];
-    }
-    0
+    row.iter().position(|x| ends_name(*x))
 }
 
-// Whether a text has the name of a row at byte `at`.
-pub fn is_named(names: &[u8; LONG], row: usize, text: &[u8], at: usize) -> bool
-    requires the_names { TheNames names.now }
-    requires row_bound { row ≤ form_row form_count }
-    ensures { result ≡ named row (drop at text.now) }
-{
-    let mut p = ROW * row;
-    let mut i = at;
-    while i < text.len() {
-        if LONG <= p {
-            return false;
-        }
-        let x = names[p];
-        if text[i] != x {
-            return false;
-        }
-        if ends_name(x) {
-            return true;
-        }
-        p += 1;
-        i += 1;
+impl Names {
+    // A copy of the table. Each mention of a constant array copies it, so a call asks for one copy and lends it down.
+    pub fn new() -> Names {
+        Names { bytes: BYTES }
     }
-    false
-}
 
-// The kind of the form whose name a text has at byte `at`; FORMS if it has none.
-pub fn form_named(names: &[u8; LONG], text: &[u8], at: usize) -> usize
-    requires { TheNames names.now }
-    ensures { (result ≡ form_in (drop at text.now)) × (result ≤ form_count) }
-{
-    let mut k = 0;
-    while k < FORMS {
-        if is_named(names, FIRST_FORM + k, text, at) {
-            return k;
-        }
-        k += 1;
+    // The code at a place; 0 behind the end, as behind a row's last code.
+    pub fn code(&self, at: usize) -> u8
+        ensures { result ≡ code_at at }
+    {
+        self.bytes.get(at).copied().unwrap_or(0)
     }
-    k
-}
 
-// 2 where a text has `and` at byte `at`, 3 where it has `or`, and else 0.
-pub fn pair_named(names: &[u8; LONG], text: &[u8], at: usize) -> u8
-    requires { TheNames names.now }
-    ensures { result ≡ pair_of (drop at text.now) }
-{
-    if is_named(names, FIRST_WORD + 2, text, at) {
-        return 2;
+    // The bytes from a place to another.
+    pub fn part(&self, begin: usize, end: usize) -> &[u8]
+        requires rising { begin ≤ end }
+        requires in_the_table { end ≤ long }
+        ensures { result.now ≡ take (end - begin) (drop begin the_bytes) }
+    {
+        &self.bytes[begin..end]
     }
-    if is_named(names, FIRST_WORD + 3, text, at) {
-        return 3;
-    }
-    0
-}
 
-// Behind the name of a row.
-pub fn name_end(names: &[u8; LONG], row: usize) -> usize
-    requires the_names { TheNames names.now }
-    requires row_bound { row ≤ form_row form_count }
-    ensures { (result ≡ name_end row) × (result ≤ long) }
-{
-    let mut p = ROW * row;
-    while p < LONG {
-        if ends_name(names[p]) {
-            return p + 1;
-        }
-        p += 1;
+    // The bytes from a row on.
+    fn from_row(&self, row: usize) -> &[u8]
+        requires in_the_table { row ≤ form_row form_count }
+        ensures { result.now ≡ drop (row_at row) the_bytes }
+    {
+        &self.bytes[ROW * row..]
     }
-    p
+
+    // Whether a text begins with the name of a row.
+    pub fn is_named(&self, row: usize, text: &[u8]) -> bool
+        requires in_the_table { row ≤ form_row form_count }
+        ensures { result ≡ named row text.now }
+    {
+        for (x, b) in self.from_row(row).iter().zip(text) {
+            if b != x {
+                return false;
+            }
+            if ends_name(*x) {
+                return true;
+            }
+        }
+        false
+    }
+
+    // The kind of the form whose name a text begins with.
+    pub fn form_named(&self, text: &[u8]) -> Option<usize>
+        ensures { MatchOption result (form_in text.now ≡ form_count) (λ k. (k ≡ form_in text.now) × (k < form_count)) }
+    {
+        for k in 0..FORMS {
+            if self.is_named(FIRST_FORM + k, text) {
+                return Some(k);
+            }
+        }
+        None
+    }
+
+    // The word between two parts that a text begins with.
+    pub fn pair_named(&self, text: &[u8]) -> Option<Pair>
+        ensures { pair_kind result ≡ pair_of text.now }
+    {
+        if self.is_named(FIRST_WORD + 2, text) {
+            return Some(Pair::And);
+        }
+        if self.is_named(FIRST_WORD + 3, text) {
+            return Some(Pair::Or);
+        }
+        None
+    }
+
+    // Behind the name of a row.
+    pub fn name_end(&self, row: usize) -> usize
+        requires in_the_table { row ≤ form_row form_count }
+        ensures { (result ≡ name_end row) × (result ≤ long) }
+    {
+        match last_of_name(self.from_row(row)) {
+            Some(last) => ROW * row + last + 1,
+            None => LONG,
+        }
+    }
 }

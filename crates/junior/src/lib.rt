@@ -3,7 +3,7 @@
 #![tactic(auto)]
 
 // What a term answers to a pass (000, 2.3).
-#[derive(Clone, Copy)]
+#[derive(Clone, Copy, PartialEq, Eq)]
 pub enum Flag {
     SUSP,
     STOP,
@@ -11,7 +11,7 @@ pub enum Flag {
 }
 
 // What reading a configuration gives (000, 4.1).
-#[derive(Clone, Copy)]
+#[derive(Clone, Copy, PartialEq, Eq)]
 pub enum Verdict {
     Sat,
     Unsat,

@@ -8,11 +8,12 @@ use lib.Dec.{eqb, ltb, leb}
 use borrow.Author.Tests.{eq-eqb, leb-true, ltb-false, not-false}
 use Rattle.junior.specs.Program.{Program, One, Parts, no_part, one_part, two_parts, parts, size, kind}
 use Rattle.junior.specs.Figures.{stops, LoopsStop, G, A, W, F}
-use Rattle.table.specs.declared.Checked.{Checked}
-use Rattle.table.specs.declared.Checked.TheVariants.{TooDeep, EndlessLoop, TooHeavy, Accepted}
+use Rattle.std.specs.Prelude.{Ok, Err}
+use Rattle.table.specs.declared.Figures.{Figures}
+use Rattle.table.specs.declared.TableRefusal.TheVariants.{TooDeep, EndlessLoop, TooHeavy}
 use Rattle.table.specs.Records.{nodes}
 use Rattle.table.specs.Spells.{tree_of}
-use Rattle.table.specs.Verdict.{Node, preorder, first_such, deep, endless, light, program_verdict, verdict_of, number_of}
+use Rattle.table.specs.Verdict.{Verdict, accepted_with, Node, preorder, first_such, deep, endless, light, program_verdict, verdict_of, number_of}
 use Rattle.table.specs.Inside.{Loaded, Placed}
 use Rattle.table.proofs.Laid.{both}
 use Rattle.table.proofs.Parts.{of_none, of_one, of_two, loops_of_none, loops_of_one, loops_of_two}
@@ -68,27 +69,29 @@ record Allowed (p : Program) (g a w f : ℕ) : Type 0 where
   few : (G p ≤ 4094) × (A p ≤ 4096) × (W p ≤ 65535) × (F p ≤ 16384)
 
 -- a refused answer isn't an accepted one
-not_accepted : {g a w f : ℕ} (c : Checked) (n : ℕ) → number_of c ≡ suc n → c ≡ Accepted g a w f → ⊥
+not_accepted : {g a w f : ℕ} (c : Verdict) (n : ℕ) → number_of c ≡ suc n → c ≡ accepted_with g a w f → ⊥
 unfolding number_of
 not_accepted c n h e = let z = ap number_of e in omega arith
 
-allowed : (p : Program) {g a w f : ℕ} → program_verdict p ≡ Accepted g a w f → Allowed p g a w f
+allowed : (p : Program) {g a w f : ℕ} → program_verdict p ≡ accepted_with g a w f → Allowed p g a w f
 unfolding program_verdict light number_of
 allowed p {g} {a} {w} {f} h =
-    let Is : Checked → Type 0 = λ c. c ≡ Accepted g a w f in
-    let deep_one = passed Is (ltb (first_such deep (preorder 1 p)) (size p)) h (not_accepted (TooDeep _) 5 refl) in
-    let loop_one = passed Is (ltb (first_such endless (preorder 1 p)) (size p)) deep_one.1 (not_accepted (EndlessLoop _) 6 refl) in
-    let (light_one, same) = chosen Is (light p) loop_one.1 (not_accepted TooHeavy 7 refl) in
+    let Is : Verdict → Type 0 = λ c. c ≡ accepted_with g a w f in
+    let deep_one = passed Is (ltb (first_such deep (preorder 1 p)) (size p)) h (not_accepted (Err (TooDeep _)) 5 refl) in
+    let loop_one = passed Is (ltb (first_such endless (preorder 1 p)) (size p)) deep_one.1 (not_accepted (Err (EndlessLoop _)) 6 refl) in
+    let (light_one, same) = chosen Is (light p) loop_one.1 (not_accepted (Err TooHeavy) 7 refl) in
+    let figures : ◌≡◌ {A = Figures} (record { generations = g; atoms = a; nodes = w; parked = f })
+    (record { generations = G p; atoms = A p; nodes = W p; parked = F p }) = cc in
     let few-G = both {a = leb (G p) 4094} light_one in
     let few-A = both {a = leb (A p) 4096} few-G.1 in
     let few-W = both {a = leb (W p) 65535} few-A.1 in
     let past = ltb-false (first_such endless (preorder 1 p)) (size p) loop_one.0 in
     record {
       loops = (loops_stop (parts p) 1 0 [] (rw (append-nil (preorder 1 p)) (omega arith))).0;
-      G_is = cc;
-      A_is = cc;
-      W_is = cc;
-      F_is = cc;
+      G_is = ap (λ x. x.generations) figures;
+      A_is = ap (λ x. x.atoms) figures;
+      W_is = ap (λ x. x.nodes) figures;
+      F_is = ap (λ x. x.parked) figures;
       few = (
         leb-true (G p) 4094 few-G.0,
         leb-true (A p) 4096 few-A.0,
@@ -109,7 +112,7 @@ pub record Admitted (t : List ℕ) (g a w f : ℕ) : Type 0 where
   pub F_is : f ≡ F (tree_of t)
   pub few : G (tree_of t) ≤ 4094
 
-pub admitted : (t : List ℕ) {g a w f : ℕ} → verdict_of t ≡ Accepted g a w f → Admitted t g a w f
+pub admitted : (t : List ℕ) {g a w f : ℕ} → verdict_of t ≡ accepted_with g a w f → Admitted t g a w f
 unfolding number_of
 admitted t h =
     let table = accepted t (ap number_of h) in

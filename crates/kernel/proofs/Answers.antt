@@ -9,16 +9,16 @@ use lib.Seq.{length-take-le, take_all}
 use Rattle.events.specs.Events.{Events}
 use Rattle.junior.specs.Values.{Values}
 use Rattle.junior.specs.Trace.{parks}
+use Rattle.std.specs.Prelude.{Ok, Err}
 use Rattle.table.specs.Records.{nodes}
 use Rattle.state.specs.StateBytes.{state_bytes}
 use Rattle.state.specs.Pieces.{pieces_bytes}
 use Rattle.state.proofs.Standing.{standing}
 use Rattle.store.specs.Store.{in_use, two}
 use Rattle.store.proofs.Room.{room_fits}
-use Rattle.kernel.specs.declared.Outcome.TheVariants.{Ran}
 use Rattle.kernel.specs.declared.Answer.{Answer}
 use Rattle.kernel.specs.declared.passes.Ending.{Ending}
-use Rattle.kernel.specs.Answer.{Rooms, rooms, instant_outcome, Run, Refused, Answered}
+use Rattle.kernel.specs.Answer.{Rooms, rooms, instant_outcome, Run, Answered}
 use Rattle.kernel.specs.Passes.{Startable, RanFree}
 use Rattle.kernel.proofs.Accepted.{admitted}
 use Rattle.kernel.proofs.FreePart.{good_fits, few_parked, begun_empty, in_store}
@@ -84,15 +84,8 @@ run_in_rooms {t} {s} {store = store} {free' = free'} {r = r} p ran =
     }
 
 pub answered_ran : {t s : List ℕ} {X : Events} {value : Values} {row store s' row' free' : List ℕ} {r : Ending} → Passed t s X (rooms row store)
-    → Ran ≡ instant_outcome t s X (rooms row store)
+    → Ok tt ≡ instant_outcome t s X (rooms row store)
     → RanFree t (take (4 * nodes t) s) X value row (drop (2 + in_use store) store) s' row' free' r
     → Answered t s X value (rooms row store) (s' ++ drop (4 * nodes t) s)
-    (rooms row' (two (in_use store + r.parked) ++ drop 2 (take (2 + in_use store) store ++ free'))) r.answer
-answered_ran p i o =
-    record { outcome_is = o.outcome_is ∙ i; ran = λ z. run_in_rooms p o; refused = λ n. absurd (n o.outcome_is) }
-
-pub answered_refused : {t s : List ℕ} {X : Events} {value : Values} {lent : Rooms} {r : Answer} → r.outcome ≡ instant_outcome t s X lent
-    → r.outcome ≢ Ran
-    → Refused r
-    → Answered t s X value lent s lent r
-answered_refused i n o = record { outcome_is = i; ran = λ e. absurd (n e); refused = λ z. (o, refl, refl) }
+    (rooms row' (two (in_use store + r.parked) ++ drop 2 (take (2 + in_use store) store ++ free'))) (Ok r.answer)
+answered_ran p i o = record { outcome_is = i; leaves = run_in_rooms p o }

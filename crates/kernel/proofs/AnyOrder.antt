@@ -11,25 +11,26 @@ use Rattle.junior.specs.Order.{often}
 use Rattle.junior.proofs.Order.{waits_in_any_order, order_free}
 use Rattle.store.proofs.OneStore.{holds}
 use Rattle.kernel.specs.declared.Answer.{Answer}
-use Rattle.kernel.specs.Answer.{Rooms, ended, node_of, event_at, Answered}
+use Rattle.kernel.specs.Answer.{Reply, Rooms, ended, node_of, event_at, Answered}
 use Rattle.kernel.specs.Demand2.{Premises}
 use Rattle.kernel.specs.AnyOrder.{AnyOrder}
+use Rattle.kernel.proofs.Replies.{answered}
 use Rattle.kernel.proofs.Accepted.{admitted}
 use Rattle.kernel.proofs.Demand2.{runs, stands, pieces_of, gives}
 use Rattle.state.specs.StateBytes.{state_bytes}
 
-pub any_order : {t s : List ℕ} {X : Events} {value : Values} {lent : Rooms} {s' : List ℕ} {left : Rooms} {a : Answer}
+pub any_order : {t s : List ℕ} {X : Events} {value : Values} {lent : Rooms} {s' : List ℕ} {left : Rooms} {q : Reply}
     → Premises t s X lent
-    → Answered t s X value lent s' left a
-    → AnyOrder t s X value lent s' left a
-any_order {t} {X = X} {value = value} p o =
-    let ran = o.outcome_is ∙ sym (runs p) in
-    let r = o.ran ran in
+    → Answered t s X value lent s' left q
+    → AnyOrder t s X value lent s' left q
+any_order {t} {X = X} {value = value} {q = q} p o =
+    let (a, is, r) = answered q o (o.outcome_is ∙ sym (runs p)) in
     let loops : LoopsStop (prog r.term) = rw r.program (admitted t p.accepted).loops in
     let free = order_free value r.term X loops r.at_rest in
     let given = gives p r in
     record {
-      ran = ran;
+      answer = a;
+      ran = is;
       term = r.term;
       stands = stands r;
       pieces = (pieces_of p).0;

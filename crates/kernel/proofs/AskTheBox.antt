@@ -29,7 +29,8 @@ use Rattle.table.proofs.Loaded.{whole_placed}
 use Rattle.table.proofs.Parts.{by_kind}
 use Rattle.table.proofs.Subtrees.{rooted, body, pair}
 use Rattle.kernel.specs.declared.Answer.{Answer}
-use Rattle.kernel.specs.Answer.{Rooms, node_of, event_at, Run, Answered}
+use Rattle.std.specs.Prelude.{Ok, Err}
+use Rattle.kernel.specs.Answer.{Reply, Rooms, node_of, event_at, Run, Answered}
 use Rattle.kernel.specs.AskTheBox.{RepeatExt, AskTheBox}
 
 module _ {t : List ℕ} (a : Loaded t) where
@@ -114,15 +115,18 @@ module _ {t s : List ℕ} {X : Events} {value value' : Values} {lent : Rooms} {s
         store_is = x.store_is;
       }
 
-  answered_alike : ((x : Run t s X value lent s' left r) → Run t s X value' lent s' left r) → Answered t s X value lent s' left r
-      → Answered t s X value' lent s' left r
-  answered_alike f a = record { outcome_is = a.outcome_is; ran = λ e. f (a.ran e); refused = a.refused }
-
   by_begun : (x : Run t s X value lent s' left r) → Each (λ v. value v ≡ value' v) (asks_in_all x.instant) → Run t s X value' lent s' left r
   by_begun x a = with_other_values x (asked_only.only_what_is_begun x.instant value' a)
 
   by_named : EachNamed (λ v. value v ≡ value' v) (tree_of t) → (x : Run t s X value lent s' left r) → Run t s X value' lent s' left r
   by_named n x = by_begun x (asked_only.only_what_is_named (λ v. value v ≡ value' v) x.instant (rw x.program n))
+
+answered_alike : {t s : List ℕ} {X : Events} {value value' : Values} {lent : Rooms} {s' : List ℕ} {left : Rooms} (r : Reply)
+    → ((a : Answer) → Run t s X value lent s' left a → Run t s X value' lent s' left a)
+    → Answered t s X value lent s' left r
+    → Answered t s X value' lent s' left r
+answered_alike (Ok a) f o = record { outcome_is = o.outcome_is; leaves = f a o.leaves }
+answered_alike (Err why) f o = record { outcome_is = o.outcome_is; leaves = o.leaves }
 
 pub ask_the_box : AskTheBox
 unfolding kind stops figure AtRest Spells
@@ -146,6 +150,6 @@ ask_the_box = record {
   ext_phases = λ v cap k n t p. (refl, refl);
   count_below = λ v cap k t h. h.0;
   only_what_is_begun = by_begun;
-  only_what_is_named = λ n. answered_alike (by_named n);
-  without_the_forms = λ n. answered_alike (λ x. with_other_values x (asked_only.without_the_forms x.instant _ (rw x.program n)));
+  only_what_is_named = λ {r = r} n. answered_alike r (λ a. by_named n);
+  without_the_forms = λ {r = r} n. answered_alike r (λ a x. with_other_values x (asked_only.without_the_forms x.instant _ (rw x.program n)));
 }

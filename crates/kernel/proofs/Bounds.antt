@@ -8,15 +8,14 @@ use Rattle.junior.specs.Figures.{LoopsStop}
 use Rattle.junior.proofs.Figures.{at_most-G, at_most-A}
 use Rattle.junior.proofs.Parks.{at_most-F}
 use Rattle.junior.proofs.Visits.{at_most-W, at_most_in_all}
-use Rattle.kernel.specs.declared.Answer.{Answer}
-use Rattle.kernel.specs.Answer.{Rooms}
+use Rattle.kernel.specs.Answer.{Reply, Rooms}
 use Rattle.kernel.specs.Demand2.{Premises}
 use Rattle.kernel.specs.Demand3.{Demand3}
 use Rattle.kernel.specs.Bounds.{Bounds}
 use Rattle.kernel.proofs.Accepted.{admitted}
 
-pub bounds : {t s : List ℕ} {X : Events} {lent : Rooms} {s' : List ℕ} {left : Rooms} {a : Answer} {p : Premises t s X lent} {value : Values}
-    (d : Demand3 p value s' left a) → Bounds d
+pub bounds : {t s : List ℕ} {X : Events} {lent : Rooms} {s' : List ℕ} {left : Rooms} {r : Reply} {p : Premises t s X lent} {value : Values}
+    (d : Demand3 p value s' left r) → Bounds d
 bounds {t} {p = p} d =
     let accepted = admitted t p.accepted in
     let program = d.stands.program in

@@ -17,14 +17,15 @@ use Rattle.events.proofs.Events.{before_lowest, at_lowest, lowest_is}
 use Rattle.junior.specs.Program.{Program, Loop, Parts, no_part, one_part, two_parts, parts, size, kind}
 use Rattle.junior.specs.Figures.{stops, G, A, W, F}
 use Rattle.junior.specs.Trace.{Piece}
-use Rattle.table.specs.declared.Checked.TheVariants.{BadLength, BadCounts, BadDistances, BadConfiguration, BadNode}
-use Rattle.table.specs.declared.Checked.TheVariants.{TooDeep, EndlessLoop, TooHeavy}
+use Rattle.std.specs.Prelude.{Ok, Err}
+use Rattle.table.specs.declared.TableRefusal.TheVariants.{BadLength, BadCounts, BadDistances, BadConfiguration, BadNode}
+use Rattle.table.specs.declared.TableRefusal.TheVariants.{TooDeep, EndlessLoop, TooHeavy}
 use Rattle.table.specs.Records.{nodes, configurations, events, back_to_nodes, back_to_configurations}
 use Rattle.table.specs.Good.{good_configuration, good_node}
 use Rattle.table.specs.Spells.{tree_of}
 use Rattle.table.specs.Inside.{Loaded}
 use Rattle.table.specs.Verdict.{length_good, counts_good, distances_good, Node, preorder, first_such, deep, endless_parts}
-use Rattle.table.specs.Verdict.{endless, light, number_of, index_of}
+use Rattle.table.specs.Verdict.{endless, light}
 use Rattle.table.proofs.Laid.{both}
 use Rattle.table.proofs.Parts.{loop_of_kind}
 use Rattle.table.proofs.Order.{length_preorder}
@@ -33,10 +34,9 @@ use Rattle.store.specs.Store.{in_use, store_good, store_room}
 use Rattle.store.specs.Stored.{Stored}
 use Rattle.store.proofs.GoodStore.{stored}
 use Rattle.store.proofs.Room.{no_room, no_store}
-use Rattle.kernel.specs.declared.Outcome.{Outcome}
-use Rattle.kernel.specs.declared.Outcome.TheVariants.{Table, StateRoom, NotAtRest, UnlistedEvent, AtomRoom}
-use Rattle.kernel.specs.declared.Outcome.TheVariants.{BadStore, StoreRoom}
-use Rattle.kernel.specs.Answer.{Bytes, outcome_number, outcome_index, has_room, unlisted}
+use Rattle.kernel.specs.declared.Refusal.TheVariants.{Table, StateRoom, NotAtRest, UnlistedEvent}
+use Rattle.kernel.specs.declared.Refusal.TheVariants.{AtomRoom, BadStore, StoreRoom}
+use Rattle.kernel.specs.Answer.{Outcome, Bytes, outcome_number, outcome_index, has_room, unlisted}
 use Rattle.kernel.specs.Demand1.{Handed, LowestBad, LowestNode, Endless, Check, its_length, its_counts}
 use Rattle.kernel.specs.Demand1.{its_distances}
 use Rattle.kernel.specs.Demand1.{its_configurations, its_nodes, its_depth, its_loops, its_figures, state_room}
@@ -60,23 +60,22 @@ ok good_store h = store_good h.table h.store
 ok parking_room h = leb (F (tree_of h.table)) (store_room h.store)
 
 abbrev pub refusal : Check → Handed → Outcome
-refusal its_length h = Table BadLength
-refusal its_counts h = Table BadCounts
-refusal its_distances h = Table BadDistances
-refusal its_configurations h = Table (BadConfiguration (lowest (configurations h.table) (λ j. not (good_configuration h.table j))))
-refusal its_nodes h = Table (BadNode (lowest (nodes h.table) (λ i. not (good_node h.table i))))
-refusal its_depth h = Table (TooDeep (first_such deep (preorder 1 (tree_of h.table))))
-refusal its_loops h = Table (EndlessLoop (first_such endless (preorder 1 (tree_of h.table))))
-refusal its_figures h = Table TooHeavy
-refusal state_room h = StateRoom
-refusal state_at_rest h = NotAtRest (blamed h.table h.state)
-refusal listed_events h = UnlistedEvent (unlisted h.table h.handed_in)
-refusal atom_room h = AtomRoom
-refusal good_store h = BadStore
-refusal parking_room h = StoreRoom
+refusal its_length h = Err (Table BadLength)
+refusal its_counts h = Err (Table BadCounts)
+refusal its_distances h = Err (Table BadDistances)
+refusal its_configurations h = Err (Table (BadConfiguration (lowest (configurations h.table) (λ j. not (good_configuration h.table j)))))
+refusal its_nodes h = Err (Table (BadNode (lowest (nodes h.table) (λ i. not (good_node h.table i)))))
+refusal its_depth h = Err (Table (TooDeep (first_such deep (preorder 1 (tree_of h.table)))))
+refusal its_loops h = Err (Table (EndlessLoop (first_such endless (preorder 1 (tree_of h.table)))))
+refusal its_figures h = Err (Table TooHeavy)
+refusal state_room h = Err StateRoom
+refusal state_at_rest h = Err (NotAtRest (blamed h.table h.state))
+refusal listed_events h = Err (UnlistedEvent (unlisted h.table h.handed_in))
+refusal atom_room h = Err AtomRoom
+refusal good_store h = Err BadStore
+refusal parking_room h = Err StoreRoom
 
 pub numbered : (c : Check) (h : Handed) → outcome_number (refusal c h) ≡ number c
-unfolding outcome_number number_of
 numbered its_length h = refl
 numbered its_counts h = refl
 numbered its_distances h = refl
@@ -281,7 +280,6 @@ room_says s f l u =
 
 -- where the test is false the check fails
 pub fails : (c : Check) (h : Handed) → Shown c h → ok c h ≡ false → Fails c h (outcome_index (refusal c h))
-unfolding outcome_index index_of
 fails its_length h shown e = ((length_says h).so e, refl)
 fails its_counts h shown e = ((counts_says h).so e, refl)
 fails its_distances h shown e = ((distances_says h).so e, refl)
@@ -299,7 +297,6 @@ fails parking_room h (all, low) e = ((room_says h.store (F (tree_of h.table)) al
 
 -- and nowhere else, with no other index
 pub failing : (c : Check) (h : Handed) → Shown c h → (i : ℕ) → Fails c h i → (ok c h ≡ false) × (i ≡ outcome_index (refusal c h))
-unfolding outcome_index index_of
 failing its_length h shown i (b, e) = ((length_says h).back b, e)
 failing its_counts h shown i (b, e) = ((counts_says h).back b, e)
 failing its_distances h shown i (b, e) = ((distances_says h).back b, e)

@@ -3,7 +3,7 @@
 use Prim.Native.Nat.{ℕ, ◌+◌, ◌*◌, ◌≤◌, ◌<◌}
 use mathlib.Core.Bool.{Bool, true, false, ◌&&◌}
 use mathlib.Core.Path.{◌≡◌, refl, sym, ap, subst, ◌∙◌}
-use mathlib.Core.List.{List, ◌++◌}
+use mathlib.Core.List.{List}
 use native.Mathlib.Omega.{arith}
 use lib.Dec.{leb}
 use lib.ListN.{length, drop}
@@ -32,16 +32,17 @@ use Rattle.state.proofs.Parts.{len_bytes}
 use Rattle.state.proofs.OneTerm.{one_term}
 use Rattle.state.specs.Pieces.{pieces_bytes}
 use Rattle.store.specs.Store.{in_use, store_room, adding}
-use Rattle.store.specs.Stored.{Belongs, Stored, Holds}
+use Rattle.store.specs.Stored.{Belongs, Stored}
 use Rattle.store.proofs.OneStore.{holds}
 use Rattle.store.proofs.GoodStore.{stored}
 use Rattle.store.proofs.Belonging.{parks_belong}
 use Rattle.store.proofs.Added.{adding_in_use, adding_long}
 use Rattle.store.proofs.Room.{room_fits, parked_holds}
-use Rattle.kernel.specs.declared.Outcome.TheVariants.{Ran}
 use Rattle.kernel.specs.declared.Answer.{Answer}
-use Rattle.kernel.specs.Answer.{Rooms, unlisted, instant_outcome, ended, node_of, event_at, Run, Answered}
+use Rattle.std.specs.Prelude.{Ok, Err}
+use Rattle.kernel.specs.Answer.{Reply, Rooms, unlisted, instant_outcome, ended, node_of, event_at, Run, Answered}
 use Rattle.kernel.specs.Demand2.{Premises, TermInState, Gives, Reports, GivesPrinted, Demand2}
+use Rattle.kernel.proofs.Replies.{answered}
 use Rattle.kernel.proofs.Accepted.{admitted}
 use Rattle.kernel.proofs.FreePart.{few_parked, adding_beyond}
 use Rattle.kernel.proofs.Outcomes.{store_ran, by_store}
@@ -55,7 +56,7 @@ none_unlisted t X h =
     go e true x = lt-leb (events t) e (h e x)
     go e false x = refl
 
-pub runs : {t s : List ℕ} {X : Events} {lent : Rooms} → Premises t s X lent → Ran ≡ instant_outcome t s X lent
+pub runs : {t s : List ℕ} {X : Events} {lent : Rooms} → Premises t s X lent → Ok tt ≡ instant_outcome t s X lent
 runs {t} {s} {X} {lent} p =
     let listed = none_unlisted t X p.listed in
     let rest = p.at_rest in
@@ -177,14 +178,14 @@ module _ {t s : List ℕ} {X : Events} {value : Values} {lent : Rooms} {s' : Lis
         λ v j. sym (ap (λ E. E.frozen) env) ∙ ap (λ x. froze (parks x.acts) T) (one_outcome r.instant j).1,
       )
 
-pub demand_2 : {t s : List ℕ} {X : Events} {value : Values} {lent : Rooms} {s' : List ℕ} {left : Rooms} {a : Answer} → Premises t s X lent
-    → Answered t s X value lent s' left a
-    → Demand2 t s X value lent s' left a
-demand_2 p o =
-    let ran = o.outcome_is ∙ sym (runs p) in
-    let r = o.ran ran in
+pub demand_2 : {t s : List ℕ} {X : Events} {value : Values} {lent : Rooms} {s' : List ℕ} {left : Rooms} {q : Reply} → Premises t s X lent
+    → Answered t s X value lent s' left q
+    → Demand2 t s X value lent s' left q
+demand_2 {q = q} p o =
+    let (a, is, r) = answered q o (o.outcome_is ∙ sym (runs p)) in
     record {
-      ran = ran;
+      answer = a;
+      ran = is;
       term = r.term;
       stands = stands r;
       pieces = (pieces_of p).0;

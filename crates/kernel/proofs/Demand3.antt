@@ -9,23 +9,24 @@ use Rattle.junior.proofs.Demand3.{demand_3 as by_the_rules}
 use Rattle.state.proofs.Blameless.{resting}
 use Rattle.store.proofs.Room.{parked_good}
 use Rattle.kernel.specs.declared.Answer.{Answer}
-use Rattle.kernel.specs.Answer.{Rooms, Answered}
+use Rattle.kernel.specs.Answer.{Reply, Rooms, Answered}
 use Rattle.kernel.specs.Demand2.{Premises}
 use Rattle.kernel.specs.Demand3.{Demand3}
+use Rattle.kernel.proofs.Replies.{answered}
 use Rattle.kernel.proofs.Accepted.{admitted}
 use Rattle.kernel.proofs.Demand2.{runs, stands, pieces_of, each_belongs, parked_few, parked_fits, store_after, in_use_after, gives}
 
-pub demand_3 : {t s : List ℕ} {X : Events} {value : Values} {lent : Rooms} {s' : List ℕ} {left : Rooms} {a : Answer} (p : Premises t s X lent)
-    → Answered t s X value lent s' left a
-    → Demand3 p value s' left a
-demand_3 {t} {s} {X} {value} {s' = s'} {a = a} p o =
-    let ran = o.outcome_is ∙ sym (runs p) in
-    let r = o.ran ran in
+pub demand_3 : {t s : List ℕ} {X : Events} {value : Values} {lent : Rooms} {s' : List ℕ} {left : Rooms} {q : Reply} (p : Premises t s X lent)
+    → Answered t s X value lent s' left q
+    → Demand3 p value s' left q
+demand_3 {t} {s} {X} {value} {s' = s'} {q = q} p o =
+    let (a, is, r) = answered q o (o.outcome_is ∙ sym (runs p)) in
     let accepted = admitted t p.accepted in
     let settled = (by_the_rules value r.term X (rw r.program accepted.loops) r.at_rest).settled r.instant in
     let next = (gives p r).next_state in
     record {
-      ran = ran;
+      answer = a;
+      ran = is;
       term = r.term;
       stands = stands r;
       result = r.result;

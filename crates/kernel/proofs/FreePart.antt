@@ -14,8 +14,7 @@ use Rattle.junior.specs.Term.{prog}
 use Rattle.junior.specs.Trace.{parks}
 use Rattle.junior.specs.Figures.{LoopsStop}
 use Rattle.junior.proofs.Parks.{at_most-F}
-use Rattle.table.specs.declared.Checked.TheVariants.{Accepted}
-use Rattle.table.specs.Verdict.{verdict_of}
+use Rattle.table.specs.Verdict.{accepted_with, verdict_of}
 use Rattle.table.proofs.Laid.{both}
 use Rattle.state.specs.Pieces.{pieces_bytes}
 use Rattle.state.proofs.Pieces.{pieces_long}
@@ -38,7 +37,7 @@ few_in_use s low = omega (arith, low 0, low 1)
 
 -- an instant parks no more than there is room for
 pub few_parked : {t s : List ℕ} {X : Events} {value : Values} {lent : Rooms} {s' : List ℕ} {left : Rooms} {r : Answer} {g a w f : ℕ}
-    → verdict_of t ≡ Accepted g a w f
+    → verdict_of t ≡ accepted_with g a w f
     → (o : Run t s X value lent s' left r)
     → length (pieces_bytes (parks o.result.acts)) ≤ f
 few_parked {t} v o =

@@ -2,6 +2,7 @@
 pub mod Unlisted
 pub mod Accepted
 pub mod FreePart
+pub mod Replies
 pub mod Outcomes
 pub mod ValueWords
 pub mod Passing

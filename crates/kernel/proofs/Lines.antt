@@ -24,10 +24,10 @@ use Rattle.junior.specs.AtRest.{AtRest}
 use Rattle.junior.specs.Waited.{Wait, waited}
 use Rattle.junior.proofs.Grows.{among, only_generated_in_all}
 use Rattle.junior.proofs.Waited.{one_waited}
-use Rattle.table.specs.declared.Checked.TheVariants.{Accepted}
+use Rattle.std.specs.Prelude.{Ok, Err}
 use Rattle.table.specs.Records.{nodes, events}
 use Rattle.table.specs.Spells.{tree_of}
-use Rattle.table.specs.Verdict.{verdict_of}
+use Rattle.table.specs.Verdict.{accepted_with, ending, verdict_of}
 use Rattle.table.proofs.Laid.{both}
 use Rattle.state.specs.StateBytes.{state_bytes}
 use Rattle.state.proofs.Parts.{len_bytes}
@@ -35,12 +35,12 @@ use Rattle.state.specs.Pieces.{pieces_bytes}
 use Rattle.state.specs.Resting.{blamed}
 use Rattle.state.proofs.Blameless.{resting}
 use Rattle.store.specs.Store.{adding}
-use Rattle.kernel.specs.declared.Outcome.{Outcome}
-use Rattle.kernel.specs.declared.Outcome.TheVariants.{Ran, StateRoom, NotAtRest, UnlistedEvent, AtomRoom}
-use Rattle.kernel.specs.Answer.{Rooms, rooms, outcome_number, outcome_index, on_accepted, has_room, store_outcome, instant_outcome, ended, node_of, event_at}
+use Rattle.kernel.specs.declared.Refusal.TheVariants.{StateRoom, NotAtRest, UnlistedEvent, AtomRoom}
+use Rattle.kernel.specs.Answer.{Outcome, fields_of, Rooms, rooms, outcome_number, outcome_index, on_accepted, has_room, store_outcome, instant_outcome, ended, node_of, event_at}
 use Rattle.kernel.specs.Answer.{values_of, Answered}
 use Rattle.kernel.specs.Bench.{Line, Answers}
 use Rattle.kernel.proofs.Accepted.{admitted}
+use Rattle.kernel.proofs.Replies.{same_numbers, by_run, by_keeping}
 use Rattle.kernel.proofs.Outcomes.{instant_is}
 use Rattle.kernel.proofs.OneAnswer.{one_instant}
 
@@ -93,12 +93,12 @@ sought_outcome t s X lent =
     (has_room t s)
     (cond
     (ltb (blamed t s) (nodes t))
-    (NotAtRest (blamed t s))
+    (Err (NotAtRest (blamed t s)))
     (cond
     (ltb (sought_unlisted t X) places)
-    (UnlistedEvent (sought_unlisted t X))
-    (cond (leb a (length lent.row)) (store_outcome t lent.store f) AtomRoom)))
-    StateRoom)
+    (Err (UnlistedEvent (sought_unlisted t X)))
+    (cond (leb a (length lent.row)) (store_outcome t lent.store f) (Err AtomRoom))))
+    (Err StateRoom))
 
 pub sought_is_outcome : (t s : List ℕ) (X : Events) (lent : Rooms) → sought_outcome t s X lent ≡ instant_outcome t s X lent
 unfolding instant_outcome
@@ -185,21 +185,21 @@ pub record Seen : Type 0 where
 
 abbrev pub seen : Line → Seen
 seen y = record {
-  outcome = y.answer.outcome;
+  outcome = ending y.answer;
   number = y.number;
   index = y.index;
-  events = signs places (members y.answer.events);
-  count = y.answer.count;
-  lowest = y.answer.lowest;
-  atoms = y.answer.atoms;
-  finished = y.answer.finished;
-  passes = y.answer.passes;
-  waits_node = y.answer.waits.node;
-  waits_event = y.answer.waits.event;
+  events = signs places (members (fields_of y.answer).events);
+  count = (fields_of y.answer).count;
+  lowest = (fields_of y.answer).lowest;
+  atoms = (fields_of y.answer).atoms;
+  finished = (fields_of y.answer).finished;
+  passes = (fields_of y.answer).passes;
+  waits_node = (fields_of y.answer).waits.node;
+  waits_event = (fields_of y.answer).waits.event;
   state = y.state;
   left = y.left;
   handed_whole = whole y.handed;
-  reported_whole = whole y.answer.events;
+  reported_whole = whole (fields_of y.answer).events;
   generated_placed = true;
 }
 
@@ -250,14 +250,14 @@ abbrev pub past_rest : List ℕ → ℕ → ℕ → Line → Outcome
 past_rest t a f y =
     cond
     (ltb (sought_unlisted t (members y.handed)) places)
-    (UnlistedEvent (sought_unlisted t (members y.handed)))
-    (cond (leb a (length y.lent.row)) (store_outcome t y.lent.store f) AtomRoom)
+    (Err (UnlistedEvent (sought_unlisted t (members y.handed))))
+    (cond (leb a (length y.lent.row)) (store_outcome t y.lent.store f) (Err AtomRoom))
 
 -- the room in which x stands has 4N bytes of it in front
-room_long : (t : List ℕ) {g a w f : ℕ} → verdict_of t ≡ Accepted g a w f → (x : Term) → prog x ≡ tree_of t → length (state_bytes x) ≡ 4 * nodes t
+room_long : (t : List ℕ) {g a w f : ℕ} → verdict_of t ≡ accepted_with g a w f → (x : Term) → prog x ≡ tree_of t → length (state_bytes x) ≡ 4 * nodes t
 room_long t v x e = rw (len_bytes x, e, (admitted t v).whole)
 
-pub outcome_past_rest : (t : List ℕ) {g a w f : ℕ} → verdict_of t ≡ Accepted g a w f → (b : List ℕ) (x : Term) → prog x ≡ tree_of t
+pub outcome_past_rest : (t : List ℕ) {g a w f : ℕ} → verdict_of t ≡ accepted_with g a w f → (b : List ℕ) (x : Term) → prog x ≡ tree_of t
     → AtRest x
     → (y : Line)
     → past_rest t a f y ≡ instant_outcome t (state_bytes x ++ b) (members y.handed) y.lent
@@ -275,85 +275,67 @@ outcome_past_rest t v b x e rest y =
 
 -- a line that is seen so is what instant answers, and nothing else
 pub only_answers : {t s : List ℕ} {y : Line} → Answered t s (members y.handed) (values_of y.values) y.lent y.state y.left y.answer
-    → Whole y.answer.events
-    → outcome_number y.answer.outcome ≡ y.number
-    → outcome_index y.answer.outcome ≡ y.index
+    → Whole (fields_of y.answer).events
+    → outcome_number (ending y.answer) ≡ y.number
+    → outcome_index (ending y.answer) ≡ y.index
     → Answers t s y
-only_answers a w n i = record { answered = a; only = λ u q. one_instant u w q a; number_is = n; index_is = i }
+only_answers {y = y} a w n i =
+    let (number, index) = same_numbers y.answer in
+    record { answered = a; only = λ u q. one_instant u w q a; number_is = number ∙ n; index_is = index ∙ i }
 
-pub run_answers : (t : List ℕ) {g a w f : ℕ} → verdict_of t ≡ Accepted g a w f → (b : List ℕ) (x : Term) → prog x ≡ tree_of t
+pub run_answers : (t : List ℕ) {g a w f : ℕ} → verdict_of t ≡ accepted_with g a w f → (b : List ℕ) (x : Term) → prog x ≡ tree_of t
     → AtRest x
     → (y : Line)
     → {n : ℕ} {r : Result}
     → (i : Instant (left_first (values_of y.values)) x (handed_in (members y.handed)) n r)
-    → y.answer.outcome ≡ Ran
+    → ending y.answer ≡ Ok tt
     → seen_run y b (past_rest t a f y) n r (waited i) ≡ seen y
     → Answers t (state_bytes x ++ b) y
 run_answers t v b x e rest y {n} {r} i ran s =
     let long = room_long t v x e in
     let handed = whole_is y.handed (sym (ap (λ z. z.handed_whole) s)) in
-    let reported = whole_is y.answer.events (sym (ap (λ z. z.reported_whole) s)) in
+    let reported = whole_is (fields_of y.answer).events (sym (ap (λ z. z.reported_whole) s)) in
     let placed_all = ap (λ z. z.generated_placed) s in
     let outcome = ap (λ z. z.outcome) s in
     let past : (k : ℕ) → places ≤ k → r.env.now k ≡ false =
     λ k h. only_generated_in_all i k (not_among (generations r.acts) placed_all k h) (members_past y.handed handed k h) in
     let atoms_are = sym (ap (λ z. z.atoms) s) in
-    let instant : Instant (left_first (values_of y.values)) x (handed_in (members y.handed)) y.answer.passes r =
+    let instant : Instant (left_first (values_of y.values)) x (handed_in (members y.handed)) (fields_of y.answer).passes r =
     subst (λ m. Instant (left_first (values_of y.values)) x (handed_in (members y.handed)) m r) (ap (λ z. z.passes) s) i in
     let reports = one_waited i instant in
     only_answers
+    (by_run y.answer (sym outcome ∙ outcome_past_rest t v b x e rest y) ran
     (record {
-      outcome_is = sym outcome ∙ outcome_past_rest t v b x e rest y;
-      ran = λ z. record {
-        term = x;
-        program = e;
-        bytes = take_at (state_bytes x) b (4 * nodes t) long;
-        at_rest = rest;
-        result = r;
-        instant = instant;
-        events_are = same_set y.answer.events r.env.now reported (sym (ap (λ z. z.events) s)) past;
-        count_is = sym (ap (λ z. z.count) s);
-        lowest_is = sym (ap (λ z. z.lowest) s) ∙ sought_is r.env.now;
-        atoms_are = atoms_are;
-        finished_is = sym (ap (λ z. z.finished) s);
-        waits_node_is = sym (ap (λ z. z.waits_node) s) ∙ ap node_of reports;
-        waits_event_is = sym (ap (λ z. z.waits_event) s) ∙ ap event_at reports;
-        state_is = rw (drop_at (state_bytes x) b (4 * nodes t) long) (sym (ap (λ z. z.state) s));
-        row_is = rw atoms_are (sym (ap (λ z. z.left.row) s));
-        store_is = sym (ap (λ z. z.left.store) s);
-      };
-      refused = λ k. absurd (k ran);
-    })
+      term = x;
+      program = e;
+      bytes = take_at (state_bytes x) b (4 * nodes t) long;
+      at_rest = rest;
+      result = r;
+      instant = instant;
+      events_are = same_set (fields_of y.answer).events r.env.now reported (sym (ap (λ z. z.events) s)) past;
+      count_is = sym (ap (λ z. z.count) s);
+      lowest_is = sym (ap (λ z. z.lowest) s) ∙ sought_is r.env.now;
+      atoms_are = atoms_are;
+      finished_is = sym (ap (λ z. z.finished) s);
+      waits_node_is = sym (ap (λ z. z.waits_node) s) ∙ ap node_of reports;
+      waits_event_is = sym (ap (λ z. z.waits_event) s) ∙ ap event_at reports;
+      state_is = rw (drop_at (state_bytes x) b (4 * nodes t) long) (sym (ap (λ z. z.state) s));
+      row_is = rw atoms_are (sym (ap (λ z. z.left.row) s));
+      store_is = sym (ap (λ z. z.left.store) s);
+    }))
     reported
     (ap outcome_number (sym outcome) ∙ ap (λ z. z.number) s)
     (ap outcome_index (sym outcome) ∙ ap (λ z. z.index) s)
 
 pub refused_answers : (t s : List ℕ) (y : Line) (o : Outcome) → o ≡ instant_outcome t s (members y.handed) y.lent
-    → y.answer.outcome ≢ Ran
+    → ending y.answer ≢ Ok tt
     → seen_refused y s o ≡ seen y
     → Answers t s y
 refused_answers t s y o i n e =
-    let reported = whole_is y.answer.events (sym (ap (λ z. z.reported_whole) e)) in
+    let reported = whole_is (fields_of y.answer).events (sym (ap (λ z. z.reported_whole) e)) in
     let outcome = ap (λ z. z.outcome) e in
     only_answers
-    (record {
-      outcome_is = sym outcome ∙ i;
-      ran = λ z. absurd (n z);
-      refused = λ k. (
-        record {
-          events_are = same_set y.answer.events none reported (sym (ap (λ z. z.events) e)) (λ j h. refl);
-          count_is = sym (ap (λ z. z.count) e);
-          lowest_is = sym (ap (λ z. z.lowest) e);
-          atoms_are = sym (ap (λ z. z.atoms) e);
-          finished_is = sym (ap (λ z. z.finished) e);
-          passes_are = sym (ap (λ z. z.passes) e);
-          waits_node_is = sym (ap (λ z. z.waits_node) e);
-          waits_event_is = sym (ap (λ z. z.waits_event) e);
-        },
-        sym (ap (λ z. z.state) e),
-        sym (ap (λ z. z.left) e),
-      );
-    })
+    (by_keeping y.answer (sym outcome ∙ i) n (sym (ap (λ z. z.state) e), sym (ap (λ z. z.left) e)))
     reported
     (ap outcome_number (sym outcome) ∙ ap (λ z. z.number) e)
     (ap outcome_index (sym outcome) ∙ ap (λ z. z.index) e)

@@ -19,11 +19,10 @@ use Rattle.junior.specs.AtRest.{AtRest}
 use Rattle.junior.specs.Figures.{LoopsStop, figure}
 use Rattle.junior.proofs.Figures.{cost, within_figure}
 use Rattle.junior.proofs.Grows.{among, only_generated_in_all}
-use Rattle.table.specs.declared.Checked.TheVariants.{Accepted}
 use Rattle.table.specs.Records.{nodes, events, kind_at, argument_at, second_child}
 use Rattle.table.specs.Good.{children}
 use Rattle.table.specs.Spells.{Argues, SpellsParts, Spells, tree_of}
-use Rattle.table.specs.Verdict.{verdict_of}
+use Rattle.table.specs.Verdict.{accepted_with, verdict_of}
 use Rattle.table.specs.Inside.{Loaded}
 use Rattle.table.proofs.Grown.{fine}
 use Rattle.table.proofs.Parts.{part_count, by_kind, children_are, figures_of_none, weightless_one, weightless_two}
@@ -93,7 +92,7 @@ module _ (e : ℕ) where
     unfolding Spells
     all_weightless p i l h = weightless (parts p) i l h
 
-pub reports_listed : (t : List ℕ) {g a w f : ℕ} → verdict_of t ≡ Accepted g a w f → {free : Allowed} {x : Term} {X : Events} {n : ℕ} {r : Result}
+pub reports_listed : (t : List ℕ) {g a w f : ℕ} → verdict_of t ≡ accepted_with g a w f → {free : Allowed} {x : Term} {X : Events} {n : ℕ} {r : Result}
     → prog x ≡ tree_of t
     → AtRest x
     → Instant free x (handed_in X) n r

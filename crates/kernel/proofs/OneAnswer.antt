@@ -18,21 +18,19 @@ use Rattle.junior.specs.Instant.{Instant}
 use Rattle.junior.specs.Waited.{waited}
 use Rattle.junior.proofs.Deterministic.{one_outcome}
 use Rattle.junior.proofs.Waited.{one_waited}
-use Rattle.table.specs.declared.Checked.{Checked}
+use Rattle.std.specs.Prelude.{Ok, Err}
 use Rattle.table.specs.Records.{nodes}
-use Rattle.table.specs.Verdict.{verdict_of}
+use Rattle.table.specs.Verdict.{Verdict, verdict_of}
 use Rattle.state.specs.StateBytes.{state_bytes}
 use Rattle.state.specs.Pieces.{pieces_bytes}
 use Rattle.state.proofs.OneTerm.{one_term}
 use Rattle.store.specs.Store.{adding}
-use Rattle.kernel.specs.declared.Outcome.{Outcome}
-use Rattle.kernel.specs.declared.Outcome.TheVariants.{Ran, Table, StateRoom, NotAtRest, UnlistedEvent}
-use Rattle.kernel.specs.declared.Outcome.TheVariants.{AtomRoom, BadStore, StoreRoom}
 use Rattle.kernel.specs.declared.Answer.{Answer}
-use Rattle.kernel.specs.Answer.{Rooms, started_room, ended, node_of, event_at, Run, Refused, Started, Answered}
+use Rattle.kernel.specs.Answer.{Outcome, Reply, fields_of, Rooms, started_room, ended, node_of, event_at, Run, Started, Answered}
+use Rattle.kernel.proofs.Replies.{no_refusal}
 use Rattle.kernel.specs.Exports.{instant_length, start_places, instant_places, StartedInPlaces, AnsweredInPlaces}
 
-pub one_check : (t : List ℕ) (q r : Checked) → q ≡ verdict_of t → r ≡ verdict_of t → q ≡ r
+pub one_check : (t : List ℕ) (q r : Verdict) → q ≡ verdict_of t → r ≡ verdict_of t → q ≡ r
 one_check t q r a b = a ∙ sym b
 
 pub one_start : {t s s₁ s₂ : List ℕ} {q r : Outcome} → Started t s s₁ q → Started t s s₂ r → (q ≡ r) × (s₁ ≡ s₂)
@@ -41,12 +39,11 @@ one_start {t} {s} a b =
     (same, a.room_is ∙ (ap (λ o. started_room o t s) same ∙ sym b.room_is))
 
 -- two answers are the same if their fields are
-same_answer : (q r : Answer) → q.outcome ≡ r.outcome → q.events ≡ r.events → q.count ≡ r.count → q.lowest ≡ r.lowest
+same_answer : (q r : Answer) → q.events ≡ r.events → q.count ≡ r.count → q.lowest ≡ r.lowest
     → q.atoms ≡ r.atoms → q.finished ≡ r.finished → q.passes ≡ r.passes
     → q.waits.node ≡ r.waits.node → q.waits.event ≡ r.waits.event → q ≡ r
-same_answer q r a b c d e f g h k =
+same_answer q r b c d e f g h k =
     λ i. record {
-      outcome = a i;
       events = b i;
       count = c i;
       lowest = d i;
@@ -70,17 +67,7 @@ same_waited {value} {E = E} {n = n} {s = s} e i j =
 same_events : (x y : EventSet) → Whole x → Whole y → members x ≡ members y → x ≡ y
 same_events x y f g e = same_members x y f g (λ n h. ap (λ X. X n) e)
 
-unfoldable pub ran_or_not : (o : Outcome) → (o ≡ Ran) ⊎ (o ≢ Ran)
-ran_or_not Ran = inl refl
-ran_or_not (Table c) = inr (λ e. let z : ◌≡◌ {A = ℕ} 0 1 = cc in omega arith)
-ran_or_not StateRoom = inr (λ e. let z : ◌≡◌ {A = ℕ} 0 1 = cc in omega arith)
-ran_or_not (NotAtRest i) = inr (λ e. let z : ◌≡◌ {A = ℕ} 0 1 = cc in omega arith)
-ran_or_not (UnlistedEvent n) = inr (λ e. let z : ◌≡◌ {A = ℕ} 0 1 = cc in omega arith)
-ran_or_not AtomRoom = inr (λ e. let z : ◌≡◌ {A = ℕ} 0 1 = cc in omega arith)
-ran_or_not BadStore = inr (λ e. let z : ◌≡◌ {A = ℕ} 0 1 = cc in omega arith)
-ran_or_not StoreRoom = inr (λ e. let z : ◌≡◌ {A = ℕ} 0 1 = cc in omega arith)
-
-module _ {q r : Answer} (f : Whole q.events) (g : Whole r.events) (o : q.outcome ≡ r.outcome) where
+module _ {q r : Answer} (f : Whole q.events) (g : Whole r.events) where
   -- two that ran: the state has one term, and the rules one result
   same_run : {t s : List ℕ} {X : Events} {value : Values} {lent : Rooms} {s₁ s₂ : List ℕ} {left₁ left₂ : Rooms} → Run t s X value lent s₁ left₁ q
       → Run t s X value lent s₂ left₂ r
@@ -90,7 +77,7 @@ module _ {q r : Answer} (f : Whole q.events) (g : Whole r.events) (o : q.outcome
       let (passes_are, result_is) = one_outcome x.instant (rw term_is at y.instant) in
       let reports = same_waited (sym term_is) x.instant y.instant in
       let atoms_are = x.atoms_are ∙ (ap (λ z. length (atoms z.acts)) result_is ∙ sym y.atoms_are) in (
-        same_answer q r o
+        same_answer q r
             (same_events q.events r.events f g (x.events_are ∙ (ap (λ z. z.env.now) result_is ∙ sym y.events_are)))
             (x.count_is ∙ (ap (λ z. how_many places z.env.now) result_is ∙ sym y.count_is))
             (x.lowest_is ∙ (ap (λ z. lowest places z.env.now) result_is ∙ sym y.lowest_is))
@@ -107,29 +94,26 @@ module _ {q r : Answer} (f : Whole q.events) (g : Whole r.events) (o : q.outcome
             (x.store_is ∙ (ap (λ z. adding (pieces_bytes (parks z.acts)) lent.store) result_is ∙ sym y.store_is)),
       )
 
-  same_refusal : Refused q → Refused r → q ≡ r
-  same_refusal x y =
-      same_answer q r o (same_events q.events r.events f g (x.events_are ∙ sym y.events_are))
-      (x.count_is ∙ sym y.count_is) (x.lowest_is ∙ sym y.lowest_is) (x.atoms_are ∙ sym y.atoms_are)
-      (x.finished_is ∙ sym y.finished_is) (x.passes_are ∙ sym y.passes_are)
-      (x.waits_node_is ∙ sym y.waits_node_is) (x.waits_event_is ∙ sym y.waits_event_is)
-
 -- what a running program holds as a set of events is Whole (`whole` in crate events, proofs/Sets)
-pub one_instant : {t s : List ℕ} {X : Events} {value : Values} {lent : Rooms} {s₁ s₂ : List ℕ} {left₁ left₂ : Rooms} {q r : Answer} → Whole q.events → Whole r.events
+pub one_instant : {t s : List ℕ} {X : Events} {value : Values} {lent : Rooms} {s₁ s₂ : List ℕ} {left₁ left₂ : Rooms} {q r : Reply}
+    → Whole (fields_of q).events → Whole (fields_of r).events
     → Answered t s X value lent s₁ left₁ q
     → Answered t s X value lent s₂ left₂ r
     → (q ≡ r) × (s₁ ≡ s₂) × (left₁ ≡ left₂)
-one_instant {s₁ = s₁} {s₂ = s₂} {left₁ = left₁} {left₂ = left₂} {q = q} {r = r} f g a b = go (ran_or_not q.outcome)
+one_instant {t} {s} {X} {value} {lent} {s₁ = s₁} {s₂ = s₂} {left₁ = left₁} {left₂ = left₂} {q = q} {r = r} f g a b = go q r f g a b
   where
-    same : q.outcome ≡ r.outcome
-    same = a.outcome_is ∙ sym b.outcome_is
-
-    go : (q.outcome ≡ Ran) ⊎ (q.outcome ≢ Ran) → (q ≡ r) × (s₁ ≡ s₂) × (left₁ ≡ left₂)
-    go (inl e) = same_run f g same (a.ran e) (b.ran (sym same ∙ e))
-    go (inr n) =
-        let (x, x_state, x_rooms) = a.refused n in
-        let (y, y_state, y_rooms) = b.refused (λ e. n (same ∙ e)) in
-        (same_refusal f g same x y, x_state ∙ sym y_state, x_rooms ∙ sym y_rooms)
+    go : (q r : Reply) → Whole (fields_of q).events → Whole (fields_of r).events
+        → Answered t s X value lent s₁ left₁ q → Answered t s X value lent s₂ left₂ r
+        → (q ≡ r) × (s₁ ≡ s₂) × (left₁ ≡ left₂)
+    go (Ok q) (Ok r) f g a b = let (same, state, rooms) = same_run f g a.leaves b.leaves in (ap Ok same, state, rooms)
+    go (Ok q) (Err v) f g a b = absurd (no_refusal (b.outcome_is ∙ sym a.outcome_is))
+    go (Err u) (Ok r) f g a b = absurd (no_refusal (a.outcome_is ∙ sym b.outcome_is))
+    go (Err u) (Err v) f g a b =
+        let same : ◌≡◌ {A = Outcome} (Err u) (Err v) = a.outcome_is ∙ sym b.outcome_is in
+        let why : u ≡ v = cc in
+        let (x, x_rooms) = a.leaves in
+        let (y, y_rooms) = b.leaves in
+        (ap Err why, x ∙ sym y, x_rooms ∙ sym y_rooms)
 
 -- the same of the calls for C: an answer's places are what any array of 64-bit numbers is
 pub record Places (n : ℕ) (l : List ℕ) : Type 0 where
@@ -141,7 +125,7 @@ one_start_in_places a b =
     let (o, s) = one_start a.started b.started in
     (a.written ∙ (ap start_places o ∙ sym b.written), s)
 
-whole_in_places : (p : List ℕ) (a : Answer) → Places instant_length p → p ≡ instant_places a → Whole a.events
+whole_in_places : (p : List ℕ) (a : Reply) → Places instant_length p → p ≡ instant_places a → Whole (fields_of a).events
 whole_in_places p a l e =
     record {
       long = let n = sym (ap length e) ∙ l.long in omega arith;

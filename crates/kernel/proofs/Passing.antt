@@ -1,5 +1,5 @@
 -- An instant in the code's hands: what holds before each pass, what a pass that suspends leaves of it, and what one that ends it gives.
-use Prim.Native.Nat.{ℕ, zero, suc, ◌+◌, ◌-◌, ◌*◌, ◌≤◌, ◌<◌}
+use Prim.Native.Nat.{ℕ, suc, ◌+◌, ◌-◌, ◌*◌, ◌≤◌, ◌<◌}
 use mathlib.Core.Bool.{Bool, true, false, cond, false≢true}
 use mathlib.Core.Path.{◌≡◌, refl, ap, sym, subst, ◌∙◌}
 use mathlib.Core.Logic.{◌≢◌}
@@ -12,6 +12,8 @@ use lib.Dec.{eqb, ltb}
 use lib.ListN.{length, get_or, take, drop, set, replicate, length-append, length-set, length-replicate, drop_of_length-le}
 use lib.Seq.{take_at, take_all, drop-append-add, drop-drop}
 use borrow.Author.Tests.{ltb-true, ltb-false, le-ltb, ne_eqb, eq-eqb}
+use denote.Enum.Bare.{sameb}
+use Rattle.junior.specs.contracts.Flag.{the_type}
 use Rattle.events.specs.declared.EventSet.{EventSet}
 use Rattle.events.specs.Events.{Events, how_many, lowest}
 use Rattle.events.specs.Members.{places, marks, members}
@@ -47,7 +49,6 @@ use Rattle.steps.specs.Running.{atoms_done, bytes_parked, env_of, values_in, Roo
 use Rattle.steps.specs.Running.{ended as ended_in}
 use Rattle.table.specs.Reading.{event_words}
 use Rattle.steps.specs.Numbers.{moved_at, ended_at, places_of_row, words_of, tally_of, first_numbers, next_numbers, Numbers}
-use Rattle.steps.specs.Flags.{flag_of}
 use Rattle.steps.specs.Kinds.{all_seen}
 use Rattle.steps.specs.Lent.{lent, Stands, Went, CanRun, HasRun}
 use Rattle.steps.proofs.Done.{few, room_after, values_apart}
@@ -374,10 +375,10 @@ module _ {table : List ℕ} {t₀ : Term} {X : Events} {value : Values} {rooms�
       omega (arith, size_pos p)
 
 -- whether the program has finished, by the flag's number
-pub finished_by : (f : ℕ) → f < 3 → eqb f 2 ≡ Ended-by (flag_of f)
-finished_by zero l = refl
-finished_by (suc zero) l = refl
-finished_by (suc (suc n)) l = let none : n ≡ 0 = omega arith in rw none
+pub finished_by : (α : Flag) {b : Bool} → b ≡ sameb the_type α TERM → b ≡ Ended-by α
+finished_by SUSP e = e
+finished_by STOP e = e
+finished_by TERM e = e
 
 -- the answer of an instant that has ended
 pub run_of : {t s row₀ free₀ state words : List ℕ} {rooms : Rooms} {tally : List ℕ} {X : Events} {passes : ℕ} {value : Values}
@@ -399,7 +400,6 @@ run_of {t} {s} {row₀ = row₀} {free₀ = free₀} {words = words} {tally = ta
     let told = reported u ran h instant in
     let pieces = pieces_bytes (parks (all_acts u ran)) in
     record {
-      outcome_is = o.outcome_is;
       run = record {
         term = b.term;
         program = b.program;
@@ -466,19 +466,15 @@ module _ {table : List ℕ} {t₀ : Term} {X : Events} {value : Values} {rooms�
   pub can_pass : CanRun all_seen Any (lent table state m rooms) 0
   can_pass = ([], state, [], whole)
 
-  module _ {state' m' : List ℕ} {rooms' : Rooms} {r : ℕ}
+  module _ {state' m' : List ℕ} {rooms' : Rooms} {r : Flag}
       (run : HasRun all_seen Any (lent table state m rooms) 0 (lent table state' m' rooms') r) where
     went : Went all_seen Any (lent table state m rooms) 0 [] state [] (lent table state' m' rooms') r
     went = run [] state [] whole
 
-    pub ran_by : {α : Flag} → flag_of r ≡ α → Ran root u.term (words_of m) rooms (tally_of m) state' (words_of m') rooms' (tally_of m') α
+    pub ran_by : {α : Flag} → r ≡ α → Ran root u.term (words_of m) rooms (tally_of m) state' (words_of m') rooms' (tally_of m') α
     ran_by e =
         let all : went.part' ≡ state' = sym (went.around.split ∙ append-nil went.part') in
         rw (all, e) at (went.runs u.term tt u.ready root refl)
-
-    -- by a flag
-    pub some_flag : r < 3
-    some_flag = went.below
 
     pub row_holds : Numbers table m'
     row_holds = still n went.kept
@@ -502,17 +498,17 @@ module _ {table : List ℕ} {t₀ : Term} {X : Events} {value : Values} {rooms�
       leads_if : LeadsIfStill table state' m'
       leads_if = (row_holds.long, λ z. let (w, l, first) = leads u ran (le-ltb 0 (get_or m' moved_at 0) (omega arith)) in (w, l))
 
-    pub can_look : r ≡ 0 → LeadsIfStill table state' m'
-    can_look suspended = leads_if (ran_by (ap flag_of suspended))
+    pub can_look : r ≡ SUSP → LeadsIfStill table state' m'
+    can_look suspended = leads_if (ran_by suspended)
 
     -- SUSP: another pass
-    pub goes_by : r ≡ 0
+    pub goes_by : r ≡ SUSP
         → (v : Underway table t₀ X value rooms₀ state' (words_of (next_numbers m')) rooms' (tally_of (next_numbers m')) (passes + 1))
         × ((before after : W.Wait) → Names before u.named → WaitsAfter table state' m' before after → Names after v.named)
     unfolding goes ran_by went
     goes_by suspended =
         rw (next_words m', next_tallied m' row_holds.long)
-        (goes u (ran_by (ap flag_of suspended)), λ before after n a. names_after (ran_by (ap flag_of suspended)) n a)
+        (goes u (ran_by suspended), λ before after n a. names_after (ran_by suspended) n a)
 
     pub next_row_holds : Numbers table (next_numbers m')
     next_row_holds = next_holds row_holds

@@ -10,11 +10,10 @@ use Rattle.events.specs.Members.{places}
 use Rattle.junior.specs.Configuration.{Config, Event, Not, And, Or}
 use Rattle.junior.specs.Program.{Program, Argument, no_argument, number, event, configuration, value, capped, argument}
 use Rattle.junior.specs.Program.{Parts, no_part, one_part, two_parts, parts}
-use Rattle.table.specs.declared.Checked.TheVariants.{Accepted}
 use Rattle.table.specs.Records.{byte, nodes, configurations, events, configuration_at, kind_byte, part_kind, part_event}
 use Rattle.table.specs.Good.{parts as part_count, good_but_height, good_parts, height_at_most, good_configuration}
 use Rattle.table.specs.Spells.{Configured, Argues, SpellsParts, Spells, tree_of}
-use Rattle.table.specs.Verdict.{counts_good, program_verdict, verdict_of}
+use Rattle.table.specs.Verdict.{accepted_with, counts_good, program_verdict, verdict_of}
 use Rattle.table.specs.Inside.{ConfigurationsGood}
 use Rattle.table.proofs.Accepted.{by_program}
 use Rattle.table.proofs.Grown.{spells_tree}
@@ -87,7 +86,7 @@ module _ (t : List ℕ) where
   still_spells {p} (two_parts f q r) i ((h, few), x, y, z) = (h, still_argues i (argument p) x, still_spells q _ y, still_spells r _ z)
 
 pub read_as_before : (t : List ℕ) {p : Program} {g a w : ℕ} → AcceptedBefore t p g a w
-    → (verdict_of t ≡ Accepted g a w 0) × (tree_of t ≡ p)
+    → (verdict_of t ≡ accepted_with g a w 0) × (tree_of t ≡ p)
 unfolding good_configuration counts_good Spells
 read_as_before t {p} b =
     let (n_least, n_most) = b.n_range in

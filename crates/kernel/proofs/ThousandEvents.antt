@@ -15,27 +15,27 @@ use Rattle.junior.specs.Values.{Values}
 use Rattle.junior.specs.Program.{Program, kind, size}
 use Rattle.junior.specs.Figures.{stops, figure}
 use Rattle.junior.specs.Waited.{Wait, waited}
-use Rattle.table.specs.declared.Checked.TheVariants.{Accepted}
+use Rattle.std.specs.Prelude.{Ok, Err}
 use Rattle.table.specs.Records.{nodes, configurations, events, configuration_at, kind_byte, part_kind, part_event}
 use Rattle.table.specs.Good.{is_laid_out, children, argument_limit, good_node, parts, good_but_height, height_at_most, good_configuration}
 use Rattle.table.specs.Spells.{configuration_of, form, program_of}
-use Rattle.table.specs.Verdict.{preorder, first_such, light, program_verdict, nodes_verdict, records_verdict, verdict_of}
+use Rattle.table.specs.Verdict.{accepted_with, ending, preorder, first_such, light, program_verdict, nodes_verdict, records_verdict, verdict_of}
 use Rattle.table.specs.Verdict.{length_good, counts_good, distances_good}
 use Rattle.table.specs.Inside.{Loaded}
 use Rattle.table.proofs.Accepted.{accepted}
 use Rattle.table.proofs.Laid.{both, Kind, event, negation, conjunction, disjunction, fine}
 use Rattle.state.specs.Resting.{blamed}
 use Rattle.store.specs.Store.{store_good}
-use Rattle.kernel.specs.declared.Outcome.{Outcome}
-use Rattle.kernel.specs.declared.Outcome.TheVariants.{Ran, StateRoom, NotAtRest, UnlistedEvent}
 use Rattle.kernel.specs.declared.Answer.{Answer}
-use Rattle.kernel.specs.Answer.{Rooms, has_room, instant_outcome, event_at, Answered}
+use Rattle.events.proofs.Words.{marks_zeros}
+use Rattle.kernel.specs.Answer.{Outcome, Reply, fields_of, Rooms, has_room, instant_outcome, event_at, Answered}
 use Rattle.kernel.specs.TablesBefore.{places_before, HandedBefore, AcceptedBefore, outcome_before, event_before}
 use Rattle.kernel.specs.TablesBefore.{AnswerBefore, AnsweredBefore}
 use Rattle.kernel.specs.ThousandEvents.{SomeEvent, PartedRecord, ButForNone, SameAnswer, ThousandEvents}
+use Rattle.kernel.specs.declared.Refusal.TheVariants.{StateRoom, NotAtRest, UnlistedEvent}
+use Rattle.kernel.proofs.Replies.{ran_or_not, no_fields, fields_run, kept}
 use Rattle.kernel.proofs.Outcomes.{store_ran}
 use Rattle.kernel.proofs.Listed.{reports_listed}
-use Rattle.kernel.proofs.OneAnswer.{ran_or_not}
 use Rattle.kernel.proofs.TablesBefore.{read_as_before}
 
 -- of no events none is the lowest
@@ -87,7 +87,7 @@ but_for_none (same e l) = inl e
 but_for_none (neither e f) = inr (e, f)
 
 listed_alike : {u v : ℕ} (o : Outcome) → Lowest u v
-    → cond (ltb u places) (UnlistedEvent u) o ≡ cond (ltb v places_before) (UnlistedEvent v) o
+    → cond (ltb u places) (Err (UnlistedEvent u)) o ≡ cond (ltb v places_before) (Err (UnlistedEvent v)) o
 listed_alike {u} {v} o (same e l) = rw (e, lt-ltb v places (omega arith), lt-ltb v places_before l)
 listed_alike o (neither e f) = rw (e, f)
 
@@ -96,7 +96,7 @@ event_alike none = inr (refl, refl)
 event_alike (some w) = inl refl
 
 module _ {t : List ℕ} {p : Program} {g a w : ℕ} (b : AcceptedBefore t p g a w) where
-  accepted_now : verdict_of t ≡ Accepted g a w 0
+  accepted_now : verdict_of t ≡ accepted_with g a w 0
   accepted_now = (read_as_before t b).0
 
   module _ (s : List ℕ) (X : Events) (lent : Rooms) (few : HandedBefore X) (good : store_good t lent.store ≡ true) where
@@ -104,27 +104,27 @@ module _ {t : List ℕ} {p : Program} {g a w : ℕ} (b : AcceptedBefore t p g a 
     unfolding instant_outcome outcome_before
     same_outcome =
         rw (accepted_now, sym (store_ran t lent.store 0 good (omega arith)))
-        (ap (λ o. cond (has_room t s) (cond (ltb (blamed t s) (nodes t)) (NotAtRest (blamed t s)) o) StateRoom)
+        (ap (λ o. cond (has_room t s) (cond (ltb (blamed t s) (nodes t)) (Err (NotAtRest (blamed t s))) o) (Err StateRoom))
         (listed_alike _ (same_lowest (λ e. X e && leb (events t) e) (λ e l. rw (few e l)))))
 
-    module _ {values : Values} {s' : List ℕ} {left : Rooms} {r : Answer} (q : Answered t s X values lent s' left r) where
+    module _ {values : Values} {s' : List ℕ} {left : Rooms} (r : Reply) (q : Answered t s X values lent s' left r) where
       abbrev Before : Type 0
       Before = (before : AnswerBefore) × AnsweredBefore p t a s X values lent.row s' left.row before × SameAnswer r before
 
-      ran_before : r.outcome ≡ Ran → Before
+      ran_before : ending r ≡ Ok tt → Before
       ran_before e =
-          let x = q.ran e in
+          let x = fields_run r q e in
           let Y = x.result.env.now in
           let past : HandedBefore Y = λ n l. reports_listed t accepted_now x.program x.at_rest x.instant n (omega (arith, b.v_range)) (few n l) in (
             record {
-              outcome = r.outcome;
+              outcome = ending r;
               events = Y;
-              count = r.count;
+              count = (fields_of r).count;
               lowest = lowest places_before Y;
-              atoms = r.atoms;
-              finished = r.finished;
-              passes = r.passes;
-              node = r.waits.node;
+              atoms = (fields_of r).atoms;
+              finished = (fields_of r).finished;
+              passes = (fields_of r).passes;
+              node = (fields_of r).waits.node;
               event = event_before (waited x.instant);
             },
             record {
@@ -151,22 +151,24 @@ module _ {t : List ℕ} {p : Program} {g a w : ℕ} (b : AcceptedBefore t p g a 
             },
             record {
               outcome = refl;
-              events = x.events_are;
-              count = refl;
-              lowest = rw x.lowest_is (but_for_none (same_lowest Y past));
-              atoms = refl;
-              finished = refl;
-              passes = refl;
-              node = refl;
-              event = rw x.waits_event_is (event_alike (waited x.instant));
+              fields = record {
+                events = x.events_are;
+                count = refl;
+                lowest = rw x.lowest_is (but_for_none (same_lowest Y past));
+                atoms = refl;
+                finished = refl;
+                passes = refl;
+                node = refl;
+                event = rw x.waits_event_is (event_alike (waited x.instant));
+              };
             },
           )
 
-      refused_before : r.outcome ≢ Ran → Before
+      refused_before : ending r ≢ Ok tt → Before
       refused_before n =
-          let (x, state, kept) = q.refused n in (
+          let (state, rooms) = kept r q n in (
             record {
-              outcome = r.outcome;
+              outcome = ending r;
               events = no_event;
               count = 0;
               lowest = places_before;
@@ -191,26 +193,28 @@ module _ {t : List ℕ} {p : Program} {g a w : ℕ} (b : AcceptedBefore t p g a 
                   event_is = refl;
                 },
                 state,
-                ap (λ l. l.row) kept,
+                ap (λ l. l.row) rooms,
               );
             },
             record {
               outcome = refl;
-              events = x.events_are;
-              count = x.count_is;
-              lowest = inr (x.lowest_is, refl);
-              atoms = x.atoms_are;
-              finished = x.finished_is;
-              passes = x.passes_are;
-              node = x.waits_node_is;
-              event = inr (x.waits_event_is, refl);
+              fields = rw (no_fields r n) (record {
+                events = marks_zeros (places / 64);
+                count = refl;
+                lowest = inr (refl, refl);
+                atoms = refl;
+                finished = refl;
+                passes = refl;
+                node = refl;
+                event = inr (refl, refl);
+              });
             },
           )
 
       as_before : Before
-      as_before = go (ran_or_not r.outcome)
+      as_before = go (ran_or_not (ending r))
         where
-          go : (r.outcome ≡ Ran) ⊎ (r.outcome ≢ Ran) → Before
+          go : (ending r ≡ Ok tt) ⊎ (ending r ≢ Ok tt) → Before
           go (inl e) = ran_before e
           go (inr n) = refused_before n
 
@@ -246,18 +250,18 @@ thousand_events =
       places_are = refl;
       v_at_most = λ t e. (accepted t e).loaded.framed.v_most;
       v_of_all = (refl, refl, refl);
-      none_lowest = λ {t} {s} {X} {values} {lent} {s'} {left} {r} q e. lowest_none q e (ran_or_not r.outcome);
-      none_refused = λ q n. ((q.refused n).0.lowest_is, (q.refused n).0.waits_event_is);
+      none_lowest = λ {r = r} q e. lowest_none r q e (ran_or_not (ending r));
+      none_refused = λ why. (refl, refl);
       none_waited = λ x e. x.waits_event_is ∙ ap event_at e;
       records = λ t j e h. good_record (accepted t e).loaded j h;
       read_as_before = λ t b. read_as_before t b;
-      answers_as_before = λ {s = s} {X = X} {lent = lent} b few good q. as_before b s X lent few good q;
+      answers_as_before = λ {s = s} {X = X} {lent = lent} {now = r} b few good q. as_before b s X lent few good r q;
     }
   where
-    lowest_none : {t s : List ℕ} {X : Events} {values : Values} {lent : Rooms} {s' : List ℕ} {left : Rooms} {r : Answer}
+    lowest_none : {t s : List ℕ} {X : Events} {values : Values} {lent : Rooms} {s' : List ℕ} {left : Rooms} (r : Reply)
         → Answered t s X values lent s' left r
-        → members r.events ≡ no_event → (r.outcome ≡ Ran) ⊎ (r.outcome ≢ Ran) → r.lowest ≡ 1024
-    lowest_none q e (inl ran) =
-        let x = q.ran ran in
+        → members (fields_of r).events ≡ no_event → (ending r ≡ Ok tt) ⊎ (ending r ≢ Ok tt) → (fields_of r).lowest ≡ 1024
+    lowest_none r q e (inl ran) =
+        let x = fields_run r q ran in
         x.lowest_is ∙ (ap (lowest places) (sym x.events_are ∙ e) ∙ lowest_of_none places)
-    lowest_none q e (inr n) = (q.refused n).0.lowest_is
+    lowest_none r q e (inr n) = ap (λ a. a.lowest) (no_fields r n)

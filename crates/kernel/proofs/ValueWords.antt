@@ -1,59 +1,56 @@
--- The sixteen values in two words: a word built from its highest byte down has each value in its own byte, and fits; what two such words hold
--- is what the bytes are.
+-- The sixteen values in two words: a word read from eight bytes has each value in its own byte; what two such words hold is what the bytes are.
 use Prim.Native.Nat.{ℕ, zero, suc, ◌+◌, ◌-◌, ◌*◌, ◌/◌, ◌%◌, ◌^◌, ◌≤◌, ◌<◌}
 use mathlib.Core.Bool.{Bool, true, false, cond}
-use mathlib.Core.Path.{◌≡◌, refl, ap, sym, ◌∙◌, fun_ext}
+use mathlib.Core.Path.{◌≡◌, refl, ap, ◌∙◌, fun_ext}
 use mathlib.Core.List.{List, [], ◌∷◌}
-use native.Mathlib.Nat.{le_trans, le_of_eq, mul_assoc, mul-le-mul_right, le-mul_of_pos_right, mul-add-mod_self_right, mod-eq_of_lt, zero-div}
-use native.Mathlib.Nat.{div-one, div-div-eq-div-mul}
+use native.Mathlib.Nat.{zero-div, div-one}
 use native.Mathlib.Omega.{arith}
 use lib.Dec.{ltb}
-use lib.ListN.{get_or, get_or-eq_default}
-use lib.Pow.{pow-add, pow_pos}
+use lib.ListN.{length, length-drop, get_or, drop, get_or-eq_default}
+use lib.Seq.{get_or-drop, length-take-le}
+use borrow.Rule.Slice.PartMut.{mid_of}
+use Rattle.std.specs.Int.{w64, to_le_bytes, from_le_bytes}
+use Rattle.std.proofs.lemmas.List.{get_or-take}
+use Rattle.std.proofs.lemmas.Nat.{le_bytes_8}
 use borrow.Author.Tests.{ltb-true, ltb-false}
 use Rattle.kernel.specs.Answer.{values_of}
 use Rattle.kernel.specs.Passes.{word_values, Eight}
 
--- a byte more, and one power of 256
-power : (k : ℕ) → 2 ^ (8 * suc k) ≡ 256 * 2 ^ (8 * k)
-power k = let e : 8 * suc k ≡ 8 + 8 * k = omega arith in ap (λ n. 2 ^ n) e ∙ pow-add 2 8 (8 * k)
+-- a word read from eight bytes, the first the lowest, has each in its place
+module _ (bytes : List ℕ) (from word : ℕ) (small : (i : ℕ) → get_or bytes i 0 < 256) (room : from + 8 ≤ length bytes)
+    (is : word ≡ from_le_bytes w64 (mid_of from 8 bytes)) where
+  eight : List ℕ
+  eight = mid_of from 8 bytes
 
--- the values from a place on stand in the word's bytes; the bytes of `left` more have room in it
-abbrev pub SoFar : List ℕ → ℕ → ℕ → ℕ → Type 0
-SoFar bytes from left w = (k : ℕ) → left + k < 8 → w / 2 ^ (8 * k) % 256 ≡ get_or bytes (from + left + k) 0
+  there : (k : ℕ) → k < 8 → get_or eight k 0 ≡ get_or bytes (from + k) 0
+  unfolding eight
+  there k h = get_or-take 8 (drop from bytes) k 0 h ∙ get_or-drop from bytes k 0
 
-abbrev pub Small : ℕ → ℕ → Type 0
-Small left w = (w + 1) * 2 ^ (8 * left) ≤ 2 ^ 64
+  eight_long : length eight ≡ 8
+  unfolding eight
+  eight_long = length-take-le 8 (drop from bytes) (omega (arith, length-drop from bytes))
 
-module _ (w b : ℕ) (h : b < 256) where
-  lowest_byte : (w * 256 + b) % 256 ≡ b
-  lowest_byte = mul-add-mod_self_right w 256 b ∙ mod-eq_of_lt h
+  eight_small : (k : ℕ) → get_or eight k 0 < 256
+  eight_small k = go (ltb k 8) refl
+    where
+      go : (b : Bool) → ltb k 8 ≡ b → get_or eight k 0 < 256
+      go true e = rw (there k (ltb-true k 8 e)) (small (from + k))
+      go false e = rw (get_or-eq_default eight 0 {n = k} (omega (arith, eight_long, ltb-false k 8 e))) (omega arith)
 
-  higher_bytes : (k : ℕ) → (w * 256 + b) / 2 ^ (8 * suc k) ≡ w / 2 ^ (8 * k)
-  higher_bytes k =
-      let moved : (w * 256 + b) / 256 ≡ w = omega arith in
-      ap (λ n. (w * 256 + b) / n) (power k)
-      ∙ (sym (div-div-eq-div-mul (w * 256 + b) 256 (2 ^ (8 * k))) ∙ ap (λ n. n / 2 ^ (8 * k)) moved)
+  in_place : (k : ℕ) → k < 8 → word / 2 ^ (8 * k) % 256 ≡ get_or (to_le_bytes w64 word) k 0
+  in_place zero h = ap (λ n. n % 256) (div-one word)
+  in_place (suc zero) h = refl
+  in_place (suc (suc zero)) h = refl
+  in_place (suc (suc (suc zero))) h = refl
+  in_place (suc (suc (suc (suc zero)))) h = refl
+  in_place (suc (suc (suc (suc (suc zero))))) h = refl
+  in_place (suc (suc (suc (suc (suc (suc zero)))))) h = refl
+  in_place (suc (suc (suc (suc (suc (suc (suc zero))))))) h = refl
+  in_place (suc (suc (suc (suc (suc (suc (suc (suc k)))))))) h = absurd (omega arith)
 
-  pub smaller : (left : ℕ) → Small (suc left) w → Small left (w * 256 + b)
-  smaller left s =
-      let m = 2 ^ (8 * left) in
-      let more : (w * 256 + b + 1) * m ≤ (w + 1) * 256 * m = mul-le-mul_right m (omega arith) in
-      let same : (w + 1) * 256 * m ≡ (w + 1) * 2 ^ (8 * suc left) = mul_assoc (w + 1) 256 m ∙ ap (λ n. (w + 1) * n) (sym (power left)) in
-      le_trans more (le_trans (le_of_eq same) s)
-
-pub one_more : (bytes : List ℕ) (from left w : ℕ) → get_or bytes (from + left) 0 < 256 → SoFar bytes from (suc left) w
-    → SoFar bytes from left (w * 256 + get_or bytes (from + left) 0)
-one_more bytes from left w h f zero g =
-    let e : from + left ≡ from + left + 0 = omega arith in
-    ap (λ n. n % 256) (div-one _) ∙ (lowest_byte w _ h ∙ ap (λ n. get_or bytes n 0) e)
-one_more bytes from left w h f (suc k) g =
-    let e : from + suc left + k ≡ from + left + suc k = omega arith in
-    ap (λ n. n % 256) (higher_bytes w _ h k) ∙ (f k (omega arith) ∙ ap (λ n. get_or bytes n 0) e)
-
--- what is small fits
-pub fits : (left w : ℕ) → Small left w → w < 2 ^ 64
-fits left w s = let small : w + 1 ≤ 2 ^ 64 = le_trans (le-mul_of_pos_right (w + 1) (pow_pos (8 * left))) s in omega arith
+  pub eight_in : Eight bytes from word
+  unfolding eight
+  eight_in k h = in_place k h ∙ (ap (λ l. get_or l k 0) (le_bytes_8 eight word eight_long eight_small is) ∙ there k h)
 
 -- what two words of eight each hold
 pub by_bytes : (bytes : List ℕ) (low high : ℕ) → Eight bytes 0 low → Eight bytes 8 high → word_values low high ≡ values_of bytes

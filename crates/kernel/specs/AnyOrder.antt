@@ -1,6 +1,6 @@
 -- L6 of the running code: "For an accepted table, a state at rest and given events, let each Par, in each pass where both branches are
 -- suspended, run either branch first": what `instant` answered is what every such choice gives. On demand 2's premises.
-use Rattle.std.specs.Prelude.{ℕ, ◌*◌, ◌≡◌, List, ◌++◌, take}
+use Rattle.std.specs.Prelude.{Ok, ℕ, ◌*◌, ◌≡◌, List, ◌++◌, take}
 use Rattle.events.specs.Events.{Events}
 use Rattle.events.specs.Members.{members}
 use Rattle.junior.specs.Values.{Values}
@@ -15,9 +15,8 @@ use Rattle.junior.specs.Order.{often, OrderFree}
 use Rattle.table.specs.Records.{nodes}
 use Rattle.state.specs.StateBytes.{state_bytes}
 use Rattle.store.specs.Stored.{Holds}
-use Rattle.kernel.specs.declared.Outcome.TheVariants.{Ran}
 use Rattle.kernel.specs.declared.Answer.{Answer}
-use Rattle.kernel.specs.Answer.{Rooms, ended}
+use Rattle.kernel.specs.Answer.{Reply, Rooms, ended}
 use Rattle.kernel.specs.Demand2.{TermInState, Reports}
 
 -- "event set, finished answer and end state are the same for all choices, and .. each atom occurs equally often"; L8: of the store "L6 not its order"
@@ -31,8 +30,9 @@ pub record GivesInAnyOrder (t : List ℕ) (l : List Piece) (s' : List ℕ) (left
   pub next_store : Holds t left.store (l ++ parked)
   pub same_pieces : (weight : Piece → ℕ) → together weight parked ≡ together weight (parks r.acts)
 
-pub record AnyOrder (t s : List ℕ) (X : Events) (value : Values) (lent : Rooms) (s' : List ℕ) (left : Rooms) (a : Answer) : Type 0 where
-  pub ran : a.outcome ≡ Ran
+pub record AnyOrder (t s : List ℕ) (X : Events) (value : Values) (lent : Rooms) (s' : List ℕ) (left : Rooms) (r : Reply) : Type 0 where
+  pub answer : Answer
+  pub ran : r ≡ Ok answer
   pub term : Term
   pub stands : TermInState t s term
   pub pieces : List Piece
@@ -40,6 +40,6 @@ pub record AnyOrder (t s : List ℕ) (X : Events) (value : Values) (lent : Rooms
   -- the choices: each goes on to an end, and they all agree
   pub order_free : OrderFree value term X
   -- and what they agree in is the answer
-  pub gives : {n : ℕ} {r : Result} → Instant (either_first value) term (handed_in X) n r → GivesInAnyOrder t pieces s' left a r
+  pub gives : {n : ℕ} {r : Result} → Instant (either_first value) term (handed_in X) n r → GivesInAnyOrder t pieces s' left answer r
   -- more than was asked: also in the two fields of L1
-  pub reports : {n : ℕ} {r : Result} (i : Instant (either_first value) term (handed_in X) n r) → Reports a (waited i)
+  pub reports : {n : ℕ} {r : Result} (i : Instant (either_first value) term (handed_in X) n r) → Reports answer (waited i)

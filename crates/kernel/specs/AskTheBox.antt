@@ -16,7 +16,7 @@ use Rattle.table.specs.Spells.{Spells, tree_of}
 use Rattle.table.specs.Verdict.{verdict_of, number_of}
 use Rattle.state.specs.StateBytes.{head}
 use Rattle.kernel.specs.declared.Answer.{Answer}
-use Rattle.kernel.specs.Answer.{Rooms, Run, Answered}
+use Rattle.kernel.specs.Answer.{Reply, Rooms, Run, Answered}
 
 abbrev pub RepeatExt : ℕ → ℕ → Program → Program
 RepeatExt v cap p = Repeat (asked v cap) p
@@ -67,11 +67,11 @@ pub record AskTheBox : Type 1 where
       → (x : Run t s X value lent s' left r)
       → Each (λ v. value v ≡ value' v) (asks_in_all x.instant)
       → Run t s X value' lent s' left r
-  pub only_what_is_named : {t s : List ℕ} {X : Events} {value value' : Values} {lent : Rooms} {s' : List ℕ} {left : Rooms} {r : Answer}
+  pub only_what_is_named : {t s : List ℕ} {X : Events} {value value' : Values} {lent : Rooms} {s' : List ℕ} {left : Rooms} {r : Reply}
       → EachNamed (λ v. value v ≡ value' v) (tree_of t)
       → Answered t s X value lent s' left r
       → Answered t s X value' lent s' left r
-  pub without_the_forms : {t s : List ℕ} {X : Events} {value value' : Values} {lent : Rooms} {s' : List ℕ} {left : Rooms} {r : Answer}
+  pub without_the_forms : {t s : List ℕ} {X : Events} {value value' : Values} {lent : Rooms} {s' : List ℕ} {left : Rooms} {r : Reply}
       → NamesNone (tree_of t)
       → Answered t s X value lent s' left r
       → Answered t s X value' lent s' left r

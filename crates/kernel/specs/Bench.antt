@@ -1,28 +1,28 @@
 -- The bench list (01, "Bench list"): tables, state rooms and events with what check, start and instant answer to them, one list and one statement
 -- over it, of the very definitions that are their contracts. Beyond K1 to K12 it has an example for each clause of these definitions.
-use Rattle.std.specs.Prelude.{ℕ, zero, suc, ◌+◌, ◌-◌, ◌*◌, ◌/◌, ◌%◌, ◌^◌, Bool, true, false, cond, ◌≡◌, List, [], ◌∷◌, ◌++◌, eqb, length, replicate}
+use Rattle.std.specs.Prelude.{ℕ, zero, suc, ◌+◌, ◌-◌, ◌*◌, ◌/◌, ◌%◌, ◌^◌, Bool, true, false, cond, ◌≡◌, Ok, Err, List, [], ◌∷◌, ◌++◌, eqb, length, replicate}
 use Rattle.events.specs.declared.EventSet.{EventSet}
 use Rattle.events.specs.Members.{places, members, Whole}
-use Rattle.table.specs.declared.Checked.{Checked}
-use Rattle.table.specs.declared.Checked.TheVariants.{BadLength, BadCounts, BadDistances, BadConfiguration, BadNode}
-use Rattle.table.specs.declared.Checked.TheVariants.{EndlessLoop, TooHeavy, Accepted}
+use Rattle.table.specs.declared.TableRefusal.{TableRefusal}
+use Rattle.table.specs.declared.TableRefusal.TheVariants.{BadLength, BadCounts, BadDistances, BadConfiguration, BadNode}
+use Rattle.table.specs.declared.TableRefusal.TheVariants.{EndlessLoop, TooHeavy}
 use Rattle.table.specs.Records.{nodes}
-use Rattle.table.specs.Verdict.{verdict_of, number_of, index_of, figures_of}
+use Rattle.table.specs.Verdict.{Verdict, accepted_with, verdict_of, number_of, index_of, figures_of}
 use Rattle.table.specs.Bytes.{node, configuration, trailer}
 use Rattle.waiting.specs.declared.Wait.{Wait}
-use Rattle.kernel.specs.declared.Outcome.{Outcome}
-use Rattle.kernel.specs.declared.Outcome.TheVariants.{Ran, Table, StateRoom, NotAtRest, UnlistedEvent}
-use Rattle.kernel.specs.declared.Outcome.TheVariants.{AtomRoom, BadStore, StoreRoom}
+use Rattle.kernel.specs.declared.Refusal.{Refusal}
+use Rattle.kernel.specs.declared.Refusal.TheVariants.{Table, StateRoom, NotAtRest, UnlistedEvent}
+use Rattle.kernel.specs.declared.Refusal.TheVariants.{AtomRoom, BadStore, StoreRoom}
 use Rattle.kernel.specs.declared.Answer.{Answer}
-use Rattle.kernel.specs.Answer.{Rooms, rooms, outcome_number, outcome_index, values_of, Started, Answered}
+use Rattle.kernel.specs.Answer.{Outcome, Reply, fields_of, Rooms, rooms, outcome_number, outcome_index, values_of, Started, Answered}
 
--- an instant: the events and the bytes of the values handed in, the row lent for atoms and the store; its whole answer, with the outcome's number and
--- index; the state room, the row and the store after it
+-- an instant: the events and the bytes of the values handed in, the row lent for atoms and the store; its whole answer, with its number and index;
+-- the state room, the row and the store after it
 pub record Line : Type 0 where
   pub handed : EventSet
   pub values : List ℕ
   pub lent : Rooms
-  pub answer : Answer
+  pub answer : Reply
   pub number : ℕ
   pub index : ℕ
   pub state : List ℕ
@@ -33,9 +33,9 @@ pub data Entry : Type 0 where
   -- the room that the one before left
   parking : List ℕ → ℕ → ℕ → ℕ → ℕ → List Line → Entry
   -- check refuses the table with this number and index; so do start and instant, in all rooms
-  refused : List ℕ → Checked → ℕ → ℕ → Entry
+  refused : List ℕ → TableRefusal → ℕ → ℕ → Entry
   -- start refuses this room with this number and index
-  not_started : List ℕ → List ℕ → Outcome → ℕ → ℕ → Entry
+  not_started : List ℕ → List ℕ → Refusal → ℕ → ℕ → Entry
   -- each of these instants is refused, in the room that it leaves as it was
   not_run : List ℕ → List Line → Entry
   -- these instants follow one another from this room, which no run need leave so
@@ -46,7 +46,7 @@ abbrev pub accepted : List ℕ → ℕ → ℕ → ℕ → List Line → Entry
 accepted t g a w l = parking t g a w 0 l
 
 -- check answers exactly this (its contract: the answer is `verdict_of` the bytes)
-pub record Checks (t : List ℕ) (c : Checked) (number index g a w f : ℕ) : Type 0 where
+pub record Checks (t : List ℕ) (c : Verdict) (number index g a w f : ℕ) : Type 0 where
   pub verdict_is : verdict_of t ≡ c
   pub number_is : number_of c ≡ number
   pub index_is : index_of c ≡ index
@@ -62,11 +62,11 @@ pub record Starts (t s : List ℕ) (o : Outcome) (number index : ℕ) (s' : List
 -- instant answers exactly this line in the room s: its contract allows this and nothing else (Whole: words of 64 bits for all places, as in a running program)
 pub record Answers (t s : List ℕ) (x : Line) : Type 0 where
   pub answered : Answered t s (members x.handed) (values_of x.values) x.lent x.state x.left x.answer
-  pub only : {q : Answer} {s' : List ℕ} {left : Rooms} → Whole q.events
+  pub only : {q : Reply} {s' : List ℕ} {left : Rooms} → Whole (fields_of q).events
       → Answered t s (members x.handed) (values_of x.values) x.lent s' left q
       → (q ≡ x.answer) × (s' ≡ x.state) × (left ≡ x.left)
-  pub number_is : outcome_number x.answer.outcome ≡ x.number
-  pub index_is : outcome_index x.answer.outcome ≡ x.index
+  pub number_is : outcome_number x.answer ≡ x.number
+  pub index_is : outcome_index x.answer ≡ x.index
 
 -- each in the room that the one before left; each in its own
 unfoldable pub Follow : List ℕ → List ℕ → List Line → Type 0
@@ -100,13 +100,12 @@ no_wait = record { node = 4096; event = no_event }
 -- the answer of an instant that ran: its events, how many, the lowest; how many atoms; whether it finished; passes
 abbrev pub ran : List ℕ → ℕ → ℕ → ℕ → Bool → ℕ → Answer
 ran X count lowest atoms finished passes =
-    record { outcome = Ran; events = set X; count = count; lowest = lowest; atoms = atoms; finished = finished; passes = passes; waits = no_wait }
+    record { events = set X; count = count; lowest = lowest; atoms = atoms; finished = finished; passes = passes; waits = no_wait }
 
 -- the same of one whose end was declared: the node of the first test that waited, and the event
 abbrev pub waiting : ℕ → ℕ → Answer → Answer
 waiting n e a =
     record {
-      outcome = a.outcome;
       events = a.events;
       count = a.count;
       lowest = a.lowest;
@@ -115,10 +114,6 @@ waiting n e a =
       passes = a.passes;
       waits = record { node = n; event = e };
     }
-
--- the answer of one that was refused
-abbrev pub refusal : Outcome → Answer
-refusal o = record { outcome = o; events = set []; count = 0; lowest = no_event; atoms = 0; finished = false; passes = 0; waits = no_wait }
 
 -- the values that are handed in where a line says nothing of them
 abbrev pub no_values : List ℕ
@@ -135,21 +130,21 @@ instant_in X row a row' s =
       handed = set X;
       values = no_values;
       lent = rooms row no_pieces;
-      answer = a;
+      answer = Ok a;
       number = 0;
       index = 0;
       state = s;
       left = rooms row' no_pieces;
     }
 
--- one that was refused: the events handed in, row and room, both as they were; the outcome, its number, its index
-abbrev pub turned_down : EventSet → List ℕ → List ℕ → Outcome → ℕ → ℕ → Line
+-- one that was refused: the events handed in, row and room, both as they were; the refusal, its number, its index
+abbrev pub turned_down : EventSet → List ℕ → List ℕ → Refusal → ℕ → ℕ → Line
 turned_down X row s o number index =
     record {
       handed = X;
       values = no_values;
       lent = rooms row no_pieces;
-      answer = refusal o;
+      answer = Err o;
       number = number;
       index = index;
       state = s;
@@ -192,13 +187,13 @@ storing store store' x =
 unfoldable pub Shown : Entry → Type 0
 Shown (parking t g a w f l) =
     let fresh : List ℕ = replicate (4 * nodes t) 0 ++ (255 ∷ []) in
-    Checks t (Accepted g a w f) 0 0 g a w f × Starts t (replicate (4 * nodes t + 1) 255) Ran 0 0 fresh × Follow t fresh l
+    Checks t (accepted_with g a w f) 0 0 g a w f × Starts t (replicate (4 * nodes t + 1) 255) (Ok tt) 0 0 fresh × Follow t fresh l
 Shown (refused t c n i) =
-    Checks t c n i 0 0 0 0
-    × ((s : List ℕ) → Starts t s (Table c) n i s)
+    Checks t (Err c) n i 0 0 0 0
+    × ((s : List ℕ) → Starts t s (Err (Table c)) n i s)
     × ((s : List ℕ) (X : EventSet) (values row store : List ℕ)
     → Answers t s (asking values (storing store store (turned_down X row s (Table c) n i))))
-Shown (not_started t s o n i) = Starts t s o n i s
+Shown (not_started t s o n i) = Starts t s (Err o) n i s
 Shown (not_run t l) = Alone t l
 Shown (resumed t s l) = Follow t s l
 
@@ -1082,7 +1077,7 @@ parked_pieces =
     ∷ []
 
 -- the line of an instant that 25 or 13 refuses: with event 0 handed in, this store
-abbrev pub refuses : List ℕ → Outcome → ℕ → Line
+abbrev pub refuses : List ℕ → Refusal → ℕ → Line
 refuses store o number = storing store store (turned_down (set (0 ∷ [])) row9 (room (0 ∷ 0 ∷ [])) o number 0)
 
 abbrev pub refused_stores : List Entry

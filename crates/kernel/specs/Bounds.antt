@@ -6,13 +6,12 @@ use Rattle.junior.specs.Trace.{atoms, generations, parks}
 use Rattle.junior.specs.Parked.{together, stored_length}
 use Rattle.junior.specs.Figures.{every}
 use Rattle.junior.specs.Visits.{visits_by_pass, EachAtMost, sum}
-use Rattle.kernel.specs.declared.Answer.{Answer}
-use Rattle.kernel.specs.Answer.{Rooms}
+use Rattle.kernel.specs.Answer.{Reply, Rooms}
 use Rattle.kernel.specs.Demand2.{Premises}
 use Rattle.kernel.specs.Demand3.{Demand3}
 
-pub record Bounds {t s : List ℕ} {X : Events} {lent : Rooms} {s' : List ℕ} {left : Rooms} {a : Answer} {p : Premises t s X lent} {value : Values}
-    (d : Demand3 p value s' left a) : Type 0 where
+pub record Bounds {t s : List ℕ} {X : Events} {lent : Rooms} {s' : List ℕ} {left : Rooms} {r : Reply} {p : Premises t s X lent} {value : Values}
+    (d : Demand3 p value s' left r) : Type 0 where
   -- the instant generates at most G events, does at most A atoms and parks at most F bytes
   pub few_generations : length (generations d.result.acts) ≤ p.generations
   pub few_atoms : length (atoms d.result.acts) ≤ p.most_atoms

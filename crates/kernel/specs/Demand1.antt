@@ -8,17 +8,14 @@ use Rattle.junior.specs.Values.{Values}
 use Rattle.junior.specs.Program.{Program, Loop, size}
 use Rattle.junior.specs.Figures.{stops, G, A, W, F}
 use Rattle.junior.specs.Trace.{Piece}
-use Rattle.table.specs.declared.Checked.{Checked}
 use Rattle.table.specs.Records.{nodes, configurations, events, back_to_nodes, back_to_configurations}
 use Rattle.table.specs.Good.{good_configuration, good_node}
 use Rattle.table.specs.Spells.{Spells, tree_of}
-use Rattle.table.specs.Verdict.{Node, preorder, verdict_of, number_of, index_of}
+use Rattle.table.specs.Verdict.{Verdict, Node, preorder, verdict_of, number_of, index_of}
 use Rattle.state.specs.Resting.{rests}
 use Rattle.store.specs.Store.{in_use}
 use Rattle.store.specs.Stored.{Stored}
-use Rattle.kernel.specs.declared.Outcome.{Outcome}
-use Rattle.kernel.specs.declared.Answer.{Answer}
-use Rattle.kernel.specs.Answer.{Rooms, Bytes, outcome_number, outcome_index, Started, Answered}
+use Rattle.kernel.specs.Answer.{Outcome, Reply, Rooms, Bytes, outcome_number, outcome_index, Started, Answered}
 
 -- what a call is handed; check is handed a table alone, start a table and a state
 pub record Handed : Type 0 where
@@ -156,22 +153,22 @@ pub record WholeTable (t : List ℕ) : Type 0 where
 
 -- of every answer that the contracts allow
 pub record Demand1 : Type 0 where
-  pub checked : (t : List ℕ) (r : Checked) → r ≡ verdict_of t
+  pub checked : (t : List ℕ) (r : Verdict) → r ≡ verdict_of t
       → ByFirstCheck checks_of_table (handed t [] none no_rooms) (number_of r) (index_of r)
   pub started : {t s s' : List ℕ} {r : Outcome} → Started t s s' r
       → ByFirstCheck checks_of_start (handed t s none no_rooms) (outcome_number r) (outcome_index r)
-  pub answered : {t s : List ℕ} {X : Events} {value : Values} {lent : Rooms} {s' : List ℕ} {left : Rooms} {r : Answer} → Bytes lent.store
+  pub answered : {t s : List ℕ} {X : Events} {value : Values} {lent : Rooms} {s' : List ℕ} {left : Rooms} {r : Reply} → Bytes lent.store
       → Answered t s X value lent s' left r
-      → ByFirstCheck checks_of_instant (handed t s X lent) (outcome_number r.outcome) (outcome_index r.outcome)
+      → ByFirstCheck checks_of_instant (handed t s X lent) (outcome_number r) (outcome_index r)
   -- "and then nothing lent has been written"
   pub start_writes_nothing : {t s s' : List ℕ} {r : Outcome} → Started t s s' r → outcome_number r ≢ 0 → s' ≡ s
-  pub instant_writes_nothing : {t s : List ℕ} {X : Events} {value : Values} {lent : Rooms} {s' : List ℕ} {left : Rooms} {r : Answer}
+  pub instant_writes_nothing : {t s : List ℕ} {X : Events} {value : Values} {lent : Rooms} {s' : List ℕ} {left : Rooms} {r : Reply}
       → Answered t s X value lent s' left r
-      → outcome_number r.outcome ≢ 0
+      → outcome_number r ≢ 0
       → (s' ≡ s) × (left ≡ lent)
   -- "No table is run in part"
   pub starts_whole : {t s s' : List ℕ} {r : Outcome} → Started t s s' r → outcome_number r ≡ 0 → WholeTable t
-  pub runs_whole : {t s : List ℕ} {X : Events} {value : Values} {lent : Rooms} {s' : List ℕ} {left : Rooms} {r : Answer}
+  pub runs_whole : {t s : List ℕ} {X : Events} {value : Values} {lent : Rooms} {s' : List ℕ} {left : Rooms} {r : Reply}
       → Answered t s X value lent s' left r
-      → outcome_number r.outcome ≡ 0
+      → outcome_number r ≡ 0
       → WholeTable t

@@ -1,7 +1,7 @@
 -- Demand 2: "For an accepted table, a state at rest, listed events and enough room for actions, one instant gives exactly the event set, the
 -- actions in order, the finished answer, the pass count and the next state that Junior's rewriting rules give, read as the requirements settle
 -- them, left branch first." L8: "Demand 2 includes the store ..; demands 2 and 3 now presume a store that passes 25 and 13 as well".
-use Rattle.std.specs.Prelude.{ℕ, ◌+◌, ◌*◌, ◌<◌, ◌≤◌, true, ◌≡◌, List, ◌++◌, length, take, drop}
+use Rattle.std.specs.Prelude.{Ok, ℕ, ◌+◌, ◌*◌, ◌<◌, ◌≤◌, true, ◌≡◌, List, ◌++◌, length, take, drop}
 use Rattle.std.proofs.Math.Option.{Option}
 use Rattle.events.specs.Events.{Events, how_many, lowest}
 use Rattle.events.specs.Members.{places, members}
@@ -15,17 +15,15 @@ use Rattle.junior.specs.Instant.{Instant}
 use Rattle.junior.specs.Printed.{Abstract, reads, World, world, froze, Deed, actions, ◌⊢◌∣◌—[◌doing◌]—◌passes→◌∣◌}
 use Rattle.junior.specs.AtRest.{AtRest}
 use Rattle.junior.specs.Waited.{Wait, waited}
-use Rattle.table.specs.declared.Checked.TheVariants.{Accepted}
 use Rattle.table.specs.Records.{nodes, events}
 use Rattle.table.specs.Spells.{tree_of}
-use Rattle.table.specs.Verdict.{verdict_of}
+use Rattle.table.specs.Verdict.{accepted_with, verdict_of}
 use Rattle.state.specs.StateBytes.{state_bytes}
 use Rattle.state.specs.Resting.{blamed}
 use Rattle.store.specs.Store.{in_use, store_good, store_room}
 use Rattle.store.specs.Stored.{Holds}
-use Rattle.kernel.specs.declared.Outcome.TheVariants.{Ran}
 use Rattle.kernel.specs.declared.Answer.{Answer}
-use Rattle.kernel.specs.Answer.{Rooms, Bytes, ended, node_of, event_at}
+use Rattle.kernel.specs.Answer.{Reply, Rooms, Bytes, ended, node_of, event_at}
 
 -- what an instant is handed
 pub record Premises (t s : List ℕ) (X : Events) (lent : Rooms) : Type 0 where
@@ -34,7 +32,7 @@ pub record Premises (t s : List ℕ) (X : Events) (lent : Rooms) : Type 0 where
   pub most_atoms : ℕ
   pub weight : ℕ
   pub most_parked : ℕ
-  pub accepted : verdict_of t ≡ Accepted generations most_atoms weight most_parked
+  pub accepted : verdict_of t ≡ accepted_with generations most_atoms weight most_parked
   -- "a state at rest": no node is to blame
   pub room : 4 * nodes t ≤ length s
   pub at_rest : blamed t s ≡ nodes t
@@ -94,9 +92,10 @@ pub record GivesPrinted (t s' row' : List ℕ) (a : Answer) (n : ℕ) (α : Flag
   pub next_stands : TermInState t s' next
   pub next_reads : reads next ≡ u
 
-pub record Demand2 (t s : List ℕ) (X : Events) (value : Values) (lent : Rooms) (s' : List ℕ) (left : Rooms) (a : Answer) : Type 0 where
+pub record Demand2 (t s : List ℕ) (X : Events) (value : Values) (lent : Rooms) (s' : List ℕ) (left : Rooms) (r : Reply) : Type 0 where
   -- "one instant": it isn't refused
-  pub ran : a.outcome ≡ Ran
+  pub answer : Answer
+  pub ran : r ≡ Ok answer
   pub term : Term
   pub stands : TermInState t s term
   -- the pieces that stand in the store
@@ -104,8 +103,8 @@ pub record Demand2 (t s : List ℕ) (X : Events) (value : Values) (lent : Rooms)
   pub holds : Holds t lent.store pieces
   -- "that Junior's rewriting rules give .. left branch first": by rules without rule 9
   pub there : (n : ℕ) × (r : Result) × Instant (left_first value) term (handed_in X) n r
-  pub gives : {n : ℕ} {r : Result} → Instant (left_first value) term (handed_in X) n r → Gives t s lent pieces s' left a n r
-  pub reports : {n : ℕ} {r : Result} (i : Instant (left_first value) term (handed_in X) n r) → Reports a (waited i)
+  pub gives : {n : ℕ} {r : Result} → Instant (left_first value) term (handed_in X) n r → Gives t s lent pieces s' left answer n r
+  pub reports : {n : ℕ} {r : Result} (i : Instant (left_first value) term (handed_in X) n r) → Reports answer (waited i)
   -- "Junior's rewriting rules .. read as the requirements settle them": by the rules as 000 prints them, too, there is an instant, and every
   -- instant gives this, whatever T the table of frozen instructions was before it
   pub printed_there : (T : ℕ → Abstract)
@@ -113,5 +112,5 @@ pub record Demand2 (t s : List ℕ) (X : Events) (value : Values) (lent : Rooms)
       × (value ⊢ reads term ∣ world (handed_in X) T —[ α doing l ]— n passes→ u ∣ E)
   pub printed_gives : {T : ℕ → Abstract} {n : ℕ} {α : Flag} {l : List Deed} {u : Abstract} {E : World}
       → value ⊢ reads term ∣ world (handed_in X) T —[ α doing l ]— n passes→ u ∣ E
-      → GivesPrinted t s' left.row a n α l u E
+      → GivesPrinted t s' left.row answer n α l u E
       × ((r : Result) → Instant (left_first value) term (handed_in X) n r → E.frozen ≡ froze (parks r.acts) T)

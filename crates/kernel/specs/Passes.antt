@@ -1,6 +1,5 @@
 -- What the functions of src/passes.rt promise. Private contracts alone cite this file; no public one does.
 use Rattle.std.specs.Prelude.{ℕ, ◌+◌, ◌*◌, ◌/◌, ◌%◌, ◌^◌, ◌≤◌, ◌<◌, Bool, ◌≡◌, List, [], ◌∷◌, ◌++◌, ◌≢◌, length, get_or}
-use Rattle.std.specs.Borrow.{MutBor}
 use Rattle.events.specs.declared.EventSet.{EventSet}
 use Rattle.events.specs.Events.{Events, how_many, lowest}
 use Rattle.events.specs.Members.{places, marks, members}
@@ -19,7 +18,6 @@ use Rattle.steps.specs.Running.{values_in}
 use Rattle.steps.specs.Numbers.{moved_at, places_of_row, words_of}
 use Rattle.waiting.specs.declared.Wait.{Wait}
 use Rattle.waiting.specs.Down.{SomeLeads, LeadsTo}
-use Rattle.kernel.specs.declared.Outcome.TheVariants.{Ran}
 use Rattle.kernel.specs.declared.passes.Ending.{Ending}
 use Rattle.kernel.specs.Answer.{rooms, Run}
 
@@ -47,21 +45,11 @@ pub record Startable (t s row free : List ℕ) : Type 0 where
 
 -- an instant was run that parked its pieces in front of the free part of a store: as in a store begun empty, whose two bytes say what was parked
 pub record RanFree (t s : List ℕ) (X : Events) (value : Values) (row free s' row' free' : List ℕ) (r : Ending) : Type 0 where
-  pub outcome_is : r.answer.outcome ≡ Ran
   pub run : Run t s X value (rooms row (0 ∷ 0 ∷ free)) s' (rooms row' (two r.parked ++ free')) r.answer
   pub parked_is : r.parked ≡ length (pieces_bytes (parks run.result.acts))
 
--- the same behind references to slices, of the state, of the row and of the store's free part: from what they held, s, w and f, to what they
--- hold, s', w' and f'. These are the slices that were lent, and no others: they have the same names.
-pub record RanBehind (t : List ℕ) (s : MutBor (List ℕ)) (X : Events) (value : Values) (w f s' w' f' : MutBor (List ℕ)) (r : Ending) : Type 0 where
-  pub ran : RanFree t s.now X value w.now f.now s'.now w'.now f'.now r
-  pub same_state : s'.ghost_name ≡ s.ghost_name
-  pub same_row : w'.ghost_name ≡ w.ghost_name
-  pub same_free : f'.ghost_name ≡ f.ghost_name
-
 -- the answer of an instant that was run, and the bytes that were parked
 pub record Reported (events : EventSet) (atoms parked : ℕ) (finished : Bool) (passes : ℕ) (waits : Wait) (r : Ending) : Type 0 where
-  pub outcome_is : r.answer.outcome ≡ Ran
   pub events_are : r.answer.events ≡ events
   pub count_is : r.answer.count ≡ how_many places (members events)
   pub lowest_is : r.answer.lowest ≡ lowest places (members events)

@@ -1,7 +1,7 @@
 -- How a table was read, and what an instant answered, before request L10: V went to 256, an event's kind byte was 0 and its number the event byte, and
 -- "none" was 256 (01, "The table" and "Rules of a pass"; L1 for the node and the event). Nothing but L10's sentence "Tables of today read as they did"
 -- is about them.
-use Rattle.std.specs.Prelude.{ℕ, zero, suc, ◌+◌, ◌*◌, ◌≤◌, ◌<◌, Bool, true, false, cond, ◌&&◌, ◌≡◌, ◌≢◌, List, ◌++◌, eqb, leb, ltb, length, take, drop}
+use Rattle.std.specs.Prelude.{Ok, Err, ℕ, zero, suc, ◌+◌, ◌*◌, ◌≤◌, ◌<◌, Bool, true, false, cond, ◌&&◌, ◌≡◌, ◌≢◌, List, ◌++◌, eqb, leb, ltb, length, take, drop}
 use Rattle.std.proofs.Math.Option.{Option, none, some}
 use Rattle.events.specs.Events.{Events, none as no_event, how_many, lowest}
 use Rattle.junior.specs.Configuration.{Config, Event, Not, And, Or, handed_in}
@@ -14,16 +14,14 @@ use Rattle.junior.specs.Rules.{left_first, Result}
 use Rattle.junior.specs.Instant.{Instant}
 use Rattle.junior.specs.AtRest.{AtRest}
 use Rattle.junior.specs.Waited.{Wait, waited}
-use Rattle.table.specs.declared.Checked.TheVariants.{Accepted}
 use Rattle.table.specs.Records.{byte, nodes, configurations, events, argument_at, second_child, configuration_at, part_size, first_part_at, second_part}
 use Rattle.table.specs.Good.{is_laid_out, parts as part_count, good_parts, good_node}
 use Rattle.table.specs.Spells.{weight, tested, Heads}
-use Rattle.table.specs.Verdict.{length_good, distances_good, program_verdict}
+use Rattle.table.specs.Verdict.{accepted_with, length_good, distances_good, program_verdict}
 use Rattle.state.specs.StateBytes.{state_bytes}
 use Rattle.state.specs.Resting.{blamed}
-use Rattle.kernel.specs.declared.Outcome.{Outcome}
-use Rattle.kernel.specs.declared.Outcome.TheVariants.{Ran, StateRoom, NotAtRest, UnlistedEvent, AtomRoom}
-use Rattle.kernel.specs.Answer.{has_room, ended, node_of}
+use Rattle.kernel.specs.declared.Refusal.TheVariants.{StateRoom, NotAtRest, UnlistedEvent, AtomRoom}
+use Rattle.kernel.specs.Answer.{Outcome, has_room, ended, node_of}
 
 -- how many events there were; the number of none
 abbrev pub places_before : ℕ
@@ -89,7 +87,7 @@ pub record AcceptedBefore (t : List ℕ) (p : Program) (g a w : ℕ) : Type 0 wh
   pub configurations_good : (j : ℕ) → j < configurations t → (good_but_height_before t j ≡ true) × (height_before t 16 j ≡ true)
   pub nodes_good : (i : ℕ) → i < nodes t → good_node t i ≡ true
   pub spelled : SpellsBefore t 0 (parts p)
-  pub figures : program_verdict p ≡ Accepted g a w 0
+  pub figures : program_verdict p ≡ accepted_with g a w 0
 
 -- an event set that could be handed in then
 abbrev pub HandedBefore : Events → Type 0
@@ -105,9 +103,9 @@ outcome_before t a s X row =
     (has_room t s)
     (cond
     (ltb (blamed t s) (nodes t))
-    (NotAtRest (blamed t s))
-    (cond (ltb (unlisted_before t X) places_before) (UnlistedEvent (unlisted_before t X)) (cond (leb a (length row)) Ran AtomRoom)))
-    StateRoom
+    (Err (NotAtRest (blamed t s)))
+    (cond (ltb (unlisted_before t X) places_before) (Err (UnlistedEvent (unlisted_before t X))) (cond (leb a (length row)) (Ok tt) (Err AtomRoom))))
+    (Err StateRoom)
 
 -- what an instant answered
 pub record AnswerBefore : Type 0 where
@@ -158,5 +156,5 @@ pub record RefusedBefore (r : AnswerBefore) : Type 0 where
 pub record AnsweredBefore (p : Program) (t : List ℕ) (a : ℕ) (s : List ℕ) (X : Events) (values : Values) (row s' row' : List ℕ) (r : AnswerBefore)
     : Type 0 where
   pub outcome_is : r.outcome ≡ outcome_before t a s X row
-  pub ran : r.outcome ≡ Ran → RunBefore p t s X values row s' row' r
-  pub refused : r.outcome ≢ Ran → RefusedBefore r × (s' ≡ s) × (row' ≡ row)
+  pub ran : r.outcome ≡ Ok tt → RunBefore p t s X values row s' row' r
+  pub refused : r.outcome ≢ Ok tt → RefusedBefore r × (s' ≡ s) × (row' ≡ row)

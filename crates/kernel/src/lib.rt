@@ -6,30 +6,29 @@ ghost use Rattle.std.specs.Prelude.{◌≡◌, ◌*◌, length, drop};
 ghost use Rattle.events.specs.Members.{places, members};
 ghost use Rattle.table.specs.Inside.{Loaded};
 ghost use Rattle.kernel.specs.Lowest.{lowest_from, joined};
-ghost use Rattle.kernel.specs.Answer.{Started, rooms, store_outcome, instant_outcome, values_of, Answered, Refused};
+ghost use Rattle.kernel.specs.Answer.{Started, rooms, store_outcome, instant_outcome, values_of, Answered, no_answer};
+ghost use Rattle.kernel.specs.declared.Refusal.TheVariants.{Table};
 
 use crate::passes::{HandedIn, run_passes};
 use crate::values::eight_from;
-use events::EventSet;
+use events::{EventSet, WORDS};
 use state::clear;
 use state::resting::first_blamed;
 use store::good::store_good;
 use store::{put_in_use, room_of};
 use table::records::word_at;
-use table::{Checked, check};
+use table::{TableRefusal, check};
 use waiting::{Wait, no_wait};
 
 pub mod numbers;
 mod passes;
 mod values;
 
-// How a call ended; specs/Answer.antt has each case's number and index (01, "Refusal numbers").
-#[derive(Clone, Copy)]
-pub enum Outcome {
-    // Nothing was refused.
-    Ran,
+// Why a call was refused; specs/Answer.antt has each one's number and index (01, "Refusal numbers").
+#[derive(Clone, Copy, PartialEq, Eq, Debug)]
+pub enum Refusal {
     // The table was, and so.
-    Table(Checked),
+    Table(TableRefusal),
     StateRoom,
     NotAtRest(usize),
     UnlistedEvent(usize),
@@ -39,10 +38,17 @@ pub enum Outcome {
     StoreRoom,
 }
 
+impl From<TableRefusal> for Refusal {
+    ghost from_gives = { λ why r. r ≡ Table why };
+
+    fn from(why: TableRefusal) -> Refusal {
+        Refusal::Table(why)
+    }
+}
+
 // What an instant answers (01, "Rules of a pass").
 #[derive(Clone, Copy)]
 pub struct Answer {
-    pub outcome: Outcome,
     // The events present at its end, those handed in included; how many; the lowest, `PLACES` if none.
     pub events: EventSet,
     pub count: usize,
@@ -56,27 +62,32 @@ pub struct Answer {
     pub waits: Wait,
 }
 
+// What stands for an answer where an instant was refused, with whoever has places for one.
+pub fn no_answer() -> Answer
+    ensures { result ≡ no_answer }
+{
+    Answer {
+        events: EventSet { words: [0; WORDS] },
+        count: 0,
+        lowest: EventSet::PLACES,
+        atoms: 0,
+        finished: false,
+        passes: 0,
+        waits: no_wait(),
+    }
+}
+
 // Makes the state fresh: refusals 1 to 9.
-pub fn start(table: &[u8], state: &mut [u8]) -> Outcome
+pub fn start(table: &[u8], state: &mut [u8]) -> Result<(), Refusal>
     ensures { Started table.now state.old state.new result }
 {
-    let verdict = check(table);
-    match verdict {
-        Checked::Accepted {
-            generations: _,
-            atoms: _,
-            nodes: _,
-            parked: _,
-        } => {
-            let n = word_at(table, table.len() - 10);
-            if state.len() < 4 * n {
-                return Outcome::StateRoom;
-            }
-            clear(&mut state[..4 * n]);
-            Outcome::Ran
-        }
-        _ => Outcome::Table(verdict),
+    check(table)?;
+    let n = word_at(table, table.len() - 10);
+    if state.len() < 4 * n {
+        return Err(Refusal::StateRoom);
     }
+    clear(&mut state[..4 * n]);
+    Ok(())
 }
 
 // Runs one instant with these events and values handed in: refusals 1 to 13, and 25. The numbers of the atoms done go into the row `atoms`, in order,
@@ -88,80 +99,71 @@ pub fn instant(
     values: &[u8; 16],
     atoms: &mut [u16],
     store: &mut [u8],
-) -> Answer
+) -> Result<Answer, Refusal>
     ensures { Answered table.now state.old (members events) (values_of values.now)
         (rooms atoms.old store.old) state.new (rooms atoms.new store.new) result }
 {
-    let outcome = outcome_of(table, state, events, atoms, store);
-    match outcome {
-        Outcome::Ran => {
-            let n = word_at(table, table.len() - 10);
-            let used = word_at(store, 0);
-            let handed = HandedIn {
-                events,
-                low: eight_from(values, 0),
-                high: eight_from(values, 8),
-            };
-            let ending = run_passes(
-                table,
-                &mut state[..4 * n],
-                handed,
-                atoms,
-                &mut store[2 + used..],
-            );
-            put_in_use(store, used + ending.parked);
-            ending.answer
-        }
-        _ => refused(outcome),
-    }
+    outcome_of(table, state, events, atoms, store)?;
+    let n = word_at(table, table.len() - 10);
+    let used = word_at(store, 0);
+    let handed = HandedIn {
+        events,
+        low: eight_from(values, 0),
+        high: eight_from(values, 8),
+    };
+    let ending = run_passes(
+        table,
+        &mut state[..4 * n],
+        handed,
+        atoms,
+        &mut store[2 + used..],
+    );
+    put_in_use(store, used + ending.parked);
+    Ok(ending.answer)
 }
 
 // The first check that an instant's table, state, events, room for atoms or store fails.
-fn outcome_of(table: &[u8], state: &[u8], events: EventSet, atoms: &[u16], store: &[u8]) -> Outcome
+fn outcome_of(
+    table: &[u8],
+    state: &[u8],
+    events: EventSet,
+    atoms: &[u16],
+    store: &[u8],
+) -> Result<(), Refusal>
     ensures { result ≡ instant_outcome table.now state.now (members events) (rooms atoms.now store.now) }
 {
-    let verdict = check(table);
-    match verdict {
-        Checked::Accepted {
-            generations: _,
-            atoms: most,
-            nodes: _,
-            parked,
-        } => {
-            let n = word_at(table, table.len() - 10);
-            if state.len() < 4 * n {
-                return Outcome::StateRoom;
-            }
-            let i = first_blamed(table, n, state);
-            if i < n {
-                return Outcome::NotAtRest(i);
-            }
-            let v = word_at(table, table.len() - 6);
-            let e = lowest_from(events, v);
-            if e < EventSet::PLACES {
-                return Outcome::UnlistedEvent(e);
-            }
-            if most <= atoms.len() {
-                return store_outcome(table, store, parked);
-            }
-            Outcome::AtomRoom
-        }
-        _ => Outcome::Table(verdict),
+    let most = check(table)?;
+    let n = word_at(table, table.len() - 10);
+    if state.len() < 4 * n {
+        return Err(Refusal::StateRoom);
     }
+    let i = first_blamed(table, n, state);
+    if i < n {
+        return Err(Refusal::NotAtRest(i));
+    }
+    let v = word_at(table, table.len() - 6);
+    let e = lowest_from(events, v);
+    if e < EventSet::PLACES {
+        return Err(Refusal::UnlistedEvent(e));
+    }
+    if most.atoms <= atoms.len() {
+        return store_outcome(table, store, most.parked);
+    }
+    Err(Refusal::AtomRoom)
 }
 
 // The first check that a store fails, of an accepted table that parks so many bytes at most.
-fn store_outcome(table: &[u8], store: &[u8], parked: usize) -> Outcome
+fn store_outcome(table: &[u8], store: &[u8], parked: usize) -> Result<(), Refusal>
     requires { Loaded table.now }
     ensures { result ≡ store_outcome table.now store.now parked }
 {
     if store_good(table, store) {
         if parked <= room_of(store) {
-            return Outcome::Ran;
+            return Ok(());
         }
-        return Outcome::StoreRoom;
+        return Err(Refusal::StoreRoom);
     }
-    Outcome::BadStore
+    Err(Refusal::BadStore)
 }
 
 // The lowest event of the set that is not below v; `PLACES` if none is. Seldom is one there at all, so the words behind v's are first looked at together.
@@ -208,20 +210,4 @@ fn lowest_in(words: &[u64], from: usize) -> usize
         at += 1;
     }
     EventSet::PLACES
-}
-
-// The answer where something was refused.
-fn refused(outcome: Outcome) -> Answer
-    ensures { (result.outcome ≡ outcome) × Refused result }
-{
-    Answer {
-        outcome,
-        events: EventSet::empty(),
-        count: 0,
-        lowest: EventSet::PLACES,
-        atoms: 0,
-        finished: false,
-        passes: 0,
-        waits: no_wait(),
-    }
 }

@@ -2,16 +2,16 @@
 ghost use Rattle.std.specs.Prelude.{◌≡◌, ◌<◌, length};
 ghost use Rattle.events.specs.Members.{members};
 ghost use Rattle.steps.specs.Running.{ended};
-ghost use Rattle.steps.specs.Flags.{flag_of};
-ghost use Rattle.steps.specs.Lent.{state_in, store_in};
-ghost use Rattle.kernel.specs.Passes.{word_values, Startable, RanFree, RanBehind, Reported, LeadsIfStill, WaitsAfter};
+ghost use Rattle.steps.specs.Lent.{Named};
+ghost use Rattle.kernel.specs.Passes.{word_values, Startable, RanFree, Reported, LeadsIfStill, WaitsAfter};
 
-use crate::{Answer, Outcome};
+use crate::Answer;
 use events::EventSet;
+use junior::Flag;
 use runner::run_child;
-use steps::flags::{SUSP, TERM};
+use steps::Pass;
 use steps::numbers::{ATOMS, MOVED, NUMBERS, PARKED, events_of, first_numbers, next_pass};
-use steps::phases::{GONE, STATE};
+use steps::phases::GONE;
 use table::records::word_at;
 use waiting::{Wait, no_wait, waiting};
 
@@ -30,8 +30,7 @@ pub struct Ending {
     pub parked: usize,
 }
 
-// Passes from node 0 until one answers STOP or TERM (01, "Instant"); `free` is the free part of the store. Its body is walked by hand: the
-// slices are handed on by references of one register each, one for state and store, which no slice that is a parameter can be lent by otherwise.
+// Passes from node 0 until one answers STOP or TERM (01, "Instant"); `free` is the free part of the store.
 pub fn run_passes(
     table: &[u8],
     state: &mut [u8],
@@ -43,63 +42,64 @@ pub fn run_passes(
     ensures { RanFree table.now state.old (members handed.events) (word_values handed.low handed.high)
         atoms.old free.old state.new atoms.new free.new result }
 {
-    let mut bytes = [state, free];
-    let mut w = atoms;
-    run_from(table, &mut bytes, handed, &mut w)
+    let mut pass = Pass {
+        table,
+        state,
+        numbers: [0; NUMBERS],
+        atoms,
+        store: free,
+    };
+    run_from(&mut pass, handed)
 }
 
-// The passes themselves. The slices left behind the references have the names of those lent: they are no others.
-fn run_from(
-    table: &[u8],
-    bytes: &mut [&mut [u8]; 2],
-    handed: HandedIn,
-    atoms: &mut &mut [u16],
-) -> Ending
-    requires { Startable table.now (state_in bytes.old).now atoms.old.now (store_in bytes.old).now }
-    ensures { RanBehind table.now (state_in bytes.old) (members handed.events) (word_values handed.low handed.high)
-        atoms.old (store_in bytes.old) (state_in bytes.new) atoms.new (store_in bytes.new) result }
+// The passes themselves.
+fn run_from(pass: &mut Pass, handed: HandedIn) -> Ending
+    requires { Startable pass.old.table.now pass.old.state.now pass.old.atoms.now pass.old.store.now }
+    ensures ran { RanFree pass.old.table.now pass.old.state.now (members handed.events) (word_values handed.low handed.high)
+        pass.old.atoms.now pass.old.store.now pass.new.state.now pass.new.atoms.now pass.new.store.now result }
+    ensures named { Named pass.old pass.new }
 {
-    let nodes = word_at(table, table.len() - 10);
-    let mut row = first_numbers(handed.events, handed.low, handed.high, 6 * nodes);
+    let nodes = word_at(pass.table, pass.table.len() - 10);
+    pass.numbers = first_numbers(handed.events, handed.low, handed.high, 6 * nodes);
     let mut passes = 0;
     let mut waits = no_wait();
     loop {
         passes += 1;
-        let flag = run_child(&table, 0, bytes, &mut row, atoms);
-        if flag != SUSP {
-            end_program(bytes[STATE], flag);
+        let flag = run_child(pass, 0);
+        if flag != Flag::SUSP {
+            end_program(pass.state, flag);
             return report(
-                events_of(&row),
-                row[ATOMS] as usize,
-                row[PARKED] as usize,
-                flag == TERM,
+                events_of(&pass.numbers),
+                pass.numbers[ATOMS] as usize,
+                pass.numbers[PARKED] as usize,
+                flag == Flag::TERM,
                 passes,
                 waits,
             );
         }
-        waits = waits_after(table, bytes[STATE], &row, waits);
-        next_pass(&mut row);
+        waits = waits_after(pass, waits);
+        next_pass(&mut pass.numbers);
     }
 }
 
 // A program whose last pass has answered: if it has ended, its phase is 3.
-fn end_program(state: &mut [u8], flag: u8)
-    requires { (flag < 3) × (0 < length state.old) }
-    ensures { state.new ≡ ended (flag_of flag) 0 3 state.old }
+fn end_program(state: &mut [u8], flag: Flag)
+    requires { 0 < length state.old }
+    ensures { state.new ≡ ended flag 0 3 state.old }
 {
-    if flag == TERM {
+    if flag == Flag::TERM {
         state[0] = GONE;
     }
 }
 
 // What is waited for after a pass that suspended: if nothing moved, the end is declared now, and that is looked for.
-fn waits_after(table: &[u8], state: &mut [u8], numbers: &[u64; NUMBERS], waits: Wait) -> Wait
-    requires { LeadsIfStill table.now state.old numbers.now }
-    ensures state_unchanged { state.new ≡ state.old }
-    ensures waits_after { WaitsAfter table.now state.old numbers.now waits result }
+fn waits_after(pass: &Pass, waits: Wait) -> Wait
+    requires { LeadsIfStill pass.now.table.now pass.now.state.now pass.now.numbers }
+    ensures { WaitsAfter pass.now.table.now pass.now.state.now pass.now.numbers waits result }
 {
-    if numbers[MOVED] == 0 {
-        return waiting(table, state, events_of(numbers));
+    if pass.numbers[MOVED] == 0 {
+        let events = events_of(&pass.numbers);
+        return waiting(pass.table, pass.state, events);
     }
     waits
 }
@@ -107,20 +107,19 @@ fn waits_after(table: &[u8], state: &mut [u8], numbers: &[u64; NUMBERS], waits: 
 // The answer of an instant that was run, and the bytes parked.
 fn report(
     events: EventSet,
-    atoms: usize,
+    done: usize,
     parked: usize,
     finished: bool,
     passes: usize,
     waits: Wait,
 ) -> Ending
-    ensures { Reported events atoms parked finished passes waits result }
+    ensures { Reported events done parked finished passes waits result }
 {
     let answer = Answer {
-        outcome: Outcome::Ran,
         events,
         count: events.count(),
         lowest: events.lowest(),
-        atoms,
+        atoms: done,
         finished,
         passes,
         waits,

@@ -1,17 +1,15 @@
 // The four calls for C: plain numbers and lent places. include/zapper.h says what stands in each place of an answer.
 #![tactic(auto)]
 
-ghost use Rattle.std.specs.Prelude.{◌≡◌, ◌++◌, ◌+◌, ◌≤◌, length, take, drop};
+ghost use Rattle.std.specs.Prelude.{◌≡◌, ◌++◌};
 ghost use Rattle.table.specs.Verdict.{verdict_of};
 ghost use Rattle.kernel.specs.Answer.{rooms};
 ghost use Rattle.kernel.specs.Exports.{check_places, StartedInPlaces, AnsweredInPlaces, TookInPlaces};
 
 use events::{EventSet, WORDS};
-use kernel::numbers::refusal_of;
-use kernel::{instant, start};
-use table::numbers::refusal_of_table;
-use table::{Checked, check};
-use taking::numbers::refusal_of_taking;
+use kernel::{instant, no_answer, start};
+use table::check;
+use table::numbers::Numbered;
 use taking::take;
 
 // An instant's answer has so many places in front of the words of its events, and so many in all.
@@ -24,34 +22,23 @@ pub extern "C" fn zapper_check(table: &[u8], answer: &mut [u64; 6])
     ensures { answer.new ≡ check_places (verdict_of table.now) }
 {
     let verdict = check(table);
-    let refusal = refusal_of_table(verdict);
-    match verdict {
-        Checked::Accepted {
-            generations,
-            atoms,
-            nodes,
-            parked,
-        } => {
-            *answer = [
-                refusal.number as u64,
-                refusal.index as u64,
-                generations as u64,
-                atoms as u64,
-                nodes as u64,
-                parked as u64,
-            ];
-        }
-        _ => {
-            *answer = [refusal.number as u64, refusal.index as u64, 0, 0, 0, 0];
-        }
-    }
+    let refusal = Numbered::of(verdict);
+    let figures = verdict.unwrap_or_default();
+    *answer = [
+        refusal.number as u64,
+        refusal.index as u64,
+        figures.generations as u64,
+        figures.atoms as u64,
+        figures.nodes as u64,
+        figures.parked as u64,
+    ];
 }
 
 #[unsafe(no_mangle)]
 pub extern "C" fn zapper_start(table: &[u8], state: &mut [u8], answer: &mut [u64; 2])
     ensures { StartedInPlaces table.now state.old state.new answer.new }
 {
-    let refusal = refusal_of(start(table, state));
+    let refusal = Numbered::of(start(table, state));
     *answer = [refusal.number as u64, refusal.index as u64];
 }
 
@@ -70,9 +57,9 @@ pub extern "C" fn zapper_instant(
         answer.new }
 {
     let words = *handed_in;
-    let a = instant(table, state, EventSet { words }, values, atoms, store);
-    let outcome = a.outcome;
-    let refusal = refusal_of(outcome);
+    let reply = instant(table, state, EventSet { words }, values, atoms, store);
+    let refusal = Numbered::of(reply);
+    let a = reply.unwrap_or(no_answer());
     let leading = [
         refusal.number as u64,
         refusal.index as u64,
@@ -102,13 +89,13 @@ pub extern "C" fn zapper_take(
         store.new table_room.new state_room.new answer.new }
 {
     let taken = take(table, store, event, table_room, state_room);
-    let outcome = taken.outcome;
-    let refusal = refusal_of_taking(outcome);
+    let refusal = Numbered::of(taken);
+    let lengths = taken.unwrap_or_default();
     *answer = [
         refusal.number as u64,
         refusal.index as u64,
-        taken.table as u64,
-        taken.state as u64,
+        lengths.table as u64,
+        lengths.state as u64,
     ];
 }
 
@@ -117,21 +104,7 @@ fn places_of(leading: [u64; LEADING], words: [u64; WORDS]) -> [u64; INSTANT_PLAC
     ensures { result ≡ leading ++ words }
 {
     let mut row = [0; INSTANT_PLACES];
-    put_places(&mut row, 0, &leading);
-    put_places(&mut row, LEADING, &words);
+    row[..LEADING].copy_from_slice(&leading);
+    row[LEADING..].copy_from_slice(&words);
     row
-}
-
-// Numbers go into a row from a place on.
-fn put_places(row: &mut [u64], from: usize, numbers: &[u64])
-    requires { from + length numbers.now ≤ length row.old }
-    ensures { row.new
-        ≡ take from row.old
-        ++ (numbers.now ++ drop (from + length numbers.now) row.old) }
-{
-    let mut at = 0;
-    while at < numbers.len() {
-        row[from + at] = numbers[at];
-        at += 1;
-    }
 }

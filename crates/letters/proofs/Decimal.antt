@@ -1,14 +1,14 @@
 -- Decimal numbers: the two equations that define them, and how long they are.
-use Prim.Native.Nat.{ℕ, zero, suc, ◌+◌, ◌/◌, ◌%◌, ◌^◌, ◌≤◌, ◌<◌}
-use mathlib.Core.Bool.{Bool, true, false, cond}
+use Prim.Native.Nat.{ℕ, zero, suc, ◌+◌, ◌-◌, ◌/◌, ◌%◌, ◌^◌, ◌≤◌, ◌<◌}
+use mathlib.Core.Bool.{Bool, true, false, cond, ◌&&◌}
 use mathlib.Core.Path.{◌≡◌, refl, ap, ◌∙◌}
 use mathlib.Core.List.{List, [], ◌∷◌, ◌++◌}
 use native.Mathlib.Nat.{pow-suc}
 use native.Mathlib.Omega.{arith}
-use lib.Dec.{ltb}
+use lib.Dec.{leb, ltb}
 use lib.ListN.{length, length-append}
-use borrow.Author.Tests.{lt-ltb, le-ltb, ltb-true, ltb-false}
-use Rattle.letters.specs.Decimal.{digits, decimal}
+use borrow.Author.Tests.{lt-ltb, le-ltb, le-leb, ltb-true, ltb-false, leb-true}
+use Rattle.letters.specs.Decimal.{digits, decimal, figure}
 
 -- a number has one digit or more
 pub one_or_more : {P : Type 0} (n : ℕ) → (n < 10 → P) → (10 ≤ n → P) → P
@@ -58,17 +58,16 @@ decimal_length (suc k) n h =
     (λ l. omega (arith, ap length (decimal_digit n l)))
     (λ l. omega (arith, more_long n l, decimal_length k (n / 10) (omega (arith, pow-suc 10 (suc k)))))
 
--- no more digits than there is room for
-digits_few : (f n : ℕ) → length (digits f n) ≤ f
-unfolding digits
-digits_few zero n = omega arith
-digits_few (suc f) n = go (digits_few f (n / 10)) (ltb n 10)
-  where
-    go : length (digits f (n / 10)) ≤ f → (b : Bool) → length (cond b [] (digits f (n / 10)) ++ ((48 + n % 10) ∷ [])) ≤ suc f
-    go h true = omega arith
-    go h false = simp length-append (omega arith)
+-- a byte by its figure
+pub figure_of_digit : (b : ℕ) → 48 ≤ b → b ≤ 57 → (b - 48 ≡ figure b) × (b - 48 < 10)
+unfolding figure
+figure_of_digit b h k = (simp (le-leb 48 b h, le-leb b 57 k), omega arith)
 
--- nor than one more than the number
-pub decimal_few : (n : ℕ) → length (decimal n) ≤ n + 1
-unfolding decimal
-decimal_few n = omega (arith, digits_few (suc n) n)
+pub no_figure : (b : ℕ) → (48 ≤ b → b ≤ 57 → ⊥) → figure b ≡ 10
+unfolding figure
+no_figure b h = go (leb 48 b) refl (leb b 57) refl
+  where
+    go : (s : Bool) → leb 48 b ≡ s → (t : Bool) → leb b 57 ≡ t → cond (s && t) (b - 48) 10 ≡ 10
+    go true e true f = absurd (h (leb-true 48 b e) (leb-true b 57 f))
+    go true e false f = refl
+    go false e t f = refl

@@ -1,5 +1,6 @@
 -- Numbers in decimal without leading zeros, as bytes.
-use Rattle.std.specs.Prelude.{ℕ, zero, suc, ◌+◌, ◌/◌, ◌%◌, cond, List, [], ◌∷◌, ◌++◌, ltb}
+use Rattle.std.specs.Prelude.{ℕ, zero, suc, ◌+◌, ◌-◌, ◌/◌, ◌%◌, ◌<◌, ◌≡◌, cond, ◌&&◌, List, [], ◌∷◌, ◌++◌, leb, ltb, MatchOption}
+use Rattle.std.proofs.Common.{Option}
 
 -- the digits of n, at most f of them
 unfoldable pub digits : ℕ → ℕ → List ℕ
@@ -12,3 +13,11 @@ digits (suc f) n =
 unfoldable pub decimal : ℕ → List ℕ
 unfolding digits
 decimal n = digits (suc n) n
+
+-- the value of a digit; 10 if it is none
+unfoldable pub figure : ℕ → ℕ
+figure b = cond (leb 48 b && leb b 57) (b - 48) 10
+
+-- the same of an answer: the value, or none
+abbrev pub FigureOf : ℕ → Option ℕ → Type 0
+FigureOf b r = MatchOption r (figure b ≡ 10) (λ d. (d ≡ figure b) × (d < 10))

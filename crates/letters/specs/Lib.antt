@@ -1,4 +1,4 @@
 pub mod Text
 pub mod Decimal
 pub mod Rooms
-pub mod Inside
+pub mod Writing

@@ -11,18 +11,20 @@ use Rattle.letters.specs.Text.{bytes, newline, space, led, joined}
 use Rattle.letters.proofs.Rooms.{sets_front}
 use Rattle.listing.specs.Output.{line, Written}
 use Rattle.letters.specs.Rooms.{Puts}
-use Rattle.letters.proofs.Puts.{puts_then}
+use Rattle.letters.specs.Writing.{Writes}
+use Rattle.letters.specs.declared.Writer.{Writer}
+use Rattle.letters.proofs.Writes.{writes_then}
 
 -- a field, and the rest of the line
-pub puts_field : {a b c : List ℕ} {x r s : ℕ} (w v : List ℕ) (l : List (List ℕ)) → Puts a b x (w ++ (space ∷ [])) r → Puts b c r (line (v ∷ l)) s
-    → Puts a c x (line (w ∷ v ∷ l)) s
+pub writes_field : {a b c : Writer} (w v : List ℕ) (l : List (List ℕ)) → Writes a b (w ++ (space ∷ [])) → Writes b c (line (v ∷ l))
+    → Writes a c (line (w ∷ v ∷ l))
 unfolding line joined led
-puts_field w v l p q = simp append_assoc (simp append_assoc at (puts_then p q))
+writes_field w v l p q = simp append_assoc (simp append_assoc at (writes_then p q))
 
 -- the last field
-pub puts_last : {a b : List ℕ} {x r : ℕ} (w : List ℕ) → Puts a b x (w ++ (newline ∷ [])) r → Puts a b x (line (w ∷ [])) r
+pub writes_last : {a b : Writer} (w : List ℕ) → Writes a b (w ++ (newline ∷ [])) → Writes a b (line (w ∷ []))
 unfolding line joined led
-puts_last w p = simp append-nil p
+writes_last w p = simp append-nil p
 
 pub flag_length : (b : Bool) → length (cond b (bytes "TERM") (bytes "STOP") ++ (space ∷ [])) ≡ 5
 flag_length true = refl

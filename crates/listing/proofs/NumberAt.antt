@@ -6,15 +6,16 @@ use Prim.Native.Nat.{ℕ, suc, ◌+◌, ◌*◌, ◌-◌, ◌/◌, ◌≤◌, �
 use native.Mathlib.Omega.{arith}
 use native.Mathlib.Nat.{add-zero}
 use lib.Dec.{ltb, leb}
-use lib.ListN.{length, get_or, drop, drop_of_length-le}
+use Rattle.std.proofs.Common.{Option, None, Some}
+use lib.ListN.{length, get_or, get_or-eq_default, drop, drop_of_length-le}
 use lib.Seq.{get_or-drop, drop-drop, drop-cons, drop_at}
 use native.Mathlib.Numerals.{add-one}
 use borrow.Author.Tests.{lt-ltb, le-ltb, le-leb, ltb-true, ltb-false, leb-true}
 use Rattle.events.specs.Members.{places}
-use Rattle.letters.specs.Decimal.{decimal}
+use Rattle.letters.specs.Decimal.{decimal, figure, FigureOf}
 use Rattle.letters.proofs.Decimal.{decimal_digit, more_long}
 use Rattle.letters.proofs.ReadsDecimal.{decimal_on, Reader, reads_decimal}
-use Rattle.listing.specs.Inside.{figure, goes_on_with, token, begun, token_at}
+use Rattle.listing.specs.Inside.{GoesOn, goes_on_with, token, begun, token_at}
 use Rattle.listing.specs.declared.input.Token.{Token}
 
 -- a byte by its figure
@@ -63,6 +64,26 @@ stays v = go (ltb 0 v && ltb v places)
     go true = refl
     go false = refl
 
+pub stays_unless : (v d : ℕ) → (0 < v → v < places → d < 10 → ⊥) → goes_on_with v d ≡ false
+stays_unless v d h = go (goes_on_with v d) refl
+  where
+    go : (b : Bool) → goes_on_with v d ≡ b → b ≡ false
+    go true e = let (some, low, digit) = on_when v d e in absurd (h some low digit)
+    go false e = refl
+
+-- past a line's end there is no digit
+figure_past : (l : List ℕ) (at : ℕ) → length l ≤ at → figure (get_or l at 0) ≡ 10
+unfolding figure
+figure_past l at h = rw (get_or-eq_default l 0 h)
+
+pub stays_past : (l : List ℕ) (at v : ℕ) → length l ≤ at → goes_on_with v (figure (get_or l at 0)) ≡ false
+stays_past l at v h = rw (figure_past l at h) (stays v)
+
+-- what a digit says of a number that may go on
+pub goes_on_by : (l : List ℕ) (at v : ℕ) → 0 < v → v < places → at < length l → (r : Option ℕ) → FigureOf (get_or l at 0) r → GoesOn l at v r
+goes_on_by l at v h k m None e = rw e (stays v)
+goes_on_by l at v h k m (Some d) (e, low) = (e, goes v d h k low, m)
+
 -- a line from a place on
 module _ (l : List ℕ) (at : ℕ) where
   first : get_or l at 0 ≡ get_or (drop at l) 0 0
@@ -103,12 +124,12 @@ module _ (l : List ℕ) (at v : ℕ) where
       → token at v (drop at l) ≡ token (at + 1) (10 * v + figure (get_or l at 0)) (drop (at + 1) l)
   token_on h e = rw (drop-cons l at 0 h, ← add-one at) (on at v (get_or l at 0) (drop (at + 1) l) e)
 
-  pub token_ends : at < length l → goes_on_with v (figure (get_or l at 0)) ≡ false → token at v (drop at l) ≡ record { event = v; next = at }
-  token_ends h e = rw (drop-cons l at 0 h) (ends at v (get_or l at 0) (drop (suc at) l) e)
-
-  pub token_out : length l ≤ at → token at v (drop at l) ≡ record { event = v; next = at }
-  unfolding token
-  token_out h = rw (drop_of_length-le l h)
+  pub token_ends : goes_on_with v (figure (get_or l at 0)) ≡ false → token at v (drop at l) ≡ record { event = v; next = at }
+  token_ends e = go (ltb at (length l)) refl
+    where
+      go : (b : Bool) → ltb at (length l) ≡ b → token at v (drop at l) ≡ record { event = v; next = at }
+      go true b = rw (drop-cons l at 0 (ltb-true at (length l) b)) (ends at v (get_or l at 0) (drop (suc at) l) e)
+      go false b = rw (drop_of_length-le l (ltb-false at (length l) b)) (token_none at v)
 
 -- its first figure
 module _ (at d : ℕ) (w : List ℕ) where
@@ -119,6 +140,12 @@ module _ (at d : ℕ) (w : List ℕ) where
   pub begun_none : 9 < d → begun at d w ≡ record { event = places; next = at }
   unfolding begun
   begun_none h = simp (le-ltb d 10 (omega arith))
+
+-- where there is none there is no event
+pub none_begun : (l : List ℕ) (at : ℕ) → figure (get_or l at 0) ≡ 10 → places ≤ (token_at l at).event
+none_begun l at e =
+    let none = ap (λ (t : Token). t.event) (begun_none at (figure (get_or l at 0)) (drop (at + 1) l) (omega arith)) in
+    omega arith
 
 -- what stands from the number's first digit on is the decimal form of the number found, and what is behind it
 token_stands : (l w : List ℕ) (at v : ℕ) → drop at l ≡ w → decimal v ++ w ≡ decimal (token at v w).event ++ drop (token at v w).next l

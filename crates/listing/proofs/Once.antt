@@ -1,20 +1,21 @@
 -- Every line has a reading and only one, and two answers to one line are the same value.
 use mathlib.Core.Path.{◌≡◌, refl, sym, ap, ◌∙◌}
-use mathlib.Core.Bool.{Bool, true, false}
+use mathlib.Core.Bool.{Bool, true, false, true≢false}
 use mathlib.Core.List.{List, [], ◌∷◌, map}
 use Prim.Native.Nat.{ℕ, zero, suc, ◌+◌, ◌-◌, ◌≤◌, ◌<◌}
 use native.Mathlib.Omega.{arith}
 use lib.Dec.{leb, ltb, eqb}
+use Rattle.std.proofs.Common.{Option, None, Some as Answer}
 use lib.ListN.{length, get_or, drop}
 use borrow.Author.Tests.{ltb-true, ltb-false, eqb-true, eqb-false, leb-true, leb-false}
 use Rattle.events.specs.Events.{Events, none, put}
-use Rattle.events.specs.Members.{places, members, Whole}
+use Rattle.events.specs.Members.{places, Whole}
 use Rattle.events.proofs.Sets.{same_members}
-use Rattle.letters.specs.Decimal.{decimal}
+use Rattle.letters.specs.Decimal.{decimal, figure}
 use Rattle.letters.specs.Text.{space, led, joined}
 use Rattle.listing.specs.Input.{longest, Under, with_all, Reading}
-use Rattle.listing.specs.Inside.{figure, token_at, Named}
-use Rattle.listing.specs.declared.LineRead.{LineRead}
+use Rattle.listing.specs.Inside.{token_at, Named, ReadAs}
+use Rattle.events.specs.declared.EventSet.{EventSet}
 use Rattle.listing.proofs.Reading.{spelled_some, empty_line, long_line, other_line, stops_end, heads}
 use Rattle.listing.proofs.Reading.{shorter}
 use Rattle.listing.proofs.Reading.{stops_none, goes_last, stops_other, goes_on}
@@ -52,12 +53,18 @@ reading_once (Reading.good_line l n) (Reading.not_good_line never) = absurd (nev
 reading_once (Reading.not_good_line never) (Reading.good_line m k) = absurd (never m k)
 reading_once (Reading.not_good_line never) (Reading.not_good_line nor) = (refl, refl)
 
-pub one_answer : {line : List ℕ} (r s : LineRead) → Whole r.events → Whole s.events → Reading line r.good (members r.events)
-    → Reading line s.good (members s.events) → r ≡ s
-one_answer r s v w p q =
+-- the set of an answer is one of a running program
+abbrev pub WholeIn : Option EventSet → Type 0
+WholeIn None = Unit {0}
+WholeIn (Answer s) = Whole s
+
+pub one_answer : (line : List ℕ) (r s : Option EventSet) → WholeIn r → WholeIn s → ReadAs line r → ReadAs line s → r ≡ s
+one_answer line None None v w p q = refl
+one_answer line None (Answer s) v w p q = absurd (let both = reading_once p q in true≢false (sym both.0))
+one_answer line (Answer r) None v w p q = absurd (let both = reading_once p q in true≢false both.0)
+one_answer line (Answer r) (Answer s) v w p q =
     let both = reading_once p q in
-    let same = same_members r.events s.events v w (λ n h. ap (λ (X : Events). X n) both.1) in
-    λ i. record { good = both.0 i; events = same i }
+    ap (λ (e : EventSet). Answer e) (same_members r s v w (λ n h. ap (λ (X : Events). X n) both.1))
 
 -- and every line has one
 abbrev Some : Events → List ℕ → Type 0

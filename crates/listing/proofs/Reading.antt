@@ -5,17 +5,19 @@ use mathlib.Core.List.{List, [], ◌∷◌, ◌++◌, map}
 use Prim.Native.Nat.{ℕ, ◌+◌, ◌-◌, ◌*◌, ◌≤◌, ◌<◌}
 use native.Mathlib.Omega.{arith}
 use native.Mathlib.Numerals.{add-one}
+use Rattle.std.proofs.Common.{Option, None, Some}
 use lib.ListN.{length, get_or, drop, drop_of_length-le, length-drop, length-append}
 use lib.Dec.{ltb}
 use lib.Seq.{drop-cons}
 use borrow.Author.Tests.{lt-ltb}
 use Rattle.events.specs.Events.{Events, none, put}
 use Rattle.events.specs.Members.{places, marks}
-use Rattle.letters.specs.Decimal.{decimal}
+use Rattle.events.specs.declared.EventSet.{EventSet}
+use Rattle.letters.specs.Decimal.{decimal, figure}
 use Rattle.letters.specs.Text.{space, led, joined}
 use Rattle.letters.proofs.Decimal.{decimal_some}
 use Rattle.listing.specs.Input.{longest, Under, Names, with_all, Reading}
-use Rattle.listing.specs.Inside.{figure, token_at, Named}
+use Rattle.listing.specs.Inside.{token_at, Named, NamedBy, ReadAs}
 use Rattle.listing.specs.declared.input.Token.{Token}
 use Rattle.listing.proofs.NumberAt.{here, behind, stands, found}
 
@@ -41,6 +43,11 @@ other_line line some short (Named.stops n) = Reading.not_good_line go
     go : (l : List ℕ) → Names line l → ⊥
     go [] m = omega (arith, ap length m.spelled)
     go (e ∷ l) m = n e l m.below m.spelled
+
+-- the same of an answer
+pub read_by : (line : List ℕ) → 0 < length line → length line ≤ longest → (r : Option EventSet) → NamedBy space line r → ReadAs line r
+read_by line some short None n = other_line line some short n
+read_by line some short (Some s) n = other_line line some short n
 
 -- nothing is left
 pub stops_end : (c : ℕ) (line : List ℕ) (at : ℕ) (X : Events) → length line ≤ at → Named c X (drop at line) false none

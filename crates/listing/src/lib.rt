@@ -3,18 +3,17 @@
 
 ghost use Rattle.std.specs.Prelude.{length};
 ghost use Rattle.events.specs.Members.{members};
-ghost use Rattle.listing.specs.Input.{Reading};
+ghost use Rattle.listing.specs.Inside.{ReadAs};
 ghost use Rattle.listing.specs.Output.{ran_line, bad_line, refused_line, table_refused_line, enough, Written};
 
 mod input;
 mod output;
 
 use events::EventSet;
-use input::bad_line;
 pub use input::read_events;
-use letters::put_number;
+use letters::Writer;
 pub use output::put_events;
-use output::{put_atoms, put_flag, put_refusal, put_text};
+use output::{put_atoms, put_flag, put_refusal};
 
 // The bytes of the longest input line that can be good.
 pub const LONGEST: usize = 4096;
@@ -22,27 +21,17 @@ pub const LONGEST: usize = 4096;
 // A room has enough for a line if it has 6 bytes for each atom, and for so many numbers more: the events, and the line's other fields.
 pub const MORE: usize = EventSet::PLACES + 10;
 
-// What a line is read as: the events that it hands in if it is good, else none.
-#[derive(Clone, Copy)]
-pub struct LineRead {
-    pub events: EventSet,
-    pub good: bool,
-}
-
-// Reads an input line, its newline left out.
-pub fn read_line(line: &[u8]) -> LineRead
-    ensures { Reading line.now result.good (members result.events) }
+// Reads an input line, its newline left out: the events that it hands in if it is good.
+pub fn read_line(line: &[u8]) -> Option<EventSet>
+    ensures { ReadAs line.now result }
 {
-    if line.len() == 0 {
-        return LineRead {
-            good: true,
-            events: EventSet::empty(),
-        };
+    if line.is_empty() {
+        return Some(EventSet::empty());
     }
-    if line.len() <= LONGEST {
-        return read_events(line, 32);
+    if LONGEST < line.len() {
+        return None;
     }
-    bad_line()
+    read_events(line, b' ')
 }
 
 // Each of these writes an output line at the start of a lent room and answers its length; in a room that is not `enough`, nothing and 0.
@@ -65,11 +54,13 @@ pub fn write_ran(
     if room.len() / 6 < atoms.len() + MORE {
         return 0;
     }
-    let a = put_number(room, 0, number, 32);
-    let b = put_number(room, a, passes as u64, 32);
-    let c = put_flag(room, b, finished);
-    let d = put_events(room, c, events);
-    put_atoms(room, d, atoms)
+    let mut out = Writer { room, at: 0 };
+    out.number(number, b' ');
+    out.number(passes as u64, b' ');
+    put_flag(&mut out, finished);
+    put_events(&mut out, events);
+    put_atoms(&mut out, atoms);
+    out.at
 }
 
 // The line of a bad line.
@@ -79,8 +70,10 @@ pub fn write_bad(room: &mut [u8], number: u64) -> usize
     if room.len() / 6 < MORE {
         return 0;
     }
-    let a = put_number(room, 0, number, 32);
-    put_text(room, a, b"bad-line\n")
+    let mut out = Writer { room, at: 0 };
+    out.number(number, b' ');
+    out.text(b"bad-line\n");
+    out.at
 }
 
 // The line of a refused instant.
@@ -90,8 +83,10 @@ pub fn write_refused(room: &mut [u8], number: u64, refusal: usize, index: usize)
     if room.len() / 6 < MORE {
         return 0;
     }
-    let a = put_number(room, 0, number, 32);
-    put_refusal(room, a, refusal, index)
+    let mut out = Writer { room, at: 0 };
+    out.number(number, b' ');
+    put_refusal(&mut out, refusal, index);
+    out.at
 }
 
 // The line of a refused table.
@@ -101,6 +96,8 @@ pub fn write_table_refused(room: &mut [u8], refusal: usize, index: usize) -> usi
     if room.len() / 6 < MORE {
         return 0;
     }
-    let a = put_text(room, 0, b"table ");
-    put_refusal(room, a, refusal, index)
+    let mut out = Writer { room, at: 0 };
+    out.text(b"table ");
+    put_refusal(&mut out, refusal, index);
+    out.at
 }

@@ -1,105 +1,85 @@
-// Putting texts and lists of numbers into a lent room.
+// Writing texts and lists of numbers into a lent room.
 ghost use Rattle.std.specs.Prelude.{cond, [], ◌∷◌, ◌++◌, ◌+◌, ◌*◌, ◌≤◌, ◌<◌, length};
 ghost use Rattle.events.specs.Members.{places, members};
 ghost use Rattle.listing.specs.Output.{rising, listed};
 ghost use Rattle.listing.specs.Inside.{items, events_of, Ended, refusal_end};
-ghost use Rattle.letters.specs.Rooms.{Puts};
 ghost use Rattle.letters.specs.Text.{bytes, newline, space};
+ghost use Rattle.letters.specs.Writing.{HasRoom, Writes};
 
-use events::{EventSet, WORDS};
-use letters::put_number;
+use events::EventSet;
+use letters::Writer;
 
-pub fn put_text(room: &mut [u8], at: usize, text: &[u8]) -> usize
-    requires { at + length text.now ≤ length room.old }
-    ensures { Puts room.old room.new at text.now result }
-{
-    for i in 0..text.len() {
-        room[at + i] = text[i];
-    }
-    at + text.len()
-}
-
-// Puts STOP or TERM and a space.
-pub fn put_flag(room: &mut [u8], at: usize, finished: bool) -> usize
-    requires { at + 5 ≤ length room.old }
-    ensures { Puts
-        room.old
-        room.new
-        at
-        (cond finished (bytes "TERM") (bytes "STOP") ++ (space ∷ []))
-        result }
+// Writes STOP or TERM and a space.
+pub fn put_flag(out: &mut Writer, finished: bool)
+    requires { HasRoom out.old 5 }
+    ensures { Writes out.old out.new (cond finished (bytes "TERM") (bytes "STOP") ++ (space ∷ [])) }
 {
     if finished {
-        return put_text(room, at, b"TERM ");
+        out.text(b"TERM ");
+        return;
     }
-    put_text(room, at, b"STOP ")
+    out.text(b"STOP ");
 }
 
-// Puts the end of a line that tells a refusal.
-pub fn put_refusal(room: &mut [u8], at: usize, refusal: usize, index: usize) -> usize
-    requires { at + 50 ≤ length room.old }
-    ensures { Puts room.old room.new at (refusal_end refusal index) result }
+// Writes the end of a line that tells a refusal.
+pub fn put_refusal(out: &mut Writer, refusal: usize, index: usize)
+    requires { HasRoom out.old 50 }
+    ensures { Writes out.old out.new (refusal_end refusal index) }
 {
-    let a = put_text(room, at, b"refused ");
-    let b = put_number(room, a, refusal as u64, 32);
-    put_number(room, b, index as u64, 10)
+    out.text(b"refused ");
+    out.number(refusal as u64, b' ');
+    out.number(index as u64, b'\n');
 }
 
-// Puts the list of a set's events and a space.
-pub fn put_events(room: &mut [u8], at: usize, events: EventSet) -> usize
-    requires { at + 6 * places + 2 ≤ length room.old }
-    ensures { Puts
-        room.old
-        room.new
-        at
-        (listed (rising places (members events)) ++ (space ∷ []))
-        result
-        × (result ≤ at + 6 * places + 2) }
+// Writes the list of a set's events and a space.
+pub fn put_events(out: &mut Writer, events: EventSet)
+    requires { HasRoom out.old (6 * places + 2) }
+    ensures written { Writes out.old out.new (listed (rising places (members events)) ++ (space ∷ [])) }
+    ensures short { out.new.at ≤ out.old.at + 6 * places + 2 }
 {
-    let mut to = at;
-    for i in 0..WORDS {
-        to = put_word(room, to, 64 * i, events.words[i]);
+    let from = out.at;
+    for (i, word) in events.words.iter().enumerate() {
+        put_word(out, 64 * i, *word);
     }
-    end_list(room, at, to, 32)
+    end_list(out, from, b' ');
 }
 
-// Puts the events of one word, a comma behind each.
-fn put_word(room: &mut [u8], at: usize, base: usize, word: u64) -> usize
-    requires { (base + 64 ≤ places) × (at + 6 * 64 ≤ length room.old) }
-    ensures { Puts room.old room.new at (items (events_of base word)) result × (result ≤ at + 6 * 64) }
+// Writes the events of one word, a comma behind each.
+fn put_word(out: &mut Writer, base: usize, word: u64)
+    requires { (base + 64 ≤ places) × HasRoom out.old (6 * 64) }
+    ensures written { Writes out.old out.new (items (events_of base word)) }
+    ensures short { out.new.at ≤ out.old.at + 6 * 64 }
 {
-    let mut to = at;
     let mut left = word;
     while left != 0 {
-        let low = u64::trailing_zeros(left) as usize;
-        to = put_number(room, to, (base + low) as u64, 44);
+        let low = left.trailing_zeros() as usize;
+        out.number((base + low) as u64, b',');
         left &= !(1 << low);
     }
-    to
 }
 
-// Puts the list of atoms and a newline.
-pub fn put_atoms(room: &mut [u8], at: usize, atoms: &[u16]) -> usize
-    requires { at + 6 * length atoms.now + 2 ≤ length room.old }
-    ensures { Puts room.old room.new at (listed atoms.now ++ (newline ∷ [])) result }
+// Writes the list of atoms and a newline.
+pub fn put_atoms(out: &mut Writer, atoms: &[u16])
+    requires { HasRoom out.old (6 * length atoms.now + 2) }
+    ensures { Writes out.old out.new (listed atoms.now ++ (newline ∷ [])) }
 {
-    let mut to = at;
-    for i in 0..atoms.len() {
-        to = put_number(room, to, atoms[i] as u64, 44);
+    let from = out.at;
+    for atom in atoms {
+        out.number(*atom as u64, b',');
     }
-    end_list(room, at, to, 10)
+    end_list(out, from, b'\n');
 }
 
 // Ends a list of numbers that have a comma behind each: the last comma becomes the byte behind the list, and no number a dash.
-fn end_list(room: &mut [u8], from: usize, to: usize, last: u8) -> usize
-    requires { (from ≤ to) × (to + 1 < length room.old) }
-    ensures { Ended room.old room.new from to last result × (result ≤ to + 2) }
+fn end_list(out: &mut Writer, from: usize, last: u8)
+    requires { (from ≤ out.old.at) × HasRoom out.old 2 }
+    ensures ended { Ended out.old out.new from last }
+    ensures short { out.new.at ≤ out.old.at + 2 }
 {
-    if from == to {
-        room[to] = 45;
-        room[to + 1] = last;
-        return to + 2;
+    if from == out.at {
+        out.byte(b'-');
+        out.byte(last);
+        return;
     }
-    room[to - 1] = last;
-    to
+    out.room[out.at - 1] = last;
 }

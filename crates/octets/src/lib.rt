@@ -1,21 +1,34 @@
-// Bytes in a text: where one stands, and how a text gets into a room.
+// Bytes in a text: where one stands, what it parts, and how a text gets into a room.
 #![tactic(auto)]
 
-ghost use Rattle.std.specs.Prelude.{◌≡◌, ◌+◌, ◌≤◌, ◌++◌, length, drop};
+ghost use Rattle.std.specs.Prelude.{◌≡◌, ◌+◌, ◌≤◌, ◌<◌, ◌++◌, length, take, drop, IfSome, MatchOption};
 ghost use Rattle.octets.specs.Octets.{index_of, slice};
 
 use memchr::memchr;
 
-// The first place of a byte from `from` on and before `to`; `to` if there is none.
-pub fn find(text: &[u8], from: usize, to: usize, byte: u8) -> usize
+// The first place of a byte from `from` on and before `to`, if there is one.
+pub fn find(text: &[u8], from: usize, to: usize, byte: u8) -> Option<usize>
     requires { (from ≤ to) × (to ≤ length text.now) }
-    ensures place { result ≡ from + index_of byte (slice from to text.now) }
-    ensures upper_bound { result ≤ to }
+    ensures { MatchOption
+        result
+        (to ≡ from + index_of byte (slice from to text.now))
+        (λ place. (place ≡ from + index_of byte (slice from to text.now)) × (from ≤ place) × (place < to)) }
 {
-    match memchr(byte, &text[from..to]) {
-        Some(k) => from + k,
-        None => to,
-    }
+    Some(from + memchr(byte, &text[from..to])?)
+}
+
+// What stands before the first such byte of a text and what stands behind it, if there is one.
+pub fn split_once(text: &[u8], byte: u8) -> Option<(&[u8], &[u8])>
+    ensures split { MatchOption
+        result
+        (length text.now ≡ index_of byte text.now)
+        (λ parts. (index_of byte text.now < length text.now)
+        × (parts.0.now ≡ take (index_of byte text.now) text.now)
+        × (parts.1.now ≡ drop (index_of byte text.now + 1) text.now)) }
+    ensures shorter { IfSome result (λ parts. length parts.1.now + 1 + length parts.0.now ≡ length text.now) }
+{
+    let at = memchr(byte, text)?;
+    Some((&text[..at], &text[at + 1..]))
 }
 
 // Copies a text to the start of a room and answers its length.

@@ -22,14 +22,6 @@ use Rattle.letters.proofs.Puts.{puts_then}
 use Rattle.player.specs.Answering.{Lists, Answers}
 use Rattle.player.specs.Inside.{PutsUnder}
 
-pub read_bad : {line : List ℕ} {good : Bool} {X : Events} → not good ≡ true → Reading line good X → Reading line false none
-read_bad e (Reading.good_line l n) = absurd (false≢true e)
-read_bad e (Reading.not_good_line never) = Reading.not_good_line never
-
-pub read_good : {line : List ℕ} {good : Bool} {X : Events} → not good ≡ false → Reading line good X → Reading line true X
-read_good e (Reading.good_line l n) = Reading.good_line l n
-read_good e (Reading.not_good_line never) = absurd (false≢true (sym e))
-
 -- sixteen bytes that are 0 hand in zeros
 pub zeros_handed : values_of (replicate 16 0) ≡ zeros
 zeros_handed = fun_ext (λ v. go v (ltb v 16) refl)

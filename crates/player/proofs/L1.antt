@@ -16,9 +16,9 @@ use Rattle.junior.proofs.Lower.{found}
 use Rattle.junior.proofs.Waited.{named_at_the_end}
 use Rattle.junior.proofs.WayDown.{Within}
 use Rattle.table.specs.Records.{nodes}
-use Rattle.kernel.specs.declared.Outcome.TheVariants.{Ran}
 use Rattle.kernel.specs.declared.Answer.{Answer}
-use Rattle.kernel.specs.Answer.{outcome_number, outcome_index, node_of, Rooms, Run, Answered}
+use Rattle.std.specs.Prelude.{Ok}
+use Rattle.kernel.specs.Answer.{call_number, call_index, node_of, Rooms, Run, Answered}
 use Rattle.listing.specs.Output.{ran_line, bad_line, refused_line}
 use Rattle.player.specs.Waiting.{Under}
 use Rattle.player.specs.Answering.{Lists}
@@ -30,15 +30,15 @@ as_listed : {t s : List ℕ} {lent : Rooms} {line : List ℕ} {number : ℕ} {s'
     → AsListed t s lent line number s' left text
 as_listed {number = number} (Lists.bad r) =
     record { listed = bad_line number; more = []; lists = Lists.bad r; whole = sym (append-nil (bad_line number)) }
-as_listed {number = number} (Lists.refused X a r n o) =
-    let told = refused_line number (outcome_number a.outcome) (outcome_index a.outcome) in
-    record { listed = told; more = []; lists = Lists.refused X a r n o; whole = sym (append-nil told) }
-as_listed {number = number} (Lists.ran X a {more = more} {left = left} r n o u) =
+as_listed {number = number} (Lists.refused X why r o) =
+    let told = refused_line number (call_number why) (call_index why) in
+    record { listed = told; more = []; lists = Lists.refused X why r o; whole = sym (append-nil told) }
+as_listed {number = number} (Lists.ran X a {more = more} {left = left} r o u) =
     let told = ran_line number a.passes a.finished (members a.events) (take a.atoms left.row) in
     record {
       listed = told ++ [];
       more = more;
-      lists = Lists.ran X a r n o Under.not_asked;
+      lists = Lists.ran X a r o Under.not_asked;
       whole = ap (λ (l : List ℕ). l ++ more) (sym (append-nil told));
     }
 
@@ -52,18 +52,17 @@ unnamed none e = refl
 unnamed (some w) e = absurd (false≢true (sym e))
 
 one_line_more : {t s : List ℕ} {X : Events} {value : Values} {lent : Rooms} {s' : List ℕ} {left : Rooms} {a : Answer} {more : List ℕ}
-    → Answered t s X value lent s' left a
-    → a.outcome ≡ Ran
+    → Answered t s X value lent s' left (Ok a)
     → Under t a.waits true more
     → (run : Run t s X value lent s' left a)
     → OneLineMore run more
-one_line_more {t} {a = a} r e u run = go u
+one_line_more {t} {a = a} r u run = go u
   where
     ended : found (waited run.instant) ≡ run.result.env.eoi
     ended = named_at_the_end run.instant refl
 
     few : (size (prog run.term) ≡ nodes t) × (nodes t ≤ 4096)
-    few = all_its_nodes r e run
+    few = all_its_nodes r run
 
     go : {more : List ℕ} → Under t a.waits true more → OneLineMore run more
     go (Under.never_declared n) =

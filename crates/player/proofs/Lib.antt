@@ -1,6 +1,5 @@
 -- The laws, each file named after its subject.
 pub mod Named
-pub mod LineEnds
 pub mod WaitLine
 pub mod StandsUnder
 pub mod Answering

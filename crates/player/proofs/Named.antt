@@ -18,7 +18,7 @@ use Rattle.junior.proofs.WayDown.{Within, within_none, waiting_in, widen, inside
 use Rattle.junior.proofs.WayFound.{way_down}
 use Rattle.table.specs.Records.{nodes}
 use Rattle.kernel.specs.declared.Answer.{Answer}
-use Rattle.kernel.specs.declared.Outcome.TheVariants.{Ran}
+use Rattle.std.specs.Prelude.{Ok}
 use Rattle.kernel.specs.Answer.{node_of, Rooms, Run, Answered}
 use Rattle.kernel.proofs.Outcomes.{Passed, all_passed}
 use Rattle.kernel.proofs.Accepted.{Admitted, admitted}
@@ -36,10 +36,9 @@ node_below : {n m : ℕ} (o : Option Wait) → Within 0 m o → n ≡ node_of o 
 node_below none a e h = absurd (h e)
 node_below (some w) a e h = omega (arith, (a.nodes w refl).1)
 
-module _ {t s : List ℕ} {X : Events} {value : Values} {lent : Rooms} {s' : List ℕ} {left : Rooms} {a : Answer} (r : Answered t s X value lent s' left a)
-    (e : a.outcome ≡ Ran) where
+module _ {t s : List ℕ} {X : Events} {value : Values} {lent : Rooms} {s' : List ℕ} {left : Rooms} {a : Answer} (r : Answered t s X value lent s' left (Ok a)) where
   past : Passed t s X lent
-  past = all_passed t s X lent (sym r.outcome_is ∙ e)
+  past = all_passed t s X lent (sym r.outcome_is)
 
   ok : Admitted t past.generations past.most past.weight past.parked
   ok = admitted t past.verdict
@@ -49,7 +48,7 @@ module _ {t s : List ℕ} {X : Events} {value : Values} {lent : Rooms} {s' : Lis
 
   pub one_of_its_nodes : OneOfItsNodes t a.waits
   one_of_its_nodes =
-      let run = r.ran e in
+      let run = r.leaves in
       let named = named_inside run.instant in
       record {
         loaded = ok.loaded;

@@ -1,14 +1,14 @@
 -- What a line of input does (01, "The listing program"): its output line, and the state, the row of atoms and the store of parked pieces after it.
 -- The program for people "prints for each line what `zap_run` prints" and adds what stands under it (02, L1).
-use Rattle.std.specs.Prelude.{ℕ, ◌≤◌, ◌≡◌, ◌≢◌, Bool, true, false, List, ◌++◌, length, take, drop}
+use Rattle.std.specs.Prelude.{ℕ, ◌≤◌, ◌≡◌, Ok, Err, Bool, true, false, List, ◌++◌, length, take, drop}
 use Rattle.events.specs.Events.{Events, none}
 use Rattle.events.specs.Members.{members}
 use Rattle.junior.specs.Values.{zeros}
 use Rattle.listing.specs.Input.{Reading}
 use Rattle.listing.specs.Output.{ran_line, bad_line, refused_line}
-use Rattle.kernel.specs.declared.Outcome.TheVariants.{Ran}
+use Rattle.kernel.specs.declared.Refusal.{Refusal}
 use Rattle.kernel.specs.declared.Answer.{Answer}
-use Rattle.kernel.specs.Answer.{outcome_number, outcome_index, Rooms, Answered}
+use Rattle.kernel.specs.Answer.{call_number, call_index, Rooms, Answered}
 use Rattle.player.specs.Waiting.{Under}
 
 -- the table t, the state s and the lent rooms (row and store) before; the state s', the rooms and the output line after. A refused instant's Answered
@@ -17,9 +17,9 @@ use Rattle.player.specs.Waiting.{Under}
 -- in the store for the next line: "`zap-run` lends 32,768 bytes, begun empty" (02, L8; src/lib.rt).
 pub data Lists (why : Bool) (t s : List ℕ) (lent : Rooms) (line : List ℕ) (number : ℕ) : List ℕ → Rooms → List ℕ → Type 0 where
   bad : Reading line false none → Lists why t s lent line number s lent (bad_line number)
-  refused : (X : Events) (a : Answer) {s' : List ℕ} {left : Rooms} → Reading line true X → Answered t s X zeros lent s' left a → a.outcome ≢ Ran
-      → Lists why t s lent line number s' left (refused_line number (outcome_number a.outcome) (outcome_index a.outcome))
-  ran : (X : Events) (a : Answer) {s' more : List ℕ} {left : Rooms} → Reading line true X → Answered t s X zeros lent s' left a → a.outcome ≡ Ran
+  refused : (X : Events) (r : Refusal) {s' : List ℕ} {left : Rooms} → Reading line true X → Answered t s X zeros lent s' left (Err r)
+      → Lists why t s lent line number s' left (refused_line number (call_number r) (call_index r))
+  ran : (X : Events) (a : Answer) {s' more : List ℕ} {left : Rooms} → Reading line true X → Answered t s X zeros lent s' left (Ok a)
       → Under t a.waits why more
       → Lists why t s lent line number s' left
       (ran_line number a.passes a.finished (members a.events) (take a.atoms left.row) ++ more)

@@ -1,10 +1,9 @@
 -- Request L1 of the program for people, sentence by sentence.
-use Rattle.std.specs.Prelude.{ℕ, ◌≡◌, true, false, List, [], ◌++◌}
+use Rattle.std.specs.Prelude.{Ok, ℕ, ◌≡◌, true, false, List, [], ◌++◌}
 use Rattle.events.specs.Events.{Events}
 use Rattle.junior.specs.Values.{Values}
 use Rattle.junior.specs.Program.{Program}
 use Rattle.table.specs.Spells.{Spells}
-use Rattle.kernel.specs.declared.Outcome.TheVariants.{Ran}
 use Rattle.kernel.specs.declared.Answer.{Answer}
 use Rattle.kernel.specs.Answer.{Rooms, Run, Answered}
 use Rattle.player.specs.Waiting.{waits_line, Under}
@@ -32,8 +31,7 @@ pub record L1 : Type 0 where
   -- "under each instant whose end was declared, one line more that says what the program waits for: the node, the test in written form ..,
   -- and the event"; under another instant none
   pub one_line_more : {t s : List ℕ} {X : Events} {value : Values} {lent : Rooms} {s' : List ℕ} {left : Rooms} {a : Answer} {more : List ℕ}
-      → Answered t s X value lent s' left a
-      → a.outcome ≡ Ran
+      → Answered t s X value lent s' left (Ok a)
       → Under t a.waits true more
       → (run : Run t s X value lent s' left a)
       → OneLineMore run more

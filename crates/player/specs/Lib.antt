@@ -4,4 +4,3 @@ pub mod Examples
 pub mod L1
 pub mod L8
 pub mod Inside
-pub mod Lines

@@ -13,7 +13,7 @@ pub const ROOM_UNDER: usize = 14436;
 // Puts it behind the instant's line, which ends at `at`: nothing if the end was never declared, or if nobody asked why.
 pub fn put_under(table: &[u8], waits: Wait, room: &mut [u8], at: usize, why: bool) -> usize
     requires one_of_its_nodes { OneOfItsNodes table.now waits }
-    requires room_under_in_bounds { at + room_under ≤ length room.old }
+    requires room_enough { at + room_under ≤ length room.old }
     ensures { PutsUnder why table.now waits room.old room.new at result }
 {
     if !why {

@@ -5,8 +5,7 @@ use mathlib.Core.Path.{◌≡◌, refl, sym, ap, subst, subst₂, ◌∙◌}
 use mathlib.Core.List.{List, [], ◌++◌}
 use native.Mathlib.Omega.{arith}
 use lib.Dec.{leb}
-use native.Mathlib.Nat.{add-zero}
-use lib.ListN.{length, get_or}
+use lib.ListN.{length}
 use borrow.Author.Tests.{leb-true, eq-eqb, ne_eqb, le-leb, lt-leb}
 use Rattle.letters.specs.Decimal.{decimal}
 use Rattle.junior.specs.Configuration.{Config}
@@ -22,7 +21,8 @@ use Rattle.table.proofs.TestParts.{Test, ends_inside}
 use Rattle.table.proofs.Loaded.{fine_at}
 use Rattle.form.specs.Spelling.{spell_argument, spell_test}
 use Rattle.form.specs.Names.{opening}
-use Rattle.form.specs.Inside.Rows.{names, form_row, form_count, name_end, inside}
+use Rattle.form.specs.Inside.Rows.{code_at, form_row, form_count, name_end, inside}
+use Rattle.form.proofs.Rows.{code_first, code_behind}
 use Rattle.form.proofs.ComputedTests.{all, all_at}
 use Rattle.letters.specs.Rooms.{Puts}
 use Rattle.printer.specs.Printing.{Fits, linked, link, takes_test, takes_cap, takes_number, capped_text, argument, head}
@@ -112,19 +112,10 @@ module _ {x : ℕ} (k : ℕ) (e : x ≡ inside k 3) where
   unfolding takes_cap
   is_no_cap h = ne_eqb (inside k 3) 141 (λ z. h (e ∙ z))
 
--- these codes stand behind the name in the table of names
-module _ (l : List ℕ) (k f n : ℕ) (e : l ≡ names) (form_is : f ≡ k) (end_is : n ≡ name_end (form_row f)) where
-  pub first_code : get_or l n 0 ≡ inside k 0
-  unfolding inside
-  first_code = rw (e, end_is, form_is, add-zero (name_end (form_row k)))
-
-  pub cap_code : get_or l (n + 3) 0 ≡ inside k 3
-  unfolding inside
-  cap_code = rw (e, end_is, form_is)
-
-  pub link_is : linked (get_or l n 0) (get_or l (n + 1) 0) ≡ link k
-  unfolding inside link
-  link_is = rw (e, end_is, form_is, add-zero (name_end (form_row k)))
+-- the first two codes in the brackets tell the link
+pub link_is : (k : ℕ) {n : ℕ} → n ≡ name_end (form_row k) → linked (code_at n) (code_at (n + 1)) ≡ link k
+unfolding link
+link_is k is = rw (code_first k is, code_behind k is 1)
 
 -- the test that a node has
 pub test_at : {t : List ℕ} {i : ℕ} {p : Program} → Placed t i p → argument_limit t (kind p) ≡ configurations t → (d : Config)

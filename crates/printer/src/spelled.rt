@@ -3,13 +3,13 @@ ghost use Rattle.std.specs.Prelude.{◌≡◌, ◌<◌};
 ghost use Rattle.table.specs.Records.{kind_at};
 ghost use Rattle.form.specs.Names.{opening};
 ghost use Rattle.form.specs.Spelling.{spell};
-ghost use Rattle.form.specs.Inside.Rows.{TheNames, form_count, form_row, name_end, inside};
+ghost use Rattle.form.specs.Inside.Rows.{form_count, form_row, name_end, inside};
 ghost use Rattle.letters.specs.Rooms.{Puts};
 ghost use Rattle.printer.specs.Outline.{outline};
 ghost use Rattle.printer.specs.Printing.{Fits, argument, capped_text, linked, head, joint, Printable, Shows, Testable, ShowsTest};
 
-use crate::room::{put, put_name, put_number};
-use form::names::{CAP, EVENT, FIRST_FORM, LONG, ROW, TEST, name_end, table_of_names};
+use crate::room::{put, put_number};
+use form::names::{CAP, EVENT, FIRST_FORM, Names, ROW, TEST};
 use table::nodes::children_of;
 use table::records::{argument_at, kind_at, part_event, part_kind, part_size, second_at, word_at};
 
@@ -18,14 +18,13 @@ pub fn put_program(table: &[u8], i: usize, room: &mut [u8], at: usize) -> usize
     requires { Printable spell table.now i at }
     ensures { Shows spell table.now i room.old room.new at result }
 {
-    let names = table_of_names();
+    let names = Names::new();
     put_node(&names, table, i, room, at)
 }
 
 // The same, with the table of names lent.
-fn put_node(names: &[u8; LONG], table: &[u8], i: usize, room: &mut [u8], at: usize) -> usize
-    requires the_names { TheNames names.now }
-    requires printable { Printable spell table.now i at }
+fn put_node(names: &Names, table: &[u8], i: usize, room: &mut [u8], at: usize) -> usize
+    requires { Printable spell table.now i at }
     ensures { Shows spell table.now i room.old room.new at result }
 {
     let begun = put_head(names, table, i, room, at);
@@ -47,7 +46,7 @@ pub fn put_outline(table: &[u8], i: usize, room: &mut [u8], at: usize) -> usize
     requires { Printable outline table.now i at }
     ensures { Shows outline table.now i room.old room.new at result }
 {
-    let names = table_of_names();
+    let names = Names::new();
     let begun = put_head(&names, table, i, room, at);
     if children_of(kind_at(table, i)) == 0 {
         return put(room, begun, b")");
@@ -56,35 +55,34 @@ pub fn put_outline(table: &[u8], i: usize, room: &mut [u8], at: usize) -> usize
 }
 
 // What its own record tells: the name, the argument, and what stands between the argument and a part.
-fn put_head(names: &[u8; LONG], table: &[u8], i: usize, room: &mut [u8], at: usize) -> usize
-    requires the_names { TheNames names.now }
-    requires printable { Printable head table.now i at }
+fn put_head(names: &Names, table: &[u8], i: usize, room: &mut [u8], at: usize) -> usize
+    requires { Printable head table.now i at }
     ensures { Shows head table.now i room.old room.new at result }
 {
     let kind = kind_at(table, i);
-    let inside = name_end(names, FIRST_FORM + kind);
+    let inside = names.name_end(FIRST_FORM + kind);
+    let first = names.code(inside);
     let named = put_opening(names, kind, inside, room, at);
-    let argued = put_argument(table, i, names[inside], names[inside + 3], room, named);
-    put_link(room, argued, names[inside], names[inside + 1])
+    let argued = put_argument(table, i, first, names.code(inside + 3), room, named);
+    put_link(room, argued, first, names.code(inside + 1))
 }
 
 // The name of the form of kind k with its bracket, which ends at a place of the table of names.
-fn put_opening(names: &[u8; LONG], k: usize, end: usize, room: &mut [u8], at: usize) -> usize
-    requires the_names { TheNames names.now }
-    requires k_lt_form_count { k < form_count }
-    requires end_value { end ≡ name_end (form_row k) }
+fn put_opening(names: &Names, k: usize, end: usize, room: &mut [u8], at: usize) -> usize
+    requires known { k < form_count }
+    requires name_ends { end ≡ name_end (form_row k) }
     requires fits { Fits at (opening k) }
     ensures { Puts room.old room.new at (opening k) result }
 {
     let begun = put(room, at, b"Jr.");
-    put_name(names, ROW * (FIRST_FORM + k), end, room, begun)
+    put(room, begun, names.part(ROW * (FIRST_FORM + k), end))
 }
 
 // The argument of node i: a test, a value's number and a cap, another number, or none, as the first code in its form's brackets tells and
 // the one behind a number and a comma.
 fn put_argument(table: &[u8], i: usize, code: u8, behind: u8, room: &mut [u8], at: usize) -> usize
-    requires code_value { code ≡ inside (kind_at table.now i) 0 }
-    requires behind_value { behind ≡ inside (kind_at table.now i) 3 }
+    requires first_code { code ≡ inside (kind_at table.now i) 0 }
+    requires behind_a_comma { behind ≡ inside (kind_at table.now i) 3 }
     requires printable { Printable argument table.now i at }
     ensures { Shows argument table.now i room.old room.new at result }
 {

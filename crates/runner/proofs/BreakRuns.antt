@@ -4,15 +4,17 @@ use mathlib.Core.Path.{◌≡◌, refl}
 use mathlib.Core.Logic.{◌≢◌, ⊎_elim}
 use mathlib.Core.List.{List}
 use lib.ListN.{get_or}
+use Rattle.junior.specs.declared.Flag.{Flag}
+use Rattle.junior.specs.declared.Flag.TheVariants.{STOP}
 use Rattle.table.specs.Records.{kind_at, size_at}
 use Rattle.state.specs.Kinds.{until_kind, freezable_kind}
 use Rattle.steps.specs.Running.{Rooms, Any}
 use Rattle.steps.specs.Kinds.{Break, Pending}
 use Rattle.runner.proofs.Stages.{Starred}
-use Rattle.std.specs.Borrow.{Bor, MutBor}
-use Rattle.steps.specs.Lent.{Lent, lent, held, Named, CanRun, HasRun}
+use Rattle.steps.specs.declared.Pass.{Pass}
+use Rattle.steps.specs.Lent.{Lent, lent, lent_of, lent_then, Named, CanRun, HasRun}
 use Rattle.steps.proofs.Dispatch.{to_kind}
-use Rattle.runner.proofs.GoesOn.{GoesOnAs, met, goes_by_phase}
+use Rattle.runner.proofs.GoesOn.{GoesOnAs, goes_by_phase}
 use Rattle.runner.proofs.EitherKind.{which, by_either, goes_of_kind}
 use Rattle.runner.proofs.UntilRuns.{until_first, until_stays, until_starred, starred_already}
 use Rattle.runner.proofs.FreezableRuns.{freezable_first, freezable_stays, freezable_pending, freezable_goes_on}
@@ -22,11 +24,9 @@ pub record BodyStopped (table : List ℕ) (L : Lent) (i : ℕ) (L₁ : Lent) : T
   pub to_star : kind_at table i ≡ until_kind → GoesOnAs Starred Break L i L₁
   pub to_pending : kind_at table i ≡ freezable_kind → GoesOnAs Pending Break L i L₁
 
--- the same behind the references, where the slices have the names that they had
-abbrev pub StoppedIn : Bor (Bor (List ℕ)) → ℕ → MutBor (List (MutBor (List ℕ))) → MutBor (List ℕ) → MutBor (MutBor (List ℕ))
-    → List (MutBor (List ℕ)) → List ℕ → MutBor (List ℕ) → Type 0
-StoppedIn table i bytes numbers atoms bytes' numbers' atoms' =
-    BodyStopped table.now.now (held table bytes numbers atoms) i (met table bytes' numbers' atoms') × Named bytes.now bytes' atoms.now atoms'
+-- the same of a pass
+abbrev pub StoppedIn : Pass → ℕ → Pass → Type 0
+StoppedIn p i p' = BodyStopped p.table.now (lent_of p) i (lent_then p p') × Named p p'
 
 module _ {table : List ℕ} {i : ℕ} {state : List ℕ} (on : get_or state (4 * i) 0 ≢ 3) (no_star : get_or state (4 * i) 0 ≢ 1)
     (no_handler : get_or state (4 * i) 0 ≢ 2) {m : List ℕ} {rooms : Rooms} where
@@ -35,11 +35,11 @@ module _ {table : List ℕ} {i : ℕ} {state : List ℕ} (on : get_or state (4 *
   body_first o =
       ⊎_elim (λ e. until_first on no_star no_handler (to_kind refl e o)) (λ e. freezable_first on no_star (to_kind refl e o)) (which o)
 
-  module _ {state₁ m₁ : List ℕ} {rooms₁ : Rooms} {f : ℕ} (run : HasRun 0 Any (lent table state m rooms) (i + 1) (lent table state₁ m₁ rooms₁) f) where
-    pub body_goes_on : f ≢ 1 → HasRun 0 Break (lent table state m rooms) i (lent table state₁ m₁ rooms₁) f
+  module _ {state₁ m₁ : List ℕ} {rooms₁ : Rooms} {f : Flag} (run : HasRun 0 Any (lent table state m rooms) (i + 1) (lent table state₁ m₁ rooms₁) f) where
+    pub body_goes_on : f ≢ STOP → HasRun 0 Break (lent table state m rooms) i (lent table state₁ m₁ rooms₁) f
     body_goes_on a = by_either (λ e. until_stays on no_star no_handler run a) (λ e. freezable_stays on no_star run a)
 
-    pub body_stopped : f ≡ 1 → CanRun 0 Break (lent table state m rooms) i
+    pub body_stopped : f ≡ STOP → CanRun 0 Break (lent table state m rooms) i
         → BodyStopped table (lent table state m rooms) i (lent table state₁ m₁ rooms₁)
     body_stopped s o =
         record {

@@ -27,13 +27,13 @@ pub record Chain (L₀ : Lent) (i : ℕ) (table state m : List ℕ) (rooms : Roo
   pub can : CanRun 0 BothSuspended (lent table state m rooms) at
   pub inside : size_at table at ≤ size_at table i
   pub below : above ≤ at
-  pub heard_asks : {state₁ m₁ : List ℕ} {rooms₁ : Rooms} {r : ℕ}
+  pub heard_asks : {state₁ m₁ : List ℕ} {rooms₁ : Rooms} {r : Flag}
       → HasRun 0 BothSuspended (lent table state m rooms) at (lent table state₁ m₁ rooms₁) r
       → 4 * above ≢ 4 * at
       → (4 * above + 4 < length state₁) × (4 * at < length state₁) × (get_or state₁ (4 * above + 1) 0 ≡ 0)
-  pub goes_on : {state₁ m₁ : List ℕ} {rooms₁ : Rooms} {r : ℕ}
+  pub goes_on : {state₁ m₁ : List ℕ} {rooms₁ : Rooms} {r : Flag}
       → HasRun 0 BothSuspended (lent table state m rooms) at (lent table state₁ m₁ rooms₁) r
-      → {state₂ : List ℕ} {q : ℕ} → Heard r (4 * above) (4 * at) state₁ state₂ q
+      → {state₂ : List ℕ} {q : Flag} → Heard r (4 * above) (4 * at) state₁ state₂ q
       → HasRun 0 BothSuspended L₀ i (lent table state₂ m₁ rooms₁) q
 
 pub first_link : {i : ℕ} {table state m : List ℕ} {rooms : Rooms} → CanRun 0 BothSuspended (lent table state m rooms) i
@@ -53,8 +53,8 @@ joined_with SUSP = refl
 joined_with STOP = refl
 joined_with TERM = refl
 
-suspended : {g at second : ℕ} {s s' : List ℕ} {q : ℕ} → ParEnds 0 g at second s s' q → q ≡ 0
-suspended {g = g} {q = q} e = sym (code_of q e.below) ∙ ap code (e.flag ∙ joined_with (flag_of g))
+suspended : {g : Flag} {at second : ℕ} {s s' : List ℕ} {q : Flag} → ParEnds SUSP g at second s s' q → q ≡ SUSP
+suspended {g = g} e = e.flag ∙ joined_with g
 
 module _ {L₀ : Lent} {i : ℕ} {table state m : List ℕ} {rooms : Rooms} {above at : ℕ} (u : Chain L₀ i table state m rooms above at) where
   pub above_fits : Fits w64 (4 * above)
@@ -65,36 +65,36 @@ module _ {L₀ : Lent} {i : ℕ} {table state m : List ℕ} {rooms : Rooms} {abo
   chain_first e = let (l, s) = par_first u.can refl in (omega (arith, u.inside), s)
 
   -- where `at` is suspended, all above it are as they were
-  pub suspends : {state₁ m₁ : List ℕ} {rooms₁ : Rooms} {q : ℕ}
+  pub suspends : {state₁ m₁ : List ℕ} {rooms₁ : Rooms} {q : Flag}
       → HasRun 0 BothSuspended (lent table state m rooms) at (lent table state₁ m₁ rooms₁) q
-      → q ≡ 0
+      → q ≡ SUSP
       → HasRun 0 BothSuspended L₀ i (lent table state₁ m₁ rooms₁) q
   suspends run z =
-      u.goes_on run (record { itself = λ e. (refl, refl); above_it = λ n. rw z (second_stays refl (u.heard_asks run n).2) })
+      u.goes_on run (record { itself = λ e. (refl, refl); above_it = λ n. rw z (second_stays (u.heard_asks run n).2) })
 
-  module _ {state₁ m₁ : List ℕ} {rooms₁ : Rooms} {f : ℕ} (run : HasRun 0 Any (lent table state m rooms) (at + 1) (lent table state₁ m₁ rooms₁) f)
+  module _ {state₁ m₁ : List ℕ} {rooms₁ : Rooms} {f : Flag} (run : HasRun 0 Any (lent table state m rooms) (at + 1) (lent table state₁ m₁ rooms₁) f)
       {second : ℕ} (is : second ≡ second_child table at) where
     pub chain_second : (size_at table second < size_at table at) × (size_at table second < size_at table i) × CanRun 0 Any (lent table state₁ m₁ rooms₁) second
     chain_second = let (l, s) = par_second run is u.can in (l, omega (arith, u.inside), s)
 
     -- the second branch is such a Par too
-    pub next_link : f ≡ 0 → CanRun 0 BothSuspended (lent table state₁ m₁ rooms₁) second
-        → ((L' : Lent) (r : ℕ) → HasRun 0 BothSuspended (lent table state₁ m₁ rooms₁) second L' r → HasRun 0 Any (lent table state₁ m₁ rooms₁) second L' r)
+    pub next_link : f ≡ SUSP → CanRun 0 BothSuspended (lent table state₁ m₁ rooms₁) second
+        → ((L' : Lent) (r : Flag) → HasRun 0 BothSuspended (lent table state₁ m₁ rooms₁) second L' r → HasRun 0 Any (lent table state₁ m₁ rooms₁) second L' r)
         → Chain L₀ i table state₁ m₁ rooms₁ at second
     next_link z o any =
         record {
           can = o;
           inside = omega (arith, u.inside, (par_second run is u.can).0);
           below = omega (arith, is);
-          heard_asks = λ then n. let ((_, _, a, b), flags) = par_joins run is (any _ _ then) u.can in (a, b, flags);
+          heard_asks = λ then n. let ((a, b), flags) = par_joins run is (any _ _ then) u.can in (a, b, flags);
           goes_on = λ then h.
               let e = h.above_it (λ d. omega (arith, is)) in
               suspends (par_done run is (any _ _ then) (rw z e)) (suspended e);
         }
 
     -- it isn't, and the first is suspended
-    pub second_done : f ≡ 0 → {state₂ m₂ : List ℕ} {rooms₂ : Rooms} {g : ℕ}
+    pub second_done : f ≡ SUSP → {state₂ m₂ : List ℕ} {rooms₂ : Rooms} {g : Flag}
         → HasRun 0 Any (lent table state₁ m₁ rooms₁) second (lent table state₂ m₂ rooms₂) g
-        → {state₃ : List ℕ} {q : ℕ} → ParEnds 0 g (4 * at) (4 * second) state₂ state₃ q
+        → {state₃ : List ℕ} {q : Flag} → ParEnds SUSP g (4 * at) (4 * second) state₂ state₃ q
         → HasRun 0 BothSuspended L₀ i (lent table state₃ m₂ rooms₂) q
     second_done z then e = suspends (par_done run is then (rw z e)) (suspended e)

@@ -8,6 +8,7 @@ use native.Mathlib.Omega.{arith}
 use lib.Dec.{lit<}
 use lib.ListN.{length, get_or, take, drop}
 use borrow.Rule.Slice.PartMut.{mid_of, put_mid}
+use Rattle.junior.specs.declared.Flag.{Flag}
 use Rattle.events.specs.Members.{marks}
 use Rattle.junior.specs.Term.{Term}
 use Rattle.table.specs.Records.{argument_at, size_at}
@@ -44,7 +45,7 @@ module _ {table : List ℕ} {i : ℕ} {state : List ℕ} (on : get_or state (4 *
     pub body_smaller : size_at table (i + 1) < size_at table i
     body_smaller = smaller_by table i (i + 1) (control_asks names present the o.live.2 1 refl).0
 
-    module _ {state₁ m₁ : List ℕ} {rooms₁ : Rooms} {f : ℕ} (run : HasRun 0 Any (lent table state m rooms) (i + 1) (lent table state₁ m₁ rooms₁) f) where
+    module _ {state₁ m₁ : List ℕ} {rooms₁ : Rooms} {f : Flag} (run : HasRun 0 Any (lent table state m rooms) (i + 1) (lent table state₁ m₁ rooms₁) f) where
       pub body_went : Went 0 Any (lent table state m rooms) (i + 1) (before ++ take 4 part) (mid_of 4 (length part - 4) part)
           (drop (length part - 4) (drop 4 part) ++ behind) (lent table state₁ m₁ rooms₁) f
       body_went = run _ _ _ body_stands
@@ -55,7 +56,6 @@ module _ {table : List ℕ} {i : ℕ} {state : List ℕ} (on : get_or state (4 *
             part' = put_mid 4 (length part - 4) part body_went.part';
             around = outer o.around 4 (length part - 4) body_went.around;
             kept = body_went.kept;
-            below = body_went.below;
             runs = λ t w h. control_runs names present (as_control w h) h body_went.runs;
           }
 
@@ -67,13 +67,12 @@ module _ {table : List ℕ} {i : ℕ} {state : List ℕ} (on : get_or state (4 *
     rests (suc zero) e l t w h P at = control_stops names absent (as_control w h) h (λ z. omega arith) P
     rests (suc (suc n)) e l t w h P at = absurd (omega arith)
 
-    pub control_went_idle : Went 0 (OfKind control_kind) (lent table state m rooms) i before part behind (lent table state m rooms) (get_or m ended_at 0)
+    pub control_went_idle : Went 0 (OfKind control_kind) (lent table state m rooms) i before part behind (lent table state m rooms) (flag_of (get_or m ended_at 0))
     control_went_idle =
         record {
           part' = part;
           around = o.around;
           kept = kept_same m;
-          below = omega (arith, o.numbers.ended_below);
           runs = rests (get_or m ended_at 0) refl o.numbers.ended_below;
         }
 
@@ -85,10 +84,10 @@ module _ {table : List ℕ} {i : ℕ} {state m : List ℕ} {rooms : Rooms} (on :
     control_body (before, part, behind, o) e =
         (omega (arith, body_smaller on o names present), (_, _, _, body_stands on o names present))
 
-    pub control_run : {state₁ m₁ : List ℕ} {rooms₁ : Rooms} {f : ℕ} → HasRun 0 Any (lent table state m rooms) (i + 1) (lent table state₁ m₁ rooms₁) f
+    pub control_run : {state₁ m₁ : List ℕ} {rooms₁ : Rooms} {f : Flag} → HasRun 0 Any (lent table state m rooms) (i + 1) (lent table state₁ m₁ rooms₁) f
         → HasRun 0 (OfKind control_kind) (lent table state m rooms) i (lent table state₁ m₁ rooms₁) f
     control_run run before part behind o = control_went on o names present run
 
   pub control_idle : marks (words_of m) a ≡ false
-      → HasRun 0 (OfKind control_kind) (lent table state m rooms) i (lent table state m rooms) (get_or m ended_at 0)
+      → HasRun 0 (OfKind control_kind) (lent table state m rooms) i (lent table state m rooms) (flag_of (get_or m ended_at 0))
   control_idle absent before part behind o = control_went_idle on o names absent

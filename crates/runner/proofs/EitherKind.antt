@@ -3,6 +3,7 @@ use Prim.Native.Nat.{ℕ}
 use mathlib.Core.Path.{◌≡◌, refl, subst, ◌∙◌}
 use mathlib.Core.Logic.{◌≢◌, ◌⊎◌, inl, inr, ⊎_elim}
 use mathlib.Core.List.{List}
+use Rattle.junior.specs.declared.Flag.{Flag}
 use Rattle.junior.specs.Term.{Term}
 use Rattle.table.specs.Records.{kind_at}
 use Rattle.table.proofs.Loaded.{kind_parts}
@@ -21,7 +22,7 @@ module _ {a b : ℕ} {table : List ℕ} {i n : ℕ} (read : n ≡ kind_at table 
     pub to_kinds : CanRun 0 U (lent table state m rooms) i → CanRun 0 (Either a b) (lent table state m rooms) i
     to_kinds o = can_narrow (λ before part behind around t h. one_of_them h) o
 
-    pub by_kinds : {L' : Lent} {r : ℕ} → HasRun 0 (Either a b) (lent table state m rooms) i L' r → HasRun 0 U (lent table state m rooms) i L' r
+    pub by_kinds : {L' : Lent} {r : Flag} → HasRun 0 (Either a b) (lent table state m rooms) i L' r → HasRun 0 U (lent table state m rooms) i L' r
     by_kinds run = widen (λ before part behind around t h. one_of_them h) run
 
 module _ {a b : ℕ} {table : List ℕ} {i : ℕ} {state m : List ℕ} {rooms : Rooms} where
@@ -33,7 +34,7 @@ module _ {a b : ℕ} {table : List ℕ} {i : ℕ} {state m : List ℕ} {rooms : 
   pub the_first : {n : ℕ} → n ≡ kind_at table i → n ≢ b → CanRun 0 (Either a b) (lent table state m rooms) i → kind_at table i ≡ a
   the_first read other o = ⊎_elim (λ e. e) (λ e. absurd (other (read ∙ e))) (which o)
 
-  pub by_either : {L' : Lent} {r : ℕ} → (kind_at table i ≡ a → HasRun 0 (OfKind a) (lent table state m rooms) i L' r)
+  pub by_either : {L' : Lent} {r : Flag} → (kind_at table i ≡ a → HasRun 0 (OfKind a) (lent table state m rooms) i L' r)
       → (kind_at table i ≡ b → HasRun 0 (OfKind b) (lent table state m rooms) i L' r)
       → HasRun 0 (Either a b) (lent table state m rooms) i L' r
   by_either first second before part behind o =

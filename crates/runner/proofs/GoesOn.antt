@@ -4,13 +4,13 @@ use Prim.Native.Nat.{ℕ, ◌*◌}
 use mathlib.Core.Path.{◌≡◌, sym, ◌∙◌}
 use mathlib.Core.List.{List}
 use lib.ListN.{get_or}
-use Rattle.std.specs.Borrow.{Bor, MutBor}
+use Rattle.junior.specs.declared.Flag.{Flag}
 use Rattle.junior.specs.Term.{Term}
-use Rattle.steps.specs.Running.{Rooms, rooms_of, Live, Runs, Phase}
+use Rattle.steps.specs.Running.{Rooms, Live, Runs, Phase}
 use Rattle.steps.proofs.Children.{unseen}
 use Rattle.steps.specs.Numbers.{Kept, words_of, tally_of}
 use Rattle.steps.specs.Flags.{flag_of}
-use Rattle.steps.specs.Lent.{Lent, lent, state_in, store_in, Stands, Went, CanRun, HasRun}
+use Rattle.steps.specs.Lent.{Lent, lent, Stands, Went, CanRun, HasRun}
 use Rattle.steps.proofs.Row.{kept_same, kept_then}
 use Rattle.steps.proofs.Dispatch.{phase_is}
 
@@ -20,21 +20,17 @@ module _ {skip skip₁ : ℕ} {W U : Term → Type 0} {L : Lent} {i : ℕ} {befo
       → Stands skip₁ W L i before part behind
   stands_as o v = record { around = o.around; numbers = o.numbers; live = v }
 
-  pub went_as : {L₁ L' : Lent} {part₁ : List ℕ} {r : ℕ} → Kept L.numbers L₁.numbers
+  pub went_as : {L₁ L' : Lent} {part₁ : List ℕ} {r : Flag} → Kept L.numbers L₁.numbers
       → (g : Went skip₁ W L₁ i before part₁ behind L' r)
       → Runs skip U L.table i part (words_of L.numbers) L.rooms (tally_of L.numbers) g.part'
-      (words_of L'.numbers) L'.rooms (tally_of L'.numbers) (flag_of r)
+      (words_of L'.numbers) L'.rooms (tally_of L'.numbers) r
       → Went skip U L i before part behind L' r
-  went_as k g runs = record { part' = g.part'; around = g.around; kept = kept_then k g.kept; below = g.below; runs = runs }
+  went_as k g runs = record { part' = g.part'; around = g.around; kept = kept_then k g.kept; runs = runs }
 
 -- node i, of which U holds in L, goes on in L₁ as one of which W holds
 pub record GoesOnAs (W U : Term → Type 0) (L : Lent) (i : ℕ) (L₁ : Lent) : Type 0 where
   pub can : CanRun 1 W L₁ i
-  pub has : {L' : Lent} {r : ℕ} → HasRun 1 W L₁ i L' r → HasRun 0 U L i L' r
-
--- what is lent where the ways through a function meet
-abbrev pub met : Bor (Bor (List ℕ)) → List (MutBor (List ℕ)) → List ℕ → MutBor (List ℕ) → Lent
-met table bytes numbers atoms = lent table.now.now (state_in bytes).now numbers (rooms_of atoms.now (store_in bytes).now)
+  pub has : {L' : Lent} {r : Flag} → HasRun 1 W L₁ i L' r → HasRun 0 U L i L' r
 
 module _ {W U : Term → Type 0} {ph : ℕ} (are : (t : Term) → U t → Phase ph t → W t) {table : List ℕ} {i : ℕ} {state m : List ℕ} {rooms : Rooms}
     (is : get_or state (4 * i) 0 ≡ ph) where
@@ -45,7 +41,7 @@ module _ {W U : Term → Type 0} {ph : ℕ} (are : (t : Term) → U t → Phase 
   pub to_phase : CanRun 0 U (lent table state m rooms) i → CanRun 1 W (lent table state m rooms) i
   to_phase (before, part, behind, o) = (before, part, behind, in_phase o)
 
-  pub by_phase : {L' : Lent} {r : ℕ} → HasRun 1 W (lent table state m rooms) i L' r → HasRun 0 U (lent table state m rooms) i L' r
+  pub by_phase : {L' : Lent} {r : Flag} → HasRun 1 W (lent table state m rooms) i L' r → HasRun 0 U (lent table state m rooms) i L' r
   by_phase run before part behind o =
       let g = run before part behind (in_phase o) in
       went_as (kept_same m) g (λ t u h. g.runs t (are t u (sym (phase_is o.around h) ∙ is)) (unseen h 1))

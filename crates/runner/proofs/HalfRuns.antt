@@ -6,9 +6,12 @@ use mathlib.Core.List.{List, ◌++◌}
 use native.Mathlib.Omega.{arith}
 use lib.Dec.{lit<}
 use lib.ListN.{length, get_or, take, drop}
+use Rattle.junior.specs.declared.Flag.{Flag}
+use Rattle.junior.specs.declared.Flag.TheVariants.{TERM}
 use Rattle.junior.specs.Term.{Term}
 use Rattle.table.specs.Records.{size_at, second_child}
 use Rattle.state.specs.Kinds.{par_kind}
+use Rattle.state.specs.StateBytes.{code}
 use Rattle.state.proofs.Parts.{first_of, with_first, rest_of, with_rest, own_flags}
 use Rattle.state.proofs.Shape.{Shape, is_done, is_par, shape_by}
 use Rattle.steps.specs.Running.{Rooms, Ready, Any, Kind, par_end}
@@ -74,7 +77,7 @@ module _ {table : List ℕ} {i : ℕ} {state : List ℕ} (on : get_or state (4 *
     pub left_smaller : size_at table (i + 1) < size_at table i
     left_smaller = smaller_by table i (i + 1) (first_asks refl the_left.2 o.live.2 1 refl).0
 
-    module _ {state' m' : List ℕ} {rooms' : Rooms} {f : ℕ} (run : HasRun 0 Any (lent table state m rooms) (i + 1) (lent table state' m' rooms') f) where
+    module _ {state' m' : List ℕ} {rooms' : Rooms} {f : Flag} (run : HasRun 0 Any (lent table state m rooms) (i + 1) (lent table state' m' rooms') f) where
       pub left_went : Went 0 Any (lent table state m rooms) (i + 1) (before ++ take 4 part) (first_of part n)
           (drop (4 + 4 * n - 4) (drop 4 part) ++ behind) (lent table state' m' rooms') f
       left_went = run _ _ _ left_stands
@@ -88,31 +91,31 @@ module _ {table : List ℕ} {i : ℕ} {state : List ℕ} (on : get_or state (4 *
       left_long : (4 < length left_part) × (4 + 4 * n < length left_part)
       left_long = left_end_asks refl left_went.runs the_left o.live.2
 
-      pub left_joins : (f < 3) × (get_or state (4 * i + 1) 0 / 4 < 3) × (4 * i + 4 < length state') × (4 * second_child table i < length state')
+      pub left_joins : (4 * i + 4 < length state') × (4 * second_child table i < length state')
       left_joins =
-          (left_went.below, left_flag_in, byte_in left_around 4 left_long.0, rw second_there at (byte_in left_around (4 + 4 * n) left_long.1))
+          (byte_in left_around 4 left_long.0, rw second_there at (byte_in left_around (4 + 4 * n) left_long.1))
 
-      pub left_kept : (get_or state' (4 * i + 1) 0 ≡ 4 * (get_or state (4 * i + 1) 0 / 4))
-          × (get_or state (4 * i + 1) 0 / 4 ≡ 2 → get_or state' (4 * second_child table i) 0 ≡ 3)
+      pub left_kept : let g = flag_of (get_or state (4 * i + 1) 0 / 4) in
+          (get_or state' (4 * i + 1) 0 ≡ 4 * code g) × (g ≡ TERM → get_or state' (4 * second_child table i) 0 ≡ 3)
       left_kept =
           let (flags, ended) = left_keeps refl left_went.runs the_left o.live.2 in
-          let was = flags_in on o.around o.live.1 o.live.2 in (
-            byte_at left_around 1 (omega (arith, left_long.0)) ∙ rw was flags,
-            λ e. rw second_there at (byte_at left_around (4 + 4 * n) left_long.1) ∙ ended (rw was at e),
+          let was = flags_in on o.around o.live.1 o.live.2 in
+          let g = code_of _ left_flag_in in (
+            byte_at left_around 1 (omega (arith, left_long.0)) ∙ rw (g, was) flags,
+            λ e. rw second_there at (byte_at left_around (4 + 4 * n) left_long.1) ∙ ended (rw was at (sym g ∙ ap code e)),
           )
 
-      pub half_went_left : {state'' : List ℕ} {r : ℕ} → ParEnds f (get_or state (4 * i + 1) 0 / 4) (4 * i) (4 * second_child table i) state' state'' r
+      pub half_went_left : {state'' : List ℕ} {r : Flag} → ParEnds f (flag_of (get_or state (4 * i + 1) 0 / 4)) (4 * i) (4 * second_child table i) state' state'' r
           → Went 0 NotBoth (lent table state m rooms) i before part behind (lent table state'' m' rooms') r
       half_went_left e =
-          let g = get_or state (4 * i + 1) 0 / 4 in
+          let g = flag_of (get_or state (4 * i + 1) 0 / 4) in
           record {
-            part' = par_end (flag_of f) (flag_of g) (4 + 4 * n) left_part;
-            around = rw (e.bytes, ← second_there) (par_end_around left_around (flag_of f) (flag_of g) (4 + 4 * n) left_long.0 left_long.1);
+            part' = par_end f g (4 + 4 * n) left_part;
+            around = rw (e.bytes, ← second_there) (par_end_around left_around f g (4 + 4 * n) left_long.0 left_long.1);
             kept = left_went.kept;
-            below = e.below;
             runs = λ t w h.
-                left_ran refl left_went.runs (left_of on o.around w h suspended) h (flag_of g)
-                (code_of g left_flag_in ∙ ap (λ (x : ℕ). x / 4) (flags_in on o.around w h)) (e.flag, refl);
+                left_ran refl left_went.runs (left_of on o.around w h suspended) h g
+                (code_of _ left_flag_in ∙ ap (λ (x : ℕ). x / 4) (flags_in on o.around w h)) (e.flag, refl);
           }
 
   -- rule 11: the second branch runs, the first's flag being f
@@ -132,7 +135,7 @@ module _ {table : List ℕ} {i : ℕ} {state : List ℕ} (on : get_or state (4 *
     pub right_smaller : size_at table (second_child table i) < size_at table i
     right_smaller = smaller_by table i (second_child table i) (right_asks refl the_right o.live.2 1 refl).0
 
-    module _ {state' m' : List ℕ} {rooms' : Rooms} {g : ℕ}
+    module _ {state' m' : List ℕ} {rooms' : Rooms} {g : Flag}
         (run : HasRun 0 Any (lent table state m rooms) (second_child table i) (lent table state' m' rooms') g) where
       pub right_went : Went 0 Any (lent table state m rooms) (second_child table i) (before ++ take (4 + 4 * n) part) (rest_of part n)
           (drop (length part - (4 + 4 * n)) (drop (4 + 4 * n) part) ++ behind) (lent table state' m' rooms') g
@@ -147,22 +150,21 @@ module _ {table : List ℕ} {i : ℕ} {state : List ℕ} (on : get_or state (4 *
       right_long : (4 < length right_part) × (4 + 4 * n < length right_part)
       right_long = right_end_asks refl right_went.runs the_right o.live.2
 
-      pub right_joins : (get_or state (4 * i + 1) 0 % 4 < 3) × (g < 3) × (4 * i + 4 < length state') × (4 * second_child table i < length state')
+      pub right_joins : (4 * i + 4 < length state') × (4 * second_child table i < length state')
       right_joins =
-          (right_flag_in, right_went.below, byte_in right_around 4 right_long.0, rw second_there at (byte_in right_around (4 + 4 * n) right_long.1))
+          (byte_in right_around 4 right_long.0, rw second_there at (byte_in right_around (4 + 4 * n) right_long.1))
 
-      pub half_went_right : {state'' : List ℕ} {r : ℕ} → ParEnds (get_or state (4 * i + 1) 0 % 4) g (4 * i) (4 * second_child table i) state' state'' r
+      pub half_went_right : {state'' : List ℕ} {r : Flag} → ParEnds (flag_of (get_or state (4 * i + 1) 0 % 4)) g (4 * i) (4 * second_child table i) state' state'' r
           → Went 0 NotBoth (lent table state m rooms) i before part behind (lent table state'' m' rooms') r
       half_went_right e =
-          let f = get_or state (4 * i + 1) 0 % 4 in
+          let f = flag_of (get_or state (4 * i + 1) 0 % 4) in
           record {
-            part' = par_end (flag_of f) (flag_of g) (4 + 4 * n) right_part;
-            around = rw (e.bytes, ← second_there) (par_end_around right_around (flag_of f) (flag_of g) (4 + 4 * n) right_long.0 right_long.1);
+            part' = par_end f g (4 + 4 * n) right_part;
+            around = rw (e.bytes, ← second_there) (par_end_around right_around f g (4 + 4 * n) right_long.0 right_long.1);
             kept = right_went.kept;
-            below = e.below;
             runs = λ t w h.
-                right_ran refl right_went.runs (right_of on o.around w h stood) h (flag_of f)
-                (code_of f right_flag_in ∙ ap (λ (x : ℕ). x % 4) (flags_in on o.around w h)) (e.flag, refl);
+                right_ran refl right_went.runs (right_of on o.around w h stood) h f
+                (code_of _ right_flag_in ∙ ap (λ (x : ℕ). x % 4) (flags_in on o.around w h)) (e.flag, refl);
           }
 
 -- in the words of the needs
@@ -181,17 +183,17 @@ module _ {table : List ℕ} {i : ℕ} {state m : List ℕ} {rooms : Rooms} (on :
         (lighter form_rank child_rank (lit< tt) (left_smaller on o suspended) e, (_, _, _, left_stands on o suspended))
 
     module _ {second : ℕ} (is : second ≡ second_child table i)
-        {state' m' : List ℕ} {rooms' : Rooms} {f : ℕ} (run : HasRun 0 Any (lent table state m rooms) (i + 1) (lent table state' m' rooms') f) where
+        {state' m' : List ℕ} {rooms' : Rooms} {f : Flag} (run : HasRun 0 Any (lent table state m rooms) (i + 1) (lent table state' m' rooms') f) where
       pub half_left_joins : CanRun 0 NotBoth (lent table state m rooms) i
-          → (f < 3) × (get_or state (4 * i + 1) 0 / 4 < 3) × (4 * i + 4 < length state') × (4 * second < length state')
+          → (4 * i + 4 < length state') × (4 * second < length state')
       half_left_joins (before, part, behind, o) = rw is (left_joins on o suspended run)
 
       pub half_left_keeps : CanRun 0 NotBoth (lent table state m rooms) i
-          → (get_or state' (4 * i + 1) 0 ≡ 4 * (get_or state (4 * i + 1) 0 / 4))
-          × (get_or state (4 * i + 1) 0 / 4 ≡ 2 → get_or state' (4 * second) 0 ≡ 3)
+          → let g = flag_of (get_or state (4 * i + 1) 0 / 4) in
+          (get_or state' (4 * i + 1) 0 ≡ 4 * code g) × (g ≡ TERM → get_or state' (4 * second) 0 ≡ 3)
       half_left_keeps (before, part, behind, o) = rw is (left_kept on o suspended run)
 
-      pub half_left_done : {state'' : List ℕ} {r : ℕ} → ParEnds f (get_or state (4 * i + 1) 0 / 4) (4 * i) (4 * second) state' state'' r
+      pub half_left_done : {state'' : List ℕ} {r : Flag} → ParEnds f (flag_of (get_or state (4 * i + 1) 0 / 4)) (4 * i) (4 * second) state' state'' r
           → HasRun 0 NotBoth (lent table state m rooms) i (lent table state'' m' rooms') r
       half_left_done e before part behind o = half_went_left on o suspended run (rw is at e)
 
@@ -200,11 +202,11 @@ module _ {table : List ℕ} {i : ℕ} {state m : List ℕ} {rooms : Rooms} (on :
         → (size_at table second < size_at table i) × CanRun 0 Any (lent table state m rooms) second
     half_right (before, part, behind, o) = rw is (right_smaller on o stood, (_, _, _, right_stands on o stood))
 
-    module _ {state' m' : List ℕ} {rooms' : Rooms} {g : ℕ} (run : HasRun 0 Any (lent table state m rooms) second (lent table state' m' rooms') g) where
+    module _ {state' m' : List ℕ} {rooms' : Rooms} {g : Flag} (run : HasRun 0 Any (lent table state m rooms) second (lent table state' m' rooms') g) where
       pub half_right_joins : CanRun 0 NotBoth (lent table state m rooms) i
-          → (get_or state (4 * i + 1) 0 % 4 < 3) × (g < 3) × (4 * i + 4 < length state') × (4 * second < length state')
+          → (4 * i + 4 < length state') × (4 * second < length state')
       half_right_joins (before, part, behind, o) = rw is (right_joins on o stood (run_at is run))
 
-      pub half_right_done : {state'' : List ℕ} {r : ℕ} → ParEnds (get_or state (4 * i + 1) 0 % 4) g (4 * i) (4 * second) state' state'' r
+      pub half_right_done : {state'' : List ℕ} {r : Flag} → ParEnds (flag_of (get_or state (4 * i + 1) 0 % 4)) g (4 * i) (4 * second) state' state'' r
           → HasRun 0 NotBoth (lent table state m rooms) i (lent table state'' m' rooms') r
       half_right_done e before part behind o = half_went_right on o stood (run_at is run) (rw is at e)

@@ -8,6 +8,7 @@ use native.Mathlib.Omega.{arith}
 use lib.Dec.{eqb}
 use lib.ListN.{length, get_or}
 use borrow.Author.Tests.{eqb-true, eqb-false, le-leb, lt-leb}
+use Rattle.junior.specs.declared.Flag.{Flag}
 use Rattle.junior.specs.Term.{Term}
 use Rattle.table.specs.Records.{argument_at, kind_at}
 use Rattle.state.specs.Kinds.{if_kind}
@@ -54,14 +55,14 @@ module _ {table : List ℕ} {i : ℕ} {state : List ℕ} (is : get_or state (4 *
     now_second (before, part, behind, o) = (_, _, _, second_stands o)
 
     module _ {a value : ℕ} (names : a ≡ argument_at table i) (reads : value ≡ values_in (tally_of m) a) where
-      if_second : value ≡ 0 → {L' : Lent} {r : ℕ} → HasRun 1 InSecond (lent table state m rooms) i L' r
+      if_second : value ≡ 0 → {L' : Lent} {r : Flag} → HasRun 1 InSecond (lent table state m rooms) i L' r
           → HasRun 0 (OfKind if_kind) (lent table state m rooms) i L' r
       if_second z run before part behind o =
           let g = run before part behind (second_stands o) in
           let no = lt-leb 1 (values_in (tally_of m) (argument_at table i)) (omega (arith, read_of (tally_of m) names reads)) in
           went_as (kept_same m) g (λ t w h. second_goes (choosing o.around w h) h no g.runs)
 
-      if_first : value ≢ 0 → {L' : Lent} {r : ℕ} → HasRun 1 InThen (lent table state m rooms) i L' r
+      if_first : value ≢ 0 → {L' : Lent} {r : Flag} → HasRun 1 InThen (lent table state m rooms) i L' r
           → HasRun 0 (OfKind if_kind) (lent table state m rooms) i L' r
       if_first n run before part behind o =
           let g = run before part behind (first_stands o) in

@@ -9,6 +9,7 @@ use lib.Dec.{lit<, eqb}
 use lib.ListN.{length, get_or, take, drop, set}
 use borrow.Author.Tests.{lt-ltb}
 use borrow.Rule.Slice.PartMut.{mid_of, put_mid}
+use Rattle.junior.specs.declared.Flag.{Flag}
 use Rattle.events.specs.Members.{places, marks}
 use Rattle.junior.specs.Term.{Term, prog}
 use Rattle.table.specs.Records.{argument_at, size_at}
@@ -77,7 +78,7 @@ module _ {table : List ℕ} {i : ℕ} {state : List ℕ} (on : get_or state (4 *
     pub body_smaller : size_at table (i + 1) < size_at table i
     body_smaller = asks.0
 
-    module _ {state₁ m₂ : List ℕ} {rooms₁ : Rooms} {f : ℕ} (run : HasRun 0 Any (lent table state m₁ rooms) (i + 1) (lent table state₁ m₂ rooms₁) f) where
+    module _ {state₁ m₂ : List ℕ} {rooms₁ : Rooms} {f : Flag} (run : HasRun 0 Any (lent table state m₁ rooms) (i + 1) (lent table state₁ m₂ rooms₁) f) where
       pub body_went : Went 0 Any (lent table state m₁ rooms) (i + 1) (before ++ take 4 part) (mid_of 4 (length part - 4) part)
           (drop (length part - 4) (drop 4 part) ++ behind) (lent table state₁ m₂ rooms₁) f
       body_went = run _ _ _ body_stands
@@ -92,7 +93,7 @@ module _ {table : List ℕ} {i : ℕ} {state : List ℕ} (on : get_or state (4 *
       abbrev Body : List ℕ → Type 0
       Body tally =
           Runs 0 Any table (i + 1) (mid_of 4 (length part - 4) part) (words_of m₁) rooms tally
-          body_went.part' (words_of m₂) rooms₁ (tally_of m₂) (flag_of f)
+          body_went.part' (words_of m₂) rooms₁ (tally_of m₂) f
 
       body_runs : Body (tally_of m)
       body_runs = subst Body q.tally body_went.runs
@@ -107,7 +108,7 @@ module _ {table : List ℕ} {i : ℕ} {state : List ℕ} (on : get_or state (4 *
       row_long = (still (still o.numbers q.kept) body_went.kept).long
 
       pub local_went : {outside present : Bool} → outside ≡ marks (words_of m) e → present ≡ marks (words_of m₂) e
-          → {m₃ : List ℕ} → Put e outside m₂ m₃ → {ph : ℕ} → ph ≡ sign_after (flag_of f) present
+          → {m₃ : List ℕ} → Put e outside m₂ m₃ → {ph : ℕ} → ph ≡ sign_after f present
           → Went 0 (OfKind local_kind) (lent table state m rooms) i before part behind (lent table (set state₁ (4 * i) ph) m₃ rooms₁) f
       local_went was found {m₃} q₃ {ph} after =
           let wide = words_wide (still (still o.numbers q.kept) body_went.kept) in
@@ -115,7 +116,6 @@ module _ {table : List ℕ} {i : ℕ} {state : List ℕ} (on : get_or state (4 *
             part' = set part₁ 0 ph;
             around = put_phase around₁ ph writes;
             kept = kept_then q.kept (kept_then body_went.kept q₃.kept);
-            below = body_went.below;
             runs = λ t w h P at.
                 ran_in refl q₃.tally
                 (local_ran names inside_marked body_runs (as_local w h) h was found (marked_by q₃ wide there) after P at);
@@ -131,17 +131,14 @@ module _ {table : List ℕ} {i : ℕ} {state m : List ℕ} {rooms : Rooms} (on :
         → (size_at table (i + 1) < size_at table i) × CanRun 0 Any (lent table state m₁ rooms) (i + 1)
     local_body (before, part, behind, o) = (body_smaller on o names q, (_, _, _, body_stands on o names q))
 
-    module _ {state₁ m₂ : List ℕ} {rooms₁ : Rooms} {f : ℕ} (run : HasRun 0 Any (lent table state m₁ rooms) (i + 1) (lent table state₁ m₂ rooms₁) f) where
+    module _ {state₁ m₂ : List ℕ} {rooms₁ : Rooms} {f : Flag} (run : HasRun 0 Any (lent table state m₁ rooms) (i + 1) (lent table state₁ m₂ rooms₁) f) where
       pub local_leaves : CanRun 0 (OfKind local_kind) (lent table state m rooms) i → (length m₂ ≡ places_of_row) × (e < places)
       local_leaves (before, part, behind, o) = (row_long on o names q run, omega (arith, local_event on o))
-
-      pub local_flag : CanRun 0 (OfKind local_kind) (lent table state m rooms) i → f < 3
-      local_flag (before, part, behind, o) = (body_went on o names q run).below
 
       pub local_writes_in : CanRun 0 (OfKind local_kind) (lent table state m rooms) i → 4 * i < length state₁
       local_writes_in (before, part, behind, o) = phase_there on o names q run
 
       pub local_done : {outside : Bool} → outside ≡ marks (words_of m) e → {present : Bool} {m₃ : List ℕ}
-          → (present ≡ marks (words_of m₂) e) × Put e outside m₂ m₃ → {ph : ℕ} → ph ≡ sign_after (flag_of f) present
+          → (present ≡ marks (words_of m₂) e) × Put e outside m₂ m₃ → {ph : ℕ} → ph ≡ sign_after f present
           → HasRun 0 (OfKind local_kind) (lent table state m rooms) i (lent table (set state₁ (4 * i) ph) m₃ rooms₁) f
       local_done was (found, q₃) after before part behind o = local_went on o names q run was found q₃ after

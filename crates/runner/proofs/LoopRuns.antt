@@ -7,6 +7,8 @@ use native.Mathlib.Omega.{arith}
 use lib.Dec.{lit<}
 use lib.ListN.{length, get_or, take, drop, set}
 use borrow.Rule.Slice.PartMut.{mid_of, put_mid}
+use Rattle.junior.specs.declared.Flag.{Flag}
+use Rattle.junior.specs.declared.Flag.TheVariants.{TERM}
 use Rattle.junior.specs.Term.{Term}
 use Rattle.table.specs.Records.{size_at}
 use Rattle.state.specs.Kinds.{loop_kind}
@@ -18,7 +20,6 @@ use Rattle.runner.proofs.Stages.{Beginning}
 use Rattle.steps.specs.Lent.{Lent, lent, Around, Stands, Went, CanRun, HasRun}
 use Rattle.steps.proofs.Context.{outer, phase_at_lem, phase_in, put_phase}
 use Rattle.steps.proofs.Row.{kept_same, kept_then, still}
-use Rattle.steps.proofs.FlagNumbers.{is_term, not_term}
 use Rattle.steps.proofs.Dispatch.{phase_is}
 use Rattle.steps.proofs.ChildContext.{child_stands}
 use Rattle.runner.proofs.Loop.{Begins, begins_by, begin_asks, begin_writes, begin_ran}
@@ -41,7 +42,7 @@ module _ {table : List ℕ} {i : ℕ} {state m : List ℕ} {rooms : Rooms} {befo
   pub begun_smaller : size_at table (i + 1) < size_at table i
   begun_smaller = smaller_by table i (i + 1) (begin_asks the_begun o.live.2 1 refl).0
 
-  module _ {state₁ m₁ : List ℕ} {rooms₁ : Rooms} {f : ℕ} (run : HasRun 0 Any (lent table state m rooms) (i + 1) (lent table state₁ m₁ rooms₁) f) where
+  module _ {state₁ m₁ : List ℕ} {rooms₁ : Rooms} {f : Flag} (run : HasRun 0 Any (lent table state m rooms) (i + 1) (lent table state₁ m₁ rooms₁) f) where
     pub begun_went : Went 0 Any (lent table state m rooms) (i + 1) (before ++ take 4 part) (mid_of 4 (length part - 4) part)
         (drop (length part - 4) (drop 4 part) ++ behind) (lent table state₁ m₁ rooms₁) f
     begun_went = run _ _ _ begun_stands
@@ -64,7 +65,6 @@ module _ {table : List ℕ} {i : ℕ} {state m : List ℕ} {rooms : Rooms} {befo
           part' = set part_begun 0 1;
           around = put_phase around_begun 1 has_phase;
           kept = begun_went.kept;
-          below = begun_went.below;
           runs = λ t w h. begin_ran begun_went.runs (begins_by t w) h;
         }
 
@@ -87,7 +87,7 @@ module _ {table : List ℕ} {i : ℕ} {state m : List ℕ} {rooms : Rooms} (on :
       let (t, w, h) = o.live in
       record { around = o.around; numbers = o.numbers; live = (t, begins_at on fresh o.around t w h, unseen h 1) }
 
-  by_begin : {L' : Lent} {r : ℕ} → HasRun 1 Beginning (lent table state m rooms) i L' r
+  by_begin : {L' : Lent} {r : Flag} → HasRun 1 Beginning (lent table state m rooms) i L' r
       → HasRun 0 (OfKind loop_kind) (lent table state m rooms) i L' r
   by_begin run before part behind o =
       let g = run before part behind (begin_stands o) in
@@ -117,7 +117,7 @@ module _ {table : List ℕ} {i : ℕ} {state : List ℕ} (begun : get_or state (
   pub rest_smaller : size_at table (i + 1) < size_at table i
   rest_smaller = smaller_by table i (i + 1) (loop_asks the o.live.2 1 refl).0
 
-  module _ {state₁ m₁ : List ℕ} {rooms₁ : Rooms} {f : ℕ} (run : HasRun 0 Any (lent table state m rooms) (i + 1) (lent table state₁ m₁ rooms₁) f) where
+  module _ {state₁ m₁ : List ℕ} {rooms₁ : Rooms} {f : Flag} (run : HasRun 0 Any (lent table state m rooms) (i + 1) (lent table state₁ m₁ rooms₁) f) where
     pub rest_went : Went 0 Any (lent table state m rooms) (i + 1) (before ++ take 4 part) (mid_of 4 (length part - 4) part)
         (drop (length part - 4) (drop 4 part) ++ behind) (lent table state₁ m₁ rooms₁) f
     rest_went = run _ _ _ rest_stands
@@ -128,26 +128,25 @@ module _ {table : List ℕ} {i : ℕ} {state : List ℕ} (begun : get_or state (
     pub around₁ : Around state₁ i before part₁ behind
     around₁ = outer o.around 4 (length part - 4) rest_went.around
 
-    pub loop_went : f ≢ 2 → Went 0 (OfKind loop_kind) (lent table state m rooms) i before part behind (lent table state₁ m₁ rooms₁) f
+    pub loop_went : f ≢ TERM → Went 0 (OfKind loop_kind) (lent table state m rooms) i before part behind (lent table state₁ m₁ rooms₁) f
     loop_went n =
         record {
           part' = part₁;
           around = around₁;
           kept = rest_went.kept;
-          below = rest_went.below;
-          runs = λ t w h. loop_waits rest_went.runs (in_rest w h) h (not_term rest_went.below n);
+          runs = λ t w h. loop_waits rest_went.runs (in_rest w h) h n;
         }
 
-    module _ (ended : f ≡ 2) where
+    module _ (ended : f ≡ TERM) where
       pub anew_stands : Stands 1 Beginning (lent table state₁ m₁ rooms₁) i before part₁ behind
       anew_stands =
           record {
             around = around₁;
             numbers = still o.numbers rest_went.kept;
-            live = anew_asks rest_went.runs the o.live.2 (is_term ended);
+            live = anew_asks rest_went.runs the o.live.2 ended;
           }
 
-      pub loop_went_on : {L' : Lent} {r : ℕ} → HasRun 1 Beginning (lent table state₁ m₁ rooms₁) i L' r
+      pub loop_went_on : {L' : Lent} {r : Flag} → HasRun 1 Beginning (lent table state₁ m₁ rooms₁) i L' r
           → Went 0 (OfKind loop_kind) (lent table state m rooms) i before part behind L' r
       loop_went_on then =
           let g = then before part₁ behind anew_stands in
@@ -155,8 +154,7 @@ module _ {table : List ℕ} {i : ℕ} {state : List ℕ} (begun : get_or state (
             part' = g.part';
             around = g.around;
             kept = kept_then rest_went.kept g.kept;
-            below = g.below;
-            runs = λ t w h. loop_again rest_went.runs (in_rest w h) h (is_term ended) g.runs;
+            runs = λ t w h. loop_again rest_went.runs (in_rest w h) h ended g.runs;
           }
 
 -- in the words of the needs
@@ -165,7 +163,7 @@ module _ {table : List ℕ} {i : ℕ} {state m : List ℕ} {rooms : Rooms} where
       → (weigh table (i + 1) child_rank < k) × CanRun 0 Any (lent table state m rooms) (i + 1)
   begin_body (before, part, behind, o) e = (omega (arith, begun_smaller o), (_, _, _, begun_stands o))
 
-  module _ {state₁ m₁ : List ℕ} {rooms₁ : Rooms} {f : ℕ} (run : HasRun 0 Any (lent table state m rooms) (i + 1) (lent table state₁ m₁ rooms₁) f) where
+  module _ {state₁ m₁ : List ℕ} {rooms₁ : Rooms} {f : Flag} (run : HasRun 0 Any (lent table state m rooms) (i + 1) (lent table state₁ m₁ rooms₁) f) where
     pub begin_writes_in : CanRun 1 Beginning (lent table state m rooms) i → 4 * i < length state₁
     begin_writes_in (before, part, behind, o) = begun_writes o run
 
@@ -177,11 +175,11 @@ module _ {table : List ℕ} {i : ℕ} {state m : List ℕ} {rooms : Rooms} where
         → (weigh table (i + 1) child_rank < k) × CanRun 0 Any (lent table state m rooms) (i + 1)
     loop_body (before, part, behind, o) e = (omega (arith, rest_smaller begun o), (_, _, _, rest_stands begun o))
 
-    module _ {state₁ m₁ : List ℕ} {rooms₁ : Rooms} {f : ℕ} (run : HasRun 0 Any (lent table state m rooms) (i + 1) (lent table state₁ m₁ rooms₁) f) where
-      pub loop_stays : f ≢ 2 → HasRun 0 (OfKind loop_kind) (lent table state m rooms) i (lent table state₁ m₁ rooms₁) f
+    module _ {state₁ m₁ : List ℕ} {rooms₁ : Rooms} {f : Flag} (run : HasRun 0 Any (lent table state m rooms) (i + 1) (lent table state₁ m₁ rooms₁) f) where
+      pub loop_stays : f ≢ TERM → HasRun 0 (OfKind loop_kind) (lent table state m rooms) i (lent table state₁ m₁ rooms₁) f
       loop_stays n before part behind o = loop_went begun o run n
 
-      pub loop_anew : f ≡ 2 → CanRun 0 (OfKind loop_kind) (lent table state m rooms) i
+      pub loop_anew : f ≡ TERM → CanRun 0 (OfKind loop_kind) (lent table state m rooms) i
           → GoesOnAs Beginning (OfKind loop_kind) (lent table state m rooms) i (lent table state₁ m₁ rooms₁)
       loop_anew e (before, part, behind, o) =
           record { can = (_, _, _, anew_stands begun o run e); has = λ then before part behind o. loop_went_on begun o run e then }

@@ -18,7 +18,7 @@ module _ {own : Own} {f : Term → Term} (o : Frame own 0 0 f) {skip : ℕ} {tab
     {x : Term}
     (h : Ready skip table i state words rooms tally (f x)) (low : skip ≤ 4)
     {words₁ : List ℕ} (wide : 64 * length words₁ ≡ places) (goes : Going (marks words₁) x) where
-  -- what run_node asks for the child, and that it ran
+  -- what run_child asks for the child, and that it ran
   pub only_asks : {k : ℕ} (rank : ℕ) → falling table i rank ≡ k
       → (falling table (i + 1) 3 < k) × Live 0 Any table (i + 1) (mid_of 4 (length state - 4) state) words₁ rooms tally
   only_asks rank falls = asks o h (only_cut h o) low rank falls (next_index i) wide goes

@@ -29,7 +29,7 @@ use Rattle.state.proofs.Parts.{first_of, with_first, rest_of, with_rest, len_byt
 use Rattle.state.proofs.Shape.{Shape, is_done, is_par, shape_by}
 use Rattle.steps.specs.Running.{Rooms, values_in, env_of, Ready, Leaves, SameLengths, Ran, Live, Runs, Any, Kind, LeftSuspended}
 use Rattle.steps.specs.Running.{RightSuspended, par_end}
-use Rattle.steps.proofs.FlagTables.{code_same, code_below}
+use Rattle.steps.proofs.FlagNumbers.{code_same, code_below}
 use Rattle.steps.proofs.Children.{asks_for, at_node, falling, first_at, second_at, byte_is}
 use Rattle.steps.proofs.Done.{later, same_lengths, lengths_then, few, ran_flag, ran_long, HasRoom, room_for, room_after, leaves_then}
 use Rattle.runner.proofs.Joined.{Two, flags_at_lem, second_at as two_at, stood_ended, first_part, put_first, ends, second_part_lem, put_second}

@@ -5,6 +5,7 @@ use mathlib.Core.List.{List, ◌++◌}
 use native.Mathlib.Omega.{arith}
 use lib.Dec.{lit<}
 use lib.ListN.{length, get_or, take, drop}
+use Rattle.junior.specs.declared.Flag.{Flag}
 use Rattle.junior.specs.declared.Flag.TheVariants.{SUSP}
 use Rattle.junior.specs.Term.{Term}
 use Rattle.table.specs.Records.{size_at, second_child}
@@ -53,7 +54,7 @@ module _ {table : List ℕ} {i : ℕ} {state m : List ℕ} {rooms : Rooms} {befo
   pub first_smaller : size_at table (i + 1) < size_at table i
   first_smaller = smaller_by table i (i + 1) (first_asks refl the o.live.2 1 refl).0
 
-  module _ {state₁ m₁ : List ℕ} {rooms₁ : Rooms} {f : ℕ} (run : HasRun 0 Any (lent table state m rooms) (i + 1) (lent table state₁ m₁ rooms₁) f) where
+  module _ {state₁ m₁ : List ℕ} {rooms₁ : Rooms} {f : Flag} (run : HasRun 0 Any (lent table state m rooms) (i + 1) (lent table state₁ m₁ rooms₁) f) where
     pub first_went : Went 0 Any (lent table state m rooms) (i + 1) (before ++ take 4 part) (first_of part n)
         (drop (4 + 4 * n - 4) (drop 4 part) ++ behind) (lent table state₁ m₁ rooms₁) f
     first_went = run _ _ _ first_stands
@@ -76,7 +77,7 @@ module _ {table : List ℕ} {i : ℕ} {state m : List ℕ} {rooms : Rooms} {befo
     pub second_smaller : size_at table (second_child table i) < size_at table i
     second_smaller = smaller_by table i (second_child table i) (then_asks refl first_went.runs the o.live.2 1 refl).0
 
-    module _ {state₂ m₂ : List ℕ} {rooms₂ : Rooms} {g : ℕ}
+    module _ {state₂ m₂ : List ℕ} {rooms₂ : Rooms} {g : Flag}
         (then : HasRun 0 Any (lent table state₁ m₁ rooms₁) (second_child table i) (lent table state₂ m₂ rooms₂) g) where
       pub second_went : Went 0 Any (lent table state₁ m₁ rooms₁) (second_child table i) (before ++ take (4 + 4 * n) part₁) (rest_of part₁ n)
           (drop (length part₁ - (4 + 4 * n)) (drop (4 + 4 * n) part₁) ++ behind) (lent table state₂ m₂ rooms₂) g
@@ -92,10 +93,10 @@ module _ {table : List ℕ} {i : ℕ} {state m : List ℕ} {rooms : Rooms} {befo
       long = both_end_asks refl first_went.runs second_went.runs the o.live.2
 
       -- what joining them asks
-      pub join_asks : (f < 3) × (g < 3) × (4 * i + 4 < length state₂) × (4 * second_child table i < length state₂)
+      pub join_asks : (4 * i + 4 < length state₂) × (4 * second_child table i < length state₂)
       join_asks =
           let e : 4 * i + (4 + 4 * n) ≡ 4 * second_child table i = omega arith in
-          (first_went.below, second_went.below, byte_in around₂ 4 long.0, rw e at (byte_in around₂ (4 + 4 * n) long.1))
+          (byte_in around₂ 4 long.0, rw e at (byte_in around₂ (4 + 4 * n) long.1))
 
       pub still_no_flags : get_or state₂ (4 * i + 1) 0 ≡ 0
       still_no_flags =
@@ -104,15 +105,14 @@ module _ {table : List ℕ} {i : ℕ} {state m : List ℕ} {rooms : Rooms} {befo
           ∙ (front_stays 4 (4 + 4 * n - 4) part first_went.part' 1 (omega arith) (own_in o.live.2 3 (omega arith))
           ∙ no_flags o.live.1 o.live.2))
 
-      pub par_went : {state₃ : List ℕ} {r : ℕ} → ParEnds f g (4 * i) (4 * second_child table i) state₂ state₃ r
+      pub par_went : {state₃ : List ℕ} {r : Flag} → ParEnds f g (4 * i) (4 * second_child table i) state₂ state₃ r
           → Went 0 BothSuspended (lent table state m rooms) i before part behind (lent table state₃ m₂ rooms₂) r
       par_went e =
           let d : 4 * i + (4 + 4 * n) ≡ 4 * second_child table i = omega arith in
           record {
-            part' = par_end (flag_of f) (flag_of g) (4 + 4 * n) part₂;
-            around = rw (e.bytes, ← d) (par_end_around around₂ (flag_of f) (flag_of g) (4 + 4 * n) long.0 long.1);
+            part' = par_end f g (4 + 4 * n) part₂;
+            around = rw (e.bytes, ← d) (par_end_around around₂ f g (4 + 4 * n) long.0 long.1);
             kept = kept_then first_went.kept second_went.kept;
-            below = e.below;
             runs = λ t w h. both_ran refl first_went.runs second_went.runs (both_of w h) h (e.flag, refl);
           }
 
@@ -125,17 +125,17 @@ module _ {table : List ℕ} {i : ℕ} {state m : List ℕ} {rooms : Rooms} where
   pub par_second_in : CanRun 0 BothSuspended (lent table state m rooms) i → 6 * i + 11 < length table
   par_second_in (before, part, behind, o) = omega (arith, par_reads_in o)
 
-  module _ {state₁ m₁ : List ℕ} {rooms₁ : Rooms} {f : ℕ} (run : HasRun 0 Any (lent table state m rooms) (i + 1) (lent table state₁ m₁ rooms₁) f)
+  module _ {state₁ m₁ : List ℕ} {rooms₁ : Rooms} {f : Flag} (run : HasRun 0 Any (lent table state m rooms) (i + 1) (lent table state₁ m₁ rooms₁) f)
       {second : ℕ} (is : second ≡ second_child table i) where
     pub par_second : CanRun 0 BothSuspended (lent table state m rooms) i
         → (size_at table second < size_at table i) × CanRun 0 Any (lent table state₁ m₁ rooms₁) second
     par_second (before, part, behind, o) = rw is (second_smaller o run, (_, _, _, second_stands o run))
 
-    module _ {state₂ m₂ : List ℕ} {rooms₂ : Rooms} {g : ℕ} (then : HasRun 0 Any (lent table state₁ m₁ rooms₁) second (lent table state₂ m₂ rooms₂) g) where
+    module _ {state₂ m₂ : List ℕ} {rooms₂ : Rooms} {g : Flag} (then : HasRun 0 Any (lent table state₁ m₁ rooms₁) second (lent table state₂ m₂ rooms₂) g) where
       pub par_joins : CanRun 0 BothSuspended (lent table state m rooms) i
-          → ((f < 3) × (g < 3) × (4 * i + 4 < length state₂) × (4 * second < length state₂)) × (get_or state₂ (4 * i + 1) 0 ≡ 0)
+          → ((4 * i + 4 < length state₂) × (4 * second < length state₂)) × (get_or state₂ (4 * i + 1) 0 ≡ 0)
       par_joins (before, part, behind, o) = rw is (join_asks o run (run_at is then), still_no_flags o run (run_at is then))
 
-      pub par_done : {state₃ : List ℕ} {r : ℕ} → ParEnds f g (4 * i) (4 * second) state₂ state₃ r
+      pub par_done : {state₃ : List ℕ} {r : Flag} → ParEnds f g (4 * i) (4 * second) state₂ state₃ r
           → HasRun 0 BothSuspended (lent table state m rooms) i (lent table state₃ m₂ rooms₂) r
       par_done e before part behind o = par_went o run (run_at is then) (rw is at e)

@@ -24,7 +24,6 @@ use Rattle.steps.specs.Lent.{Lent, lent, Around, Stands, Went, CanRun, HasRun}
 use Rattle.steps.proofs.Context.{byte_at, byte_in, phase_at_lem, put_byte, put_phase, outer}
 use Rattle.steps.proofs.Row.{kept_same, still}
 use Rattle.runner.proofs.GoesOn.{stands_as, went_as}
-use Rattle.steps.proofs.FlagNumbers.{is_term, not_term}
 use Rattle.steps.proofs.Dispatch.{phase_is}
 use Rattle.steps.proofs.ChildContext.{child_stands}
 
@@ -57,7 +56,7 @@ module _ {k : ℕ} {table : List ℕ} {i : ℕ} {state m : List ℕ} {rooms : Ro
   flags_in : get_or state (4 * i + 1) 0 ≡ own_flags part
   flags_in = byte_at o.around 1 (own_in o.live.2 1 (lit< tt))
 
-  module _ {state₁ m₁ : List ℕ} {rooms₁ : Rooms} {f : ℕ} (run : HasRun 0 Any (lent table state m rooms) (i + 1) (lent table state₁ m₁ rooms₁) f) where
+  module _ {state₁ m₁ : List ℕ} {rooms₁ : Rooms} {f : Flag} (run : HasRun 0 Any (lent table state m rooms) (i + 1) (lent table state₁ m₁ rooms₁) f) where
     pub body_went : Went 0 Any (lent table state m rooms) (i + 1) (before ++ take 4 part) (mid_of 4 (length part - 4) part)
         (drop (length part - 4) (drop 4 part) ++ behind) (lent table state₁ m₁ rooms₁) f
     body_went = run _ _ _ body_stands
@@ -75,7 +74,7 @@ module _ {k : ℕ} {table : List ℕ} {i : ℕ} {state m : List ℕ} {rooms : Ro
     own_there = byte_in around₁ 3 own_long
 
     -- it waits, or has ended as the last
-    pub times_wait_went : get_or state (4 * i + 1) 0 ≡ 0 → f ≢ 2
+    pub times_wait_went : get_or state (4 * i + 1) 0 ≡ 0 → f ≢ TERM
         → {state₂ : List ℕ} → state₂ ≡ set (set (set state₁ (4 * i) 1) (4 * i + 2) (k / 256)) (4 * i + 3) (k % 256)
         → Went 4 (Times k) (lent table state m rooms) i before part behind (lent table state₂ m₁ rooms₁) f
     times_wait_went z n is =
@@ -83,41 +82,39 @@ module _ {k : ℕ} {table : List ℕ} {i : ℕ} {state m : List ℕ} {rooms : Ro
           part' = set (set (set part₁ 0 1) 2 (k / 256)) 3 (k % 256);
           around = rw is (own_put around₁ own_long 1 (k / 256) (k % 256));
           kept = body_went.kept;
-          below = body_went.below;
           runs = λ t w h.
-              times_waits body_went.runs (in_run_by t w) h (sym flags_in ∙ z) (not_term body_went.below n) refl;
+              times_waits body_went.runs (in_run_by t w) h (sym flags_in ∙ z) n refl;
         }
 
-    pub times_end_went : get_or state (4 * i + 1) 0 ≡ 0 → f ≡ 2 → k ≡ 0
+    pub times_end_went : get_or state (4 * i + 1) 0 ≡ 0 → f ≡ TERM → k ≡ 0
         → {state₂ : List ℕ} → state₂ ≡ set (set (set state₁ (4 * i) 0) (4 * i + 2) 0) (4 * i + 3) 0
-        → Went 4 (Times k) (lent table state m rooms) i before part behind (lent table state₂ m₁ rooms₁) 2
+        → Went 4 (Times k) (lent table state m rooms) i before part behind (lent table state₂ m₁ rooms₁) TERM
     times_end_went z e l is =
         record {
           part' = set (set (set part₁ 0 0) 2 0) 3 0;
           around = rw is (own_put around₁ own_long 0 0 0);
           kept = body_went.kept;
-          below = lit< tt;
-          runs = λ t w h. times_ends body_went.runs (in_run_by t w) h (sym flags_in ∙ z) (is_term e) l refl;
+          runs = λ t w h. times_ends body_went.runs (in_run_by t w) h (sym flags_in ∙ z) e l refl;
         }
 
     -- it has ended, and the next begins
-    module _ (e : f ≡ 2) (l : k ≢ 0) where
+    module _ (e : f ≡ TERM) (l : k ≢ 0) where
       pub next_stands : Stands 4 (Times (k - 1)) (lent table state₁ m₁ rooms₁) i before part₁ behind
       next_stands =
           record {
             around = around₁;
             numbers = still o.numbers body_went.kept;
-            live = next_live body_went.runs the o.live.2 (is_term e) l;
+            live = next_live body_went.runs the o.live.2 e l;
           }
 
       pub next_no_flags : get_or state (4 * i + 1) 0 ≡ 0 → get_or state₁ (4 * i + 1) 0 ≡ 0
       next_no_flags z = byte_at around₁ 1 (omega (arith, own_long)) ∙ next_flags body_went.runs the o.live.2 (sym flags_in ∙ z)
 
-      pub next_went : {L' : Lent} {r : ℕ} → HasRun 4 (Times (k - 1)) (lent table state₁ m₁ rooms₁) i L' r
+      pub next_went : {L' : Lent} {r : Flag} → HasRun 4 (Times (k - 1)) (lent table state₁ m₁ rooms₁) i L' r
           → Went 4 (Times k) (lent table state m rooms) i before part behind L' r
       next_went then =
           let g = then before part₁ behind next_stands in
-          went_as body_went.kept g (λ t w h. times_again body_went.runs (in_run_by t w) h (is_term e) l g.runs)
+          went_as body_went.kept g (λ t w h. times_again body_went.runs (in_run_by t w) h e l g.runs)
 
 -- in the words of the needs
 module _ {k : ℕ} {table : List ℕ} {i : ℕ} {state m : List ℕ} {rooms : Rooms} where
@@ -125,26 +122,26 @@ module _ {k : ℕ} {table : List ℕ} {i : ℕ} {state m : List ℕ} {rooms : Ro
       → (size_at table (i + 1) < size_at table i) × CanRun 0 Any (lent table state m rooms) (i + 1)
   times_body (before, part, behind, o) = (body_smaller o, (_, _, _, body_stands o))
 
-  module _ {state₁ m₁ : List ℕ} {rooms₁ : Rooms} {f : ℕ} (run : HasRun 0 Any (lent table state m rooms) (i + 1) (lent table state₁ m₁ rooms₁) f) where
+  module _ {state₁ m₁ : List ℕ} {rooms₁ : Rooms} {f : Flag} (run : HasRun 0 Any (lent table state m rooms) (i + 1) (lent table state₁ m₁ rooms₁) f) where
     pub times_own : CanRun 4 (Times k) (lent table state m rooms) i → (4 * i + 3 < length state₁) × (k < 65536)
     times_own (before, part, behind, o) = (own_there o run, left_below o)
 
-    pub times_wait : get_or state (4 * i + 1) 0 ≡ 0 → f ≢ 2
+    pub times_wait : get_or state (4 * i + 1) 0 ≡ 0 → f ≢ TERM
         → {state₂ : List ℕ} → state₂ ≡ set (set (set state₁ (4 * i) 1) (4 * i + 2) (k / 256)) (4 * i + 3) (k % 256)
         → HasRun 4 (Times k) (lent table state m rooms) i (lent table state₂ m₁ rooms₁) f
     times_wait z n is before part behind o = times_wait_went o run z n is
 
-    pub times_end : get_or state (4 * i + 1) 0 ≡ 0 → f ≡ 2 → k ≡ 0
+    pub times_end : get_or state (4 * i + 1) 0 ≡ 0 → f ≡ TERM → k ≡ 0
         → {state₂ : List ℕ} → state₂ ≡ set (set (set state₁ (4 * i) 0) (4 * i + 2) 0) (4 * i + 3) 0
-        → HasRun 4 (Times k) (lent table state m rooms) i (lent table state₂ m₁ rooms₁) 2
+        → HasRun 4 (Times k) (lent table state m rooms) i (lent table state₂ m₁ rooms₁) TERM
     times_end z e l is before part behind o = times_end_went o run z e l is
 
-    module _ (e : f ≡ 2) (l : k ≢ 0) where
+    module _ (e : f ≡ TERM) (l : k ≢ 0) where
       pub times_next : CanRun 4 (Times k) (lent table state m rooms) i → get_or state (4 * i + 1) 0 ≡ 0
           → CanRun 4 (Times (k - 1)) (lent table state₁ m₁ rooms₁) i × (get_or state₁ (4 * i + 1) 0 ≡ 0)
       times_next (before, part, behind, o) z = ((_, _, _, next_stands o run e l), next_no_flags o run e l z)
 
-      pub times_then : {L' : Lent} {r : ℕ} → HasRun 4 (Times (k - 1)) (lent table state₁ m₁ rooms₁) i L' r
+      pub times_then : {L' : Lent} {r : Flag} → HasRun 4 (Times (k - 1)) (lent table state₁ m₁ rooms₁) i L' r
           → HasRun 4 (Times k) (lent table state m rooms) i L' r
       times_then then before part behind o = next_went o run e l then
 
@@ -152,13 +149,13 @@ module _ {k : ℕ} {table : List ℕ} {i : ℕ} {state m : List ℕ} {rooms : Ro
 pub record Turn (L₀ : Lent) (i k : ℕ) (L : Lent) (left : ℕ) : Type 0 where
   pub can : CanRun 4 (Times left) L i
   pub no_flags_yet : get_or L.state (4 * i + 1) 0 ≡ 0
-  pub goes_on : {L' : Lent} {r : ℕ} → HasRun 4 (Times left) L i L' r → HasRun 4 (Times k) L₀ i L' r
+  pub goes_on : {L' : Lent} {r : Flag} → HasRun 4 (Times left) L i L' r → HasRun 4 (Times k) L₀ i L' r
 
 pub first_turn : {i k : ℕ} {L : Lent} → CanRun 4 (Times k) L i → get_or L.state (4 * i + 1) 0 ≡ 0 → Turn L i k L k
 first_turn o z = record { can = o; no_flags_yet = z; goes_on = λ run. run }
 
 pub next_turn : {i k : ℕ} {L₀ : Lent} {table state m : List ℕ} {rooms : Rooms} {left : ℕ} → Turn L₀ i k (lent table state m rooms) left
-    → {state₁ m₁ : List ℕ} {rooms₁ : Rooms} {f : ℕ} → HasRun 0 Any (lent table state m rooms) (i + 1) (lent table state₁ m₁ rooms₁) f → f ≡ 2 → left ≢ 0
+    → {state₁ m₁ : List ℕ} {rooms₁ : Rooms} {f : Flag} → HasRun 0 Any (lent table state m rooms) (i + 1) (lent table state₁ m₁ rooms₁) f → f ≡ TERM → left ≢ 0
     → Turn L₀ i k (lent table state₁ m₁ rooms₁) (left - 1)
 next_turn u run e l =
     let (o, z) = times_next run e l u.can u.no_flags_yet in
@@ -214,13 +211,12 @@ module _ {table : List ℕ} {i : ℕ} {state : List ℕ} (on : get_or state (4 *
 -- in the words of the needs: one not begun, or begun
 module _ {table : List ℕ} {i : ℕ} {state m : List ℕ} {rooms : Rooms} (on : get_or state (4 * i) 0 ≢ 3) {turns : ℕ}
     (is : Turns table i state (tally_of m) turns) where
-  pub repeat_none : turns ≡ 0 → HasRun 0 Repetition (lent table state m rooms) i (lent table state m rooms) 2
+  pub repeat_none : turns ≡ 0 → HasRun 0 Repetition (lent table state m rooms) i (lent table state m rooms) TERM
   repeat_none z before part behind o =
       record {
         part' = part;
         around = o.around;
         kept = kept_same m;
-        below = lit< tt;
         runs = λ t w h P at. none_ran on o.around w h is z P;
       }
 
@@ -235,7 +231,7 @@ module _ {table : List ℕ} {i : ℕ} {state m : List ℕ} {rooms : Rooms} (on :
         let (t, w, h) = o.live in
         ((before, part, behind, turn_stands o), byte_there on o.around w h 1 (lit< tt) ∙ (in_turn on o.around w h is some).1)
 
-    pub repeat_by : {L' : Lent} {f : ℕ} → HasRun 4 (Times (turns - 1)) (lent table state m rooms) i L' f
+    pub repeat_by : {L' : Lent} {f : Flag} → HasRun 4 (Times (turns - 1)) (lent table state m rooms) i L' f
         → HasRun 0 Repetition (lent table state m rooms) i L' f
     repeat_by run before part behind o =
         let g = run before part behind (turn_stands o) in

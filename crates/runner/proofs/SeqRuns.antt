@@ -6,6 +6,8 @@ use mathlib.Core.List.{List, ◌++◌}
 use native.Mathlib.Omega.{arith}
 use lib.Dec.{lit<}
 use lib.ListN.{length, get_or, take, drop, set}
+use Rattle.junior.specs.declared.Flag.{Flag}
+use Rattle.junior.specs.declared.Flag.TheVariants.{TERM}
 use Rattle.junior.specs.Term.{Term}
 use Rattle.table.specs.Records.{size_at, second_child}
 use Rattle.state.specs.Kinds.{seq_kind}
@@ -17,7 +19,6 @@ use Rattle.steps.specs.Flags.{flag_of}
 use Rattle.steps.specs.Lent.{Lent, lent, Around, Stands, Went, CanRun, HasRun}
 use Rattle.steps.proofs.Context.{outer, phase_at_lem, phase_in, put_phase}
 use Rattle.steps.proofs.Row.{still}
-use Rattle.steps.proofs.FlagNumbers.{is_term, not_term}
 use Rattle.steps.proofs.Dispatch.{run_at, phase_is}
 use Rattle.steps.proofs.ChildContext.{child_stands}
 use Rattle.runner.proofs.Seq.{Second, second_by, second_reads, second_fits, second_asks, second_writes, second_ran}
@@ -43,7 +44,7 @@ module _ {table : List ℕ} {i : ℕ} {state m : List ℕ} {rooms : Rooms} {befo
   pub over_smaller : size_at table (second_child table i) < size_at table i
   over_smaller = smaller_by table i (second_child table i) (second_asks refl the_second o.live.2 1 refl).0
 
-  module _ {state' m' : List ℕ} {rooms' : Rooms} {f : ℕ}
+  module _ {state' m' : List ℕ} {rooms' : Rooms} {f : Flag}
       (run : HasRun 0 Any (lent table state m rooms) (second_child table i) (lent table state' m' rooms') f) where
     pub over_went : Went 0 Any (lent table state m rooms) (second_child table i) (before ++ take (4 + 4 * n) part) (rest_of part n)
         (drop (length part - (4 + 4 * n)) (drop (4 + 4 * n) part) ++ behind) (lent table state' m' rooms') f
@@ -61,14 +62,13 @@ module _ {table : List ℕ} {i : ℕ} {state m : List ℕ} {rooms : Rooms} {befo
     pub over_writes : 4 * i < length state'
     over_writes = phase_in around_over writes
 
-    pub second_went : {ph : ℕ} → ph ≡ phase_after (flag_of f) 2
+    pub second_went : {ph : ℕ} → ph ≡ phase_after f 2
         → Went 1 InSecond (lent table state m rooms) i before part behind (lent table (set state' (4 * i) ph) m' rooms') f
     second_went {ph} e =
         record {
           part' = set part_over 0 ph;
           around = put_phase around_over ph writes;
           kept = over_went.kept;
-          below = over_went.below;
           runs = λ t w h. second_ran refl over_went.runs (second_by t w) h e;
         }
 
@@ -81,14 +81,11 @@ module _ {table : List ℕ} {i : ℕ} {state m : List ℕ} {rooms : Rooms} where
         → (size_at table second < size_at table i) × CanRun 0 Any (lent table state m rooms) second
     goes_into (before, part, behind, o) = rw is (over_smaller o, (_, _, _, over_stands o))
 
-    module _ {state' m' : List ℕ} {rooms' : Rooms} {f : ℕ} (run : HasRun 0 Any (lent table state m rooms) second (lent table state' m' rooms') f) where
+    module _ {state' m' : List ℕ} {rooms' : Rooms} {f : Flag} (run : HasRun 0 Any (lent table state m rooms) second (lent table state' m' rooms') f) where
       pub second_writes_in : CanRun 1 InSecond (lent table state m rooms) i → 4 * i < length state'
       second_writes_in (before, part, behind, o) = over_writes o (run_at is run)
 
-      pub second_below : CanRun 1 InSecond (lent table state m rooms) i → f < 3
-      second_below (before, part, behind, o) = (over_went o (run_at is run)).below
-
-      pub second_done : {ph : ℕ} → ph ≡ phase_after (flag_of f) 2
+      pub second_done : {ph : ℕ} → ph ≡ phase_after f 2
           → HasRun 1 InSecond (lent table state m rooms) i (lent table (set state' (4 * i) ph) m' rooms') f
       second_done e before part behind o = second_went o (run_at is run) e
 
@@ -97,7 +94,7 @@ module _ {table : List ℕ} {i : ℕ} {state m : List ℕ} {rooms : Rooms} {W : 
   pub to_second : CanRun 0 W (lent table state m rooms) i → CanRun 1 InSecond (lent table state m rooms) i
   to_second o = to_phase (λ t w p. p) gone_over o
 
-  pub by_second : {L' : Lent} {r : ℕ} → HasRun 1 InSecond (lent table state m rooms) i L' r → HasRun 0 W (lent table state m rooms) i L' r
+  pub by_second : {L' : Lent} {r : Flag} → HasRun 1 InSecond (lent table state m rooms) i L' r → HasRun 0 W (lent table state m rooms) i L' r
   by_second run = by_phase (λ t w p. p) gone_over run
 
 -- in its first child
@@ -125,7 +122,7 @@ module _ {table : List ℕ} {i : ℕ} {state : List ℕ} (on : get_or state (4 *
   pub first_smaller : size_at table (i + 1) < size_at table i
   first_smaller = smaller_by table i (i + 1) (first_asks refl the o.live.2 1 refl).0
 
-  module _ {state₁ m₁ : List ℕ} {rooms₁ : Rooms} {f : ℕ} (run : HasRun 0 Any (lent table state m rooms) (i + 1) (lent table state₁ m₁ rooms₁) f) where
+  module _ {state₁ m₁ : List ℕ} {rooms₁ : Rooms} {f : Flag} (run : HasRun 0 Any (lent table state m rooms) (i + 1) (lent table state₁ m₁ rooms₁) f) where
     pub first_went : Went 0 Any (lent table state m rooms) (i + 1) (before ++ take 4 part) (first_of part (size_at table (i + 1)))
         (drop (4 + 4 * size_at table (i + 1) - 4) (drop 4 part) ++ behind) (lent table state₁ m₁ rooms₁) f
     first_went = run _ _ _ first_stands
@@ -136,30 +133,29 @@ module _ {table : List ℕ} {i : ℕ} {state : List ℕ} (on : get_or state (4 *
     pub around₁ : Around state₁ i before part₁ behind
     around₁ = outer o.around 4 (4 + 4 * size_at table (i + 1) - 4) first_went.around
 
-    pub seq_went : f ≢ 2 → Went 0 (OfKind seq_kind) (lent table state m rooms) i before part behind (lent table state₁ m₁ rooms₁) f
+    pub seq_went : f ≢ TERM → Went 0 (OfKind seq_kind) (lent table state m rooms) i before part behind (lent table state₁ m₁ rooms₁) f
     seq_went n =
         record {
           part' = part₁;
           around = around₁;
           kept = first_went.kept;
-          below = first_went.below;
-          runs = λ t w h. seq_waits refl first_went.runs (seq0 w h) h (not_term first_went.below n);
+          runs = λ t w h. seq_waits refl first_went.runs (seq0 w h) h n;
         }
 
-    module _ (ended : f ≡ 2) where
+    module _ (ended : f ≡ TERM) where
       pub now_over : Stands 1 InSecond (lent table state₁ m₁ rooms₁) i before part₁ behind
       now_over =
           record {
             around = around₁;
             numbers = still o.numbers first_went.kept;
-            live = over_asks refl first_went.runs the o.live.2 (is_term ended);
+            live = over_asks refl first_went.runs the o.live.2 ended;
           }
 
-      pub over_went_on : {L' : Lent} {r : ℕ} → HasRun 1 InSecond (lent table state₁ m₁ rooms₁) i L' r
+      pub over_went_on : {L' : Lent} {r : Flag} → HasRun 1 InSecond (lent table state₁ m₁ rooms₁) i L' r
           → Went 0 (OfKind seq_kind) (lent table state m rooms) i before part behind L' r
       over_went_on then =
           let g = then before part₁ behind now_over in
-          went_as first_went.kept g (λ t w h. seq_goes_over refl first_went.runs (seq0 w h) h (is_term ended) g.runs)
+          went_as first_went.kept g (λ t w h. seq_goes_over refl first_went.runs (seq0 w h) h ended g.runs)
 
 module _ {table : List ℕ} {i : ℕ} {state m : List ℕ} {rooms : Rooms} (on : get_or state (4 * i) 0 ≢ 3) (in_first : get_or state (4 * i) 0 ≢ 2) where
   pub seq_first : CanRun 0 (OfKind seq_kind) (lent table state m rooms) i → {k : ℕ} → weigh table i 2 ≡ k
@@ -170,12 +166,12 @@ module _ {table : List ℕ} {i : ℕ} {state m : List ℕ} {rooms : Rooms} (on :
   pub seq_second_in : CanRun 0 (OfKind seq_kind) (lent table state m rooms) i → 6 * i + 11 < length table
   seq_second_in (before, part, behind, o) = omega (arith, first_reads_in on in_first o)
 
-  module _ {state₁ m₁ : List ℕ} {rooms₁ : Rooms} {f : ℕ} (run : HasRun 0 Any (lent table state m rooms) (i + 1) (lent table state₁ m₁ rooms₁) f) where
-    pub seq_stays : f ≢ 2 → HasRun 0 (OfKind seq_kind) (lent table state m rooms) i (lent table state₁ m₁ rooms₁) f
+  module _ {state₁ m₁ : List ℕ} {rooms₁ : Rooms} {f : Flag} (run : HasRun 0 Any (lent table state m rooms) (i + 1) (lent table state₁ m₁ rooms₁) f) where
+    pub seq_stays : f ≢ TERM → HasRun 0 (OfKind seq_kind) (lent table state m rooms) i (lent table state₁ m₁ rooms₁) f
     seq_stays n before part behind o = seq_went on in_first o run n
 
     -- its first child has ended
-    pub seq_goes_on : f ≡ 2 → CanRun 0 (OfKind seq_kind) (lent table state m rooms) i
+    pub seq_goes_on : f ≡ TERM → CanRun 0 (OfKind seq_kind) (lent table state m rooms) i
         → GoesOnAs InSecond (OfKind seq_kind) (lent table state m rooms) i (lent table state₁ m₁ rooms₁)
     seq_goes_on e (before, part, behind, o) =
         record { can = (_, _, _, now_over on in_first o run e); has = λ then before part behind o. over_went_on on in_first o run e then }

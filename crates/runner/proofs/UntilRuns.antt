@@ -4,9 +4,12 @@ use mathlib.Core.Path.{◌≡◌, refl, ap, sym, ◌∙◌}
 use mathlib.Core.Logic.{◌≢◌}
 use mathlib.Core.List.{List, ◌++◌}
 use native.Mathlib.Omega.{arith}
+use borrow.Author.Rules.{rules}
 use lib.Dec.{lit<}
 use lib.ListN.{length, get_or, take, drop, set, replicate}
 use borrow.Rule.Slice.PartMut.{mid_len}
+use Rattle.junior.specs.declared.Flag.{Flag}
+use Rattle.junior.specs.declared.Flag.TheVariants.{SUSP, STOP, TERM}
 use Rattle.junior.specs.declared.Verdict.{Verdict}
 use Rattle.junior.specs.declared.Verdict.TheVariants.{Sat, Unsat, Unknown}
 use Rattle.junior.specs.Term.{Term}
@@ -15,19 +18,15 @@ use Rattle.state.specs.Kinds.{until_kind}
 use Rattle.state.proofs.Parts.{first_of, with_first}
 use Rattle.steps.specs.Running.{Rooms, Ready, Any, TestRead}
 use Rattle.steps.proofs.Children.{own_in}
-use Rattle.steps.proofs.Awaits.{ranked_0, ranked_1, ranked_2}
 use Rattle.steps.proofs.Tally.{not_ended, is_ended}
 use Rattle.steps.specs.Numbers.{ended_at, words_of, tally_of}
 use Rattle.steps.specs.Kinds.{OfKind, InSecond}
 use Rattle.runner.proofs.Stages.{Starred}
-use Rattle.steps.specs.Tests.{CanTest, TestRanked, body_cleared, StarRead, waits, refused, satisfied_late, satisfied}
-use Rattle.std.specs.Borrow.{MutBor}
-use Rattle.steps.specs.Lent.{Lent, lent, state_in, Around, Stands, Went, CanRun, HasRun}
+use Rattle.steps.specs.Tests.{CanTest, TestIs, body_cleared, StarRead, waits, refused, satisfied_late, satisfied}
+use Rattle.steps.specs.Lent.{Lent, lent, Around, Stands, Went, CanRun, HasRun}
 use Rattle.steps.proofs.Context.{inner, outer, phase_at_lem, put_phase, byte_in, put_part}
 use Rattle.steps.proofs.Row.{kept_same, still}
-use Rattle.steps.proofs.FlagNumbers.{is_stop, not_stop}
-use Rattle.steps.proofs.Dispatch.{phase_is, phase_reads}
-use Rattle.steps.proofs.Slices.{with, put, in_array}
+use Rattle.steps.proofs.Dispatch.{phase_is}
 use Rattle.steps.proofs.ChildContext.{child_stands}
 use Rattle.runner.proofs.Until.{Until0, until0_by, body_asks, until_waits, star_asks, until_stops}
 use Rattle.runner.proofs.Until.{Star, star_by, star_has, star_waits, star_fails, star_reads, star_fits}
@@ -60,7 +59,7 @@ module _ {table : List ℕ} {i : ℕ} {state : List ℕ} (on : get_or state (4 *
     body_smaller : size_at table (i + 1) < size_at table i
     body_smaller = smaller_by table i (i + 1) (body_asks refl the o.live.2 1 refl).0
 
-    module _ {state₁ m₁ : List ℕ} {rooms₁ : Rooms} {f : ℕ} (run : HasRun 0 Any (lent table state m rooms) (i + 1) (lent table state₁ m₁ rooms₁) f) where
+    module _ {state₁ m₁ : List ℕ} {rooms₁ : Rooms} {f : Flag} (run : HasRun 0 Any (lent table state m rooms) (i + 1) (lent table state₁ m₁ rooms₁) f) where
       body_went : Went 0 Any (lent table state m rooms) (i + 1) (before ++ take 4 part) (first_of part n)
           (drop (4 + 4 * n - 4) (drop 4 part) ++ behind) (lent table state₁ m₁ rooms₁) f
       body_went = run _ _ _ body_stands
@@ -71,31 +70,30 @@ module _ {table : List ℕ} {i : ℕ} {state : List ℕ} (on : get_or state (4 *
       around₁ : Around state₁ i before part₁ behind
       around₁ = outer o.around 4 (4 + 4 * n - 4) body_went.around
 
-      until_went : f ≢ 1 → Went 0 (OfKind until_kind) (lent table state m rooms) i before part behind (lent table state₁ m₁ rooms₁) f
+      until_went : f ≢ STOP → Went 0 (OfKind until_kind) (lent table state m rooms) i before part behind (lent table state₁ m₁ rooms₁) f
       until_went a =
           record {
             part' = part₁;
             around = around₁;
             kept = body_went.kept;
-            below = body_went.below;
-            runs = λ t w h. until_waits refl body_went.runs (in_body o.around w h) h (not_stop body_went.below a);
+            runs = λ t w h. until_waits refl body_went.runs (in_body o.around w h) h a;
           }
 
-      module _ (stopped : f ≡ 1) where
+      module _ (stopped : f ≡ STOP) where
         now_star : Stands 1 Starred (lent table state₁ m₁ rooms₁) i before part₁ behind
         now_star =
             record {
               around = around₁;
               numbers = still o.numbers body_went.kept;
-              live = star_asks refl body_went.runs the o.live.2 (is_stop stopped);
+              live = star_asks refl body_went.runs the o.live.2 stopped;
             }
 
-        star_went : {L' : Lent} {r : ℕ} → HasRun 1 Starred (lent table state₁ m₁ rooms₁) i L' r
+        star_went : {L' : Lent} {r : Flag} → HasRun 1 Starred (lent table state₁ m₁ rooms₁) i L' r
             → Went 0 (OfKind until_kind) (lent table state m rooms) i before part behind L' r
         star_went then =
             let g = then before part₁ behind now_star in
             went_as body_went.kept g
-            (λ t w h. until_stops refl body_went.runs (in_body o.around w h) h (is_stop stopped) g.runs)
+            (λ t w h. until_stops refl body_went.runs (in_body o.around w h) h stopped g.runs)
 
   -- in the words of the needs
   module _ {m : List ℕ} {rooms : Rooms} where
@@ -103,11 +101,11 @@ module _ {table : List ℕ} {i : ℕ} {state : List ℕ} (on : get_or state (4 *
         → (size_at table (i + 1) < size_at table i) × CanRun 0 Any (lent table state m rooms) (i + 1)
     until_first (before, part, behind, o) = (body_smaller o, (_, _, _, body_stands o))
 
-    module _ {state₁ m₁ : List ℕ} {rooms₁ : Rooms} {f : ℕ} (run : HasRun 0 Any (lent table state m rooms) (i + 1) (lent table state₁ m₁ rooms₁) f) where
-      pub until_stays : f ≢ 1 → HasRun 0 (OfKind until_kind) (lent table state m rooms) i (lent table state₁ m₁ rooms₁) f
+    module _ {state₁ m₁ : List ℕ} {rooms₁ : Rooms} {f : Flag} (run : HasRun 0 Any (lent table state m rooms) (i + 1) (lent table state₁ m₁ rooms₁) f) where
+      pub until_stays : f ≢ STOP → HasRun 0 (OfKind until_kind) (lent table state m rooms) i (lent table state₁ m₁ rooms₁) f
       until_stays a before part behind o = until_went o run a
 
-      pub until_starred : f ≡ 1 → CanRun 0 (OfKind until_kind) (lent table state m rooms) i
+      pub until_starred : f ≡ STOP → CanRun 0 (OfKind until_kind) (lent table state m rooms) i
           → GoesOnAs Starred (OfKind until_kind) (lent table state m rooms) i (lent table state₁ m₁ rooms₁)
       until_starred e (before, part, behind, o) =
           record { can = (_, _, _, now_star o run e); has = λ then before part behind o. star_went o run e then }
@@ -163,7 +161,7 @@ module _ {table : List ℕ} {i : ℕ} {state m : List ℕ} {rooms : Rooms} {befo
           record { around = around_cleared; numbers = o.numbers; live = handler_live reads refl zeros_are the_star o.live.2 }
 
       module _ (sat : v ≡ Sat) where
-        handler_went : get_or m ended_at 0 ≡ 0 → {L' : Lent} {r : ℕ}
+        handler_went : get_or m ended_at 0 ≡ 0 → {L' : Lent} {r : Flag}
             → HasRun 1 InSecond (lent table (body_cleared (4 * i) (4 * second) state) m rooms) i L' r
             → Went 1 Starred (lent table state m rooms) i before part behind L' r
         handler_went z run =
@@ -172,22 +170,21 @@ module _ {table : List ℕ} {i : ℕ} {state m : List ℕ} {rooms : Rooms} {befo
 
         next_went : get_or m ended_at 0 ≢ 0
             → Went 1 Starred (lent table state m rooms) i before part behind
-            (lent table (set (body_cleared (4 * i) (4 * second) state) (4 * i) 2) m rooms) 1
+            (lent table (set (body_cleared (4 * i) (4 * second) state) (4 * i) 2) m rooms) STOP
         next_went z =
             record {
               part' = set cleared 0 2;
               around = put_phase around_cleared 2 (handler_writes reads refl zeros_are the_star o.live.2);
               kept = kept_same m;
-              below = lit< tt;
               runs = λ t w h. handler_later reads refl zeros_are (star_by t w) h sat (is_ended z);
             }
 
 -- node i, of which U holds in L and whose test has been read, has answered f in L₁; where f is TERM, it goes on there in its handler
-pub record AfterTest (U : Term → Type 0) (L : Lent) (i : ℕ) (L₁ : Lent) (f : ℕ) : Type 0 where
-  pub answers : f ≢ 2 → HasRun 0 U L i L₁ f
-  pub to_handler : f ≡ 2 → GoesOnAs InSecond U L i L₁
+pub record AfterTest (U : Term → Type 0) (L : Lent) (i : ℕ) (L₁ : Lent) (f : Flag) : Type 0 where
+  pub answers : f ≢ TERM → HasRun 0 U L i L₁ f
+  pub to_handler : f ≡ TERM → GoesOnAs InSecond U L i L₁
 
-answered : {U : Term → Type 0} {L : Lent} {i : ℕ} {L₁ : Lent} {f : ℕ} → f ≢ 2 → HasRun 0 U L i L₁ f → AfterTest U L i L₁ f
+answered : {U : Term → Type 0} {L : Lent} {i : ℕ} {L₁ : Lent} {f : Flag} → f ≢ TERM → HasRun 0 U L i L₁ f → AfterTest U L i L₁ f
 answered n run = record { answers = λ _. run; to_handler = λ e. absurd (n e) }
 
 -- in the words of the needs
@@ -208,48 +205,38 @@ module _ {table : List ℕ} {i : ℕ} {state m : List ℕ} {rooms : Rooms} where
     star_body (before, part, behind, o) = (omega arith, omega (arith, body_ends o))
 
   module _ {v : Verdict} (reads : TestRead table i (words_of m) (tally_of m) v) where
-    star_suspends : v ≡ Unknown → HasRun 1 Starred (lent table state m rooms) i (lent table (set state (4 * i) 1) m rooms) 0
+    star_suspends : v ≡ Unknown → HasRun 1 Starred (lent table state m rooms) i (lent table (set state (4 * i) 1) m rooms) SUSP
     star_suspends is before part behind o =
         record {
           part' = set part 0 1;
           around = put_phase o.around 1 (own_in o.live.2 0 (lit< tt));
           kept = kept_same m;
-          below = lit< tt;
           runs = λ t w h. star_waits reads (star_by t w) h is;
         }
 
-    star_refused : v ≡ Unsat → HasRun 1 Starred (lent table state m rooms) i (lent table (set state (4 * i) 0) m rooms) 1
+    star_refused : v ≡ Unsat → HasRun 1 Starred (lent table state m rooms) i (lent table (set state (4 * i) 0) m rooms) STOP
     star_refused is before part behind o =
         record {
           part' = set part 0 0;
           around = put_phase o.around 0 (own_in o.live.2 0 (lit< tt));
           kept = kept_same m;
-          below = lit< tt;
           runs = λ t w h. star_fails reads (star_by t w) h is;
         }
 
   -- by the rules: it answers, or the handler begins
-  module _ {U : Term → Type 0} {L : Lent} (on : GoesOnAs Starred U L i (lent table state m rooms)) {rank : ℕ} (reads : TestRanked table i m rank)
+  module _ {U : Term → Type 0} {L : Lent} (on : GoesOnAs Starred U L i (lent table state m rooms)) {v : Verdict} (reads : TestIs table i m v)
       {second : ℕ} (is : second ≡ second_child table i) where
-    pub star_read : {state₁ : List ℕ} {f : ℕ} → StarRead rank (get_or m ended_at 0) (4 * i) (4 * second) state state₁ f
+    pub star_read : {state₁ : List ℕ} {f : Flag} → StarRead v (get_or m ended_at 0) (4 * i) (4 * second) state state₁ f
         → AfterTest U L i (lent table state₁ m rooms) f
-    star_read (waits e) = answered (λ n. omega arith) (on.has (star_suspends reads (ranked_1 e)))
-    star_read (refused e) = answered (λ n. omega arith) (on.has (star_refused reads (ranked_0 e)))
-    star_read (satisfied_late a b z) = answered (λ n. omega arith) (on.has (λ before part behind o. next_went o is reads (ranked_2 a b) z))
-    star_read (satisfied a b z) =
+    star_read (waits e) = answered (λ n. search rules) (on.has (star_suspends reads e))
+    star_read (refused e) = answered (λ n. search rules) (on.has (star_refused reads e))
+    star_read (satisfied_late e z) = answered (λ n. search rules) (on.has (λ before part behind o. next_went o is reads e z))
+    star_read (satisfied e z) =
         let (before, part, behind, o) = on.can in
         record {
           answers = λ n. absurd (n refl);
-          to_handler = λ e. record {
+          to_handler = λ _. record {
             can = (_, _, _, handler_stands o is reads);
-            has = λ run. on.has (λ before part behind o. handler_went o is reads (ranked_2 a b) z run);
+            has = λ run. on.has (λ before part behind o. handler_went o is reads e z run);
           };
         }
-
--- the same where the state is one of the slices
-pub star_read_in : {table m row : List ℕ} {i : ℕ} {U : Term → Type 0} {L : Lent} (slices : List (MutBor (List ℕ))) → GoesOnAs Starred U L i (with table slices m row)
-    → {rank : ℕ} → TestRanked table i m rank → {second : ℕ} → second ≡ second_child table i
-    → {bytes : List ℕ} {f : ℕ} → StarRead rank (get_or m ended_at 0) (4 * i) (4 * second) (state_in slices).now bytes f
-    → AfterTest U L i (with table (put slices 0 bytes) m row) f
-star_read_in {i = i} {U = U} {L = L} slices on reads is {bytes} {f} e =
-    in_array (λ L₁. AfterTest U L i L₁ f) slices bytes (phase_reads on.can) (star_read on reads is e)

@@ -5,14 +5,16 @@ use mathlib.Core.Path.{◌≡◌, refl, sym, ◌∙◌}
 use mathlib.Core.Logic.{◌≢◌}
 use mathlib.Core.List.{List, ◌++◌}
 use native.Mathlib.Omega.{arith}
-use lib.Dec.{lit<, eqb}
+use lib.Dec.{lit<}
 use lib.ListN.{length, get_or, take, drop, set}
-use borrow.Author.Tests.{eqb-true, eqb-false}
+use denote.Enum.Bare.{sameb, same_true, same_false}
+use Rattle.junior.specs.declared.Flag.{Flag}
+use Rattle.junior.specs.declared.Flag.TheVariants.{SUSP, STOP}
+use Rattle.junior.specs.contracts.Verdict.{the_type}
 use Rattle.junior.specs.declared.Verdict.{Verdict}
 use Rattle.junior.specs.declared.Verdict.TheVariants.{Sat, Unsat, Unknown}
 use Rattle.junior.specs.Term.{Term}
 use Rattle.table.specs.Records.{size_at, kind_at}
-use Rattle.table.specs.Inside.Ranks.{unranked}
 use Rattle.state.specs.Kinds.{when_kind, if_kind}
 use Rattle.state.proofs.Parts.{first_of, with_first}
 use Rattle.steps.specs.Running.{Rooms, Ready, Any, TestRead, phase_after}
@@ -21,13 +23,11 @@ use Rattle.steps.proofs.Tally.{not_ended, is_ended}
 use Rattle.steps.specs.Numbers.{ended_at, words_of, tally_of}
 use Rattle.steps.specs.Kinds.{OfKind, InSecond, Choice}
 use Rattle.runner.proofs.Stages.{InThen}
-use Rattle.steps.specs.Flags.{flag_of}
-use Rattle.steps.specs.Tests.{CanTest, TestRanked}
+use Rattle.steps.specs.Tests.{CanTest, TestIs}
 use Rattle.steps.specs.Lent.{Lent, lent, Around, Stands, Went, CanRun, HasRun}
 use Rattle.steps.proofs.Context.{outer, phase_in, put_phase}
 use Rattle.steps.proofs.Row.{kept_same}
 use Rattle.steps.proofs.Dispatch.{phase_is, to_kind}
-use Rattle.steps.proofs.Awaits.{ranked_0, ranked_2}
 use Rattle.steps.proofs.ChildContext.{child_stands}
 use Rattle.runner.proofs.When.{Then, then_by, then_asks, then_writes, then_ran}
 use Rattle.runner.proofs.When.{When0, when0_by, when_has, when_waits, then_live, then_goes, then_later, else_live, else_goes, else_later}
@@ -54,7 +54,7 @@ module _ {table : List ℕ} {i : ℕ} {state m : List ℕ} {rooms : Rooms} {befo
   branch_smaller : size_at table (i + 1) < size_at table i
   branch_smaller = smaller_by table i (i + 1) (then_asks refl the o.live.2 1 refl).0
 
-  module _ {state' m' : List ℕ} {rooms' : Rooms} {f : ℕ} (run : HasRun 0 Any (lent table state m rooms) (i + 1) (lent table state' m' rooms') f) where
+  module _ {state' m' : List ℕ} {rooms' : Rooms} {f : Flag} (run : HasRun 0 Any (lent table state m rooms) (i + 1) (lent table state' m' rooms') f) where
     branch_went : Went 0 Any (lent table state m rooms) (i + 1) (before ++ take 4 part) (first_of part n)
         (drop (4 + 4 * n - 4) (drop 4 part) ++ behind) (lent table state' m' rooms') f
     branch_went = run _ _ _ branch_stands
@@ -68,14 +68,13 @@ module _ {table : List ℕ} {i : ℕ} {state m : List ℕ} {rooms : Rooms} {befo
     own_back : 0 < length part_back
     own_back = then_writes refl branch_went.runs the o.live.2
 
-    then_went : {ph : ℕ} → ph ≡ phase_after (flag_of f) 1
+    then_went : {ph : ℕ} → ph ≡ phase_after f 1
         → Went 1 InThen (lent table state m rooms) i before part behind (lent table (set state' (4 * i) ph) m' rooms') f
     then_went {ph} e =
         record {
           part' = set part_back 0 ph;
           around = put_phase around_back ph own_back;
           kept = branch_went.kept;
-          below = branch_went.below;
           runs = λ t w h. then_ran refl branch_went.runs (then_by t w) h e;
         }
 
@@ -85,23 +84,25 @@ module _ {table : List ℕ} {i : ℕ} {state m : List ℕ} {rooms : Rooms} where
       → (size_at table (i + 1) < size_at table i) × CanRun 0 Any (lent table state m rooms) (i + 1)
   then_first (before, part, behind, o) = (branch_smaller o, (_, _, _, branch_stands o))
 
-  module _ {state' m' : List ℕ} {rooms' : Rooms} {f : ℕ} (run : HasRun 0 Any (lent table state m rooms) (i + 1) (lent table state' m' rooms') f) where
+  module _ {state' m' : List ℕ} {rooms' : Rooms} {f : Flag} (run : HasRun 0 Any (lent table state m rooms) (i + 1) (lent table state' m' rooms') f) where
     pub then_writes_in : CanRun 1 InThen (lent table state m rooms) i → 4 * i < length state'
     then_writes_in (before, part, behind, o) = phase_in (around_back o run) (own_back o run)
 
-    pub then_below : CanRun 1 InThen (lent table state m rooms) i → f < 3
-    then_below (before, part, behind, o) = (branch_went o run).below
-
-    pub then_done : {ph : ℕ} → ph ≡ phase_after (flag_of f) 1
+    pub then_done : {ph : ℕ} → ph ≡ phase_after f 1
         → HasRun 1 InThen (lent table state m rooms) i (lent table (set state' (4 * i) ph) m' rooms') f
     then_done e before part behind o = then_went o run e
 
--- what its test is read as, by its rank
-unsat_by : (rank : ℕ) {second : Bool} → second ≡ eqb rank 0 → second ≡ true → unranked rank ≡ Unsat
-unsat_by rank says e = ranked_0 (eqb-true _ _ (sym says ∙ e))
+-- a test that isn't unknown is satisfied or isn't
+not_unsat : (v : Verdict) → v ≢ Unknown → v ≢ Unsat → v ≡ Sat
+not_unsat Sat known n = refl
+not_unsat Unsat known n = absurd (n refl)
+not_unsat Unknown known n = absurd (known refl)
 
-sat_by : (rank : ℕ) → rank ≢ 1 → {second : Bool} → second ≡ eqb rank 0 → second ≡ false → unranked rank ≡ Sat
-sat_by rank known says e = ranked_2 known (eqb-false _ _ (sym says ∙ e))
+unsat_by : (v : Verdict) {second : Bool} → second ≡ sameb the_type v Unsat → second ≡ true → v ≡ Unsat
+unsat_by v says e = same_true the_type tt v Unsat (sym says ∙ e)
+
+sat_by : (v : Verdict) → v ≢ Unknown → {second : Bool} → second ≡ sameb the_type v Unsat → second ≡ false → v ≡ Sat
+sat_by v known says e = not_unsat v known (same_false the_type v Unsat (sym says ∙ e))
 
 -- a When that tests
 module _ {table : List ℕ} {i : ℕ} {state : List ℕ} (untested : get_or state (4 * i) 0 ≡ 0) where
@@ -129,75 +130,72 @@ module _ {table : List ℕ} {i : ℕ} {state : List ℕ} (untested : get_or stat
     now_else (before, part, behind, o) = (_, _, _, else_stands o)
 
     module _ {v : Verdict} (reads : TestRead table i (words_of m) (tally_of m) v) where
-      pub when_suspends : v ≡ Unknown → HasRun 0 (OfKind when_kind) (lent table state m rooms) i (lent table state m rooms) 0
+      pub when_suspends : v ≡ Unknown → HasRun 0 (OfKind when_kind) (lent table state m rooms) i (lent table state m rooms) SUSP
       when_suspends is before part behind o =
           record {
             part' = part;
             around = o.around;
             kept = kept_same m;
-            below = lit< tt;
             runs = λ t w h. when_waits reads (testing o.around w h) h is;
           }
 
       -- a branch begins, or waits for the next instant
       module _ (is : v ≡ Sat) where
-        then_begins : get_or m ended_at 0 ≡ 0 → {L' : Lent} {r : ℕ} → HasRun 1 InThen (lent table state m rooms) i L' r
+        then_begins : get_or m ended_at 0 ≡ 0 → {L' : Lent} {r : Flag} → HasRun 1 InThen (lent table state m rooms) i L' r
             → HasRun 0 (OfKind when_kind) (lent table state m rooms) i L' r
         then_begins z run before part behind o =
             let g = run before part behind (then_stands o) in
             went_as (kept_same m) g (λ t w h. then_goes reads (testing o.around w h) h is (not_ended z) g.runs)
 
         then_next : get_or m ended_at 0 ≢ 0
-            → HasRun 0 (OfKind when_kind) (lent table state m rooms) i (lent table (set state (4 * i) 1) m rooms) 1
+            → HasRun 0 (OfKind when_kind) (lent table state m rooms) i (lent table (set state (4 * i) 1) m rooms) STOP
         then_next z before part behind o =
             record {
               part' = set part 0 1;
               around = put_phase o.around 1 (own_in o.live.2 0 (lit< tt));
               kept = kept_same m;
-              below = lit< tt;
               runs = λ t w h. then_later reads (testing o.around w h) h is (is_ended z);
             }
 
       module _ (is : v ≡ Unsat) where
-        else_begins : get_or m ended_at 0 ≡ 0 → {L' : Lent} {r : ℕ} → HasRun 1 InSecond (lent table state m rooms) i L' r
+        else_begins : get_or m ended_at 0 ≡ 0 → {L' : Lent} {r : Flag} → HasRun 1 InSecond (lent table state m rooms) i L' r
             → HasRun 0 (OfKind when_kind) (lent table state m rooms) i L' r
         else_begins z run before part behind o =
             let g = run before part behind (else_stands o) in
             went_as (kept_same m) g (λ t w h. else_goes reads (testing o.around w h) h is (not_ended z) g.runs)
 
         else_next : get_or m ended_at 0 ≢ 0
-            → HasRun 0 (OfKind when_kind) (lent table state m rooms) i (lent table (set state (4 * i) 2) m rooms) 1
+            → HasRun 0 (OfKind when_kind) (lent table state m rooms) i (lent table (set state (4 * i) 2) m rooms) STOP
         else_next z before part behind o =
             record {
               part' = set part 0 2;
               around = put_phase o.around 2 (own_in o.live.2 0 (lit< tt));
               kept = kept_same m;
-              below = lit< tt;
               runs = λ t w h. else_later reads (testing o.around w h) h is (is_ended z);
             }
 
-    -- by the rank of its test
-    module _ {rank : ℕ} (reads : TestRanked table i m rank) (known : rank ≢ 1) {second : Bool} (says : second ≡ eqb rank 0) where
+    -- by what its test is read as
+    module _ {v : Verdict} (reads : TestIs table i m v) (known : v ≢ Unknown) {second : Bool} (says : second ≡ sameb the_type v Unsat) where
       pub when_chooses : get_or m ended_at 0 ≡ 0 → CanRun 0 (OfKind when_kind) (lent table state m rooms) i
           → Branches (OfKind when_kind) (lent table state m rooms) i second
       when_chooses z o =
           record {
-            to_second = λ e. record { can = now_else o; has = λ run. else_begins reads (unsat_by rank says e) z run };
-            to_first = λ e. record { can = now_then o; has = λ run. then_begins reads (sat_by rank known says e) z run };
+            to_second = λ e. record { can = now_else o; has = λ run. else_begins reads (unsat_by v says e) z run };
+            to_first = λ e. record { can = now_then o; has = λ run. then_begins reads (sat_by v known says e) z run };
           }
 
       waits : get_or m ended_at 0 ≢ 0 → (b : Bool) → second ≡ b
-          → HasRun 0 (OfKind when_kind) (lent table state m rooms) i (lent table (set state (4 * i) (cond b 2 1)) m rooms) 1
-      waits z true e = else_next reads (unsat_by rank says e) z
-      waits z false e = then_next reads (sat_by rank known says e) z
+          → HasRun 0 (OfKind when_kind) (lent table state m rooms) i (lent table (set state (4 * i) (cond b 2 1)) m rooms) STOP
+      waits z true e = else_next reads (unsat_by v says e) z
+      waits z false e = then_next reads (sat_by v known says e) z
 
       pub when_stops : get_or m ended_at 0 ≢ 0 → {ph : ℕ} → ph ≡ cond second 2 1
-          → HasRun 0 (OfKind when_kind) (lent table state m rooms) i (lent table (set state (4 * i) ph) m rooms) 1
+          → HasRun 0 (OfKind when_kind) (lent table state m rooms) i (lent table (set state (4 * i) ph) m rooms) STOP
       when_stops z is = rw is (waits z second refl)
 
 -- the same of a node of either kind that is read to be no If
 pub when_branches : {table : List ℕ} {i : ℕ} {state m : List ℕ} {rooms : Rooms} {n : ℕ} → n ≡ kind_at table i → n ≢ if_kind → get_or state (4 * i) 0 ≡ 0
-    → {rank : ℕ} → TestRanked table i m rank → rank ≢ 1 → {second : Bool} → second ≡ eqb rank 0 → get_or m ended_at 0 ≡ 0
+    → {v : Verdict} → TestIs table i m v → v ≢ Unknown → {second : Bool} → second ≡ sameb the_type v Unsat → get_or m ended_at 0 ≡ 0
     → CanRun 0 Choice (lent table state m rooms) i
     → Branches Choice (lent table state m rooms) i second
 when_branches read other zero reads known says z o =

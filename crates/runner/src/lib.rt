@@ -6,277 +6,219 @@
 ghost use Rattle.state.specs.Kinds.{seq_kind, loop_kind, control_kind, local_kind};
 ghost use Rattle.steps.specs.Running.{Any};
 ghost use Rattle.steps.specs.Kinds.{all_seen, phase_unseen, OfKind, Repetition, Choice, Break, BothSuspended, NotBoth, InSecond};
-ghost use Rattle.steps.specs.Lent.{held, CanRun, HasRun, Named};
+ghost use Rattle.steps.specs.Lent.{CanPass, HasPassed};
 
+use junior::{Flag, Verdict};
 use steps::flags::{
-    STOP, SUSP, TERM, both_ran, first_ran, heard_above, par_end, phase_after, second_ran,
-    sign_after,
+    both_ran, first_ran, flag_at, heard_above, par_end, phase_after, second_ran, sign_after,
 };
-use steps::kinds;
-use steps::leaves::{
-    UNKNOWN, UNSAT, read_star, run_atom, run_await, run_generate, run_nothing, run_stop, test_rank,
-};
-use steps::numbers::{ENDED, NUMBERS, exchange_event, has_event, times_at, value_of};
+use steps::leaves::{read_star, run_atom, run_await, run_generate, run_nothing, run_stop, test_at};
+use steps::numbers::{ENDED, exchange_event, has_event, times_at, value_of};
 use steps::parking::{run_pending, stays_pending};
 use steps::phases::{
-    BEGUN, COUNT, FLAGS, GONE, PLUS, SECOND, STARRED, STATE, THEN, begin_turn, both_suspended,
-    chosen, end_turns, turns_left,
+    BEGUN, COUNT, FLAGS, GONE, PLUS, SECOND, STARRED, THEN, begin_turn, both_suspended, chosen,
+    end_turns, turns_left,
 };
+use steps::{Pass, kinds};
 use table::records::{argument_at, kind_at, second_at};
 
 // Runs node i once. The most frequent kinds are told apart first.
 #[cycle(run)]
-pub fn run_child(
-    table: &&[u8],
-    i: usize,
-    bytes: &mut [&mut [u8]; 2],
-    numbers: &mut [u64; NUMBERS],
-    atoms: &mut &mut [u16],
-) -> u8
-    requires { CanRun all_seen Any (held table bytes numbers atoms) i }
-    ensures has_run { HasRun all_seen Any (held table.entry bytes.entry numbers.entry atoms.entry) i
-        (held table.exit bytes.exit numbers.exit atoms.exit) result }
-    ensures named { Named bytes.old bytes.new atoms.old atoms.new }
+pub fn run_child(pass: &mut Pass, i: usize) -> Flag
+    requires { CanPass all_seen Any pass.old i }
+    ensures { HasPassed all_seen Any pass.old i pass.new result }
 {
-    let kind = kind_at(*table, i);
+    let kind = kind_at(pass.table, i);
     if kind == kinds::PAR {
-        if both_suspended(bytes[STATE][4 * i], bytes[STATE][4 * i + FLAGS]) {
-            return run_par(table, i, bytes, numbers, atoms);
+        if both_suspended(pass.state[4 * i], pass.state[4 * i + FLAGS]) {
+            return run_par(pass, i);
         }
-        return run_half(table, i, bytes, numbers, atoms);
+        return run_half(pass, i);
     }
     if kind == kinds::AWAIT {
-        return run_await(table, i, bytes, numbers);
+        return run_await(pass, i);
     }
     if kind == kinds::SEQ {
-        return run_seq(table, i, bytes, numbers, atoms);
+        return run_seq(pass, i);
     }
     match kind {
-        kinds::NOTHING => run_nothing(table, i, bytes, numbers),
-        kinds::STOP => run_stop(table, i, bytes, numbers),
-        kinds::ATOM => run_atom(table, i, bytes, numbers, atoms),
-        kinds::LOOP => run_loop(table, i, bytes, numbers, atoms),
-        kinds::REPEAT => run_repeat(table, i, bytes, numbers, atoms),
-        kinds::REPEAT_EXT => run_repeat(table, i, bytes, numbers, atoms),
-        kinds::GENERATE => run_generate(table, i, bytes, numbers),
-        kinds::WHEN => run_when(table, i, bytes, numbers, atoms),
-        kinds::UNTIL => run_until(table, i, bytes, numbers, atoms),
-        kinds::CONTROL => run_control(table, i, bytes, numbers, atoms),
+        kinds::NOTHING => run_nothing(pass, i),
+        kinds::STOP => run_stop(pass, i),
+        kinds::ATOM => run_atom(pass, i),
+        kinds::LOOP => run_loop(pass, i),
+        kinds::REPEAT => run_repeat(pass, i),
+        kinds::REPEAT_EXT => run_repeat(pass, i),
+        kinds::GENERATE => run_generate(pass, i),
+        kinds::WHEN => run_when(pass, i),
+        kinds::UNTIL => run_until(pass, i),
+        kinds::CONTROL => run_control(pass, i),
         kinds::FREEZABLE => {
-            if stays_pending(*table, i, bytes[STATE][4 * i], numbers) {
-                return SUSP;
+            if stays_pending(pass.table, i, pass.state[4 * i], &pass.numbers) {
+                return Flag::SUSP;
             }
-            run_until(table, i, bytes, numbers, atoms)
+            run_until(pass, i)
         }
-        kinds::IF => run_when(table, i, bytes, numbers, atoms),
-        _ => run_local(table, i, bytes, numbers, atoms),
+        kinds::IF => run_when(pass, i),
+        _ => run_local(pass, i),
     }
 }
 
 // Rule 8: both branches run. Where the first is suspended, so is the Par, whatever its second answers: a second that is such a Par is gone on with
 // here and not by a call. `above` is the Par whose second branch `at` is, its first being suspended; `at` itself at the first turn.
 #[cycle(run)]
-fn run_par(
-    table: &&[u8],
-    i: usize,
-    bytes: &mut [&mut [u8]; 2],
-    numbers: &mut [u64; NUMBERS],
-    atoms: &mut &mut [u16],
-) -> u8
-    requires { CanRun all_seen BothSuspended (held table bytes numbers atoms) i }
-    ensures has_run { HasRun all_seen BothSuspended (held table.entry bytes.entry numbers.entry atoms.entry) i
-        (held table.exit bytes.exit numbers.exit atoms.exit) result }
-    ensures named { Named bytes.old bytes.new atoms.old atoms.new }
+fn run_par(pass: &mut Pass, i: usize) -> Flag
+    requires { CanPass all_seen BothSuspended pass.old i }
+    ensures { HasPassed all_seen BothSuspended pass.old i pass.new result }
 {
     let mut above = i;
     let mut at = i;
     loop {
-        let f = run_child(table, at + 1, bytes, numbers, atoms);
-        let second = second_at(*table, at);
-        let g = if kind_at(*table, second) != kinds::PAR {
-            run_child(table, second, bytes, numbers, atoms)
-        } else if both_suspended(bytes[STATE][4 * second], bytes[STATE][4 * second + FLAGS]) {
-            if f == SUSP {
+        let f = run_child(pass, at + 1);
+        let second = second_at(pass.table, at);
+        let g = if kind_at(pass.table, second) != kinds::PAR {
+            run_child(pass, second)
+        } else if both_suspended(pass.state[4 * second], pass.state[4 * second + FLAGS]) {
+            if f == Flag::SUSP {
                 above = at;
                 at = second;
                 continue;
             }
-            run_par(table, second, bytes, numbers, atoms)
+            run_par(pass, second)
         } else {
-            run_half(table, second, bytes, numbers, atoms)
+            run_half(pass, second)
         };
-        if f == SUSP {
-            return second_ran(bytes[STATE], 4 * at, 4 * second, g);
+        if f == Flag::SUSP {
+            return second_ran(pass.state, 4 * at, 4 * second, g);
         }
-        let r = both_ran(bytes[STATE], 4 * at, 4 * second, f, g);
-        return heard_above(bytes[STATE], 4 * above, 4 * at, r);
+        let r = both_ran(pass.state, 4 * at, 4 * second, f, g);
+        return heard_above(pass.state, 4 * above, 4 * at, r);
     }
 }
 
 // Rules 10 and 11: a branch flagged STOP or TERM is not run.
 #[cycle(run)]
-fn run_half(
-    table: &&[u8],
-    i: usize,
-    bytes: &mut [&mut [u8]; 2],
-    numbers: &mut [u64; NUMBERS],
-    atoms: &mut &mut [u16],
-) -> u8
-    requires { CanRun all_seen NotBoth (held table bytes numbers atoms) i }
-    ensures has_run { HasRun all_seen NotBoth (held table.entry bytes.entry numbers.entry atoms.entry) i
-        (held table.exit bytes.exit numbers.exit atoms.exit) result }
-    ensures named { Named bytes.old bytes.new atoms.old atoms.new }
+fn run_half(pass: &mut Pass, i: usize) -> Flag
+    requires { CanPass all_seen NotBoth pass.old i }
+    ensures { HasPassed all_seen NotBoth pass.old i pass.new result }
 {
-    if bytes[STATE][4 * i] == GONE {
-        bytes[STATE][4 * i] = 0;
-        return TERM;
+    if pass.state[4 * i] == GONE {
+        pass.state[4 * i] = 0;
+        return Flag::TERM;
     }
-    let flags = bytes[STATE][4 * i + FLAGS];
-    let second = second_at(*table, i);
-    let f = flags % 4;
-    if f == SUSP {
-        let g = flags / 4;
-        let f = run_child(table, i + 1, bytes, numbers, atoms);
-        return first_ran(bytes[STATE], 4 * i, 4 * second, f, g);
+    let flags = pass.state[4 * i + FLAGS];
+    let second = second_at(pass.table, i);
+    let low = flags % 4;
+    if low == 0 {
+        let g = flag_at(flags / 4);
+        let f = run_child(pass, i + 1);
+        return first_ran(pass.state, 4 * i, 4 * second, f, g);
     }
-    let g = run_child(table, second, bytes, numbers, atoms);
-    par_end(bytes[STATE], 4 * i, 4 * second, f, g)
+    let g = run_child(pass, second);
+    par_end(pass.state, 4 * i, 4 * second, flag_at(low), g)
 }
 
 // Rules 4 and 5.
 #[cycle(run)]
-fn run_seq(
-    table: &&[u8],
-    i: usize,
-    bytes: &mut [&mut [u8]; 2],
-    numbers: &mut [u64; NUMBERS],
-    atoms: &mut &mut [u16],
-) -> u8
-    requires { CanRun all_seen (OfKind seq_kind) (held table bytes numbers atoms) i }
-    ensures has_run { HasRun all_seen (OfKind seq_kind) (held table.entry bytes.entry numbers.entry atoms.entry) i
-        (held table.exit bytes.exit numbers.exit atoms.exit) result }
-    ensures named { Named bytes.old bytes.new atoms.old atoms.new }
+fn run_seq(pass: &mut Pass, i: usize) -> Flag
+    requires { CanPass all_seen (OfKind seq_kind) pass.old i }
+    ensures { HasPassed all_seen (OfKind seq_kind) pass.old i pass.new result }
 {
-    let phase = bytes[STATE][4 * i];
+    let phase = pass.state[4 * i];
     if phase == GONE {
-        bytes[STATE][4 * i] = 0;
-        return TERM;
+        pass.state[4 * i] = 0;
+        return Flag::TERM;
     }
     if phase == SECOND {
-        return run_second(table, i, bytes, numbers, atoms);
+        return run_second(pass, i);
     }
-    let f = run_child(table, i + 1, bytes, numbers, atoms);
-    if f != TERM {
+    let f = run_child(pass, i + 1);
+    if f != Flag::TERM {
         return f;
     }
-    let second = second_at(*table, i);
-    let g = if kind_at(*table, second) == kinds::SEQ {
-        run_seq(table, second, bytes, numbers, atoms)
+    let second = second_at(pass.table, i);
+    let g = if kind_at(pass.table, second) == kinds::SEQ {
+        run_seq(pass, second)
     } else {
-        run_child(table, second, bytes, numbers, atoms)
+        run_child(pass, second)
     };
-    bytes[STATE][4 * i] = phase_after(g, SECOND);
+    pass.state[4 * i] = phase_after(g, SECOND);
     g
 }
 
 // A Seq, When, Until or If that has gone over, or now goes over, into its second child: phase 2 until that ends.
 #[cycle(run)]
-fn run_second(
-    table: &&[u8],
-    i: usize,
-    bytes: &mut [&mut [u8]; 2],
-    numbers: &mut [u64; NUMBERS],
-    atoms: &mut &mut [u16],
-) -> u8
-    requires { CanRun phase_unseen InSecond (held table bytes numbers atoms) i }
-    ensures has_run { HasRun phase_unseen InSecond (held table.entry bytes.entry numbers.entry atoms.entry) i
-        (held table.exit bytes.exit numbers.exit atoms.exit) result }
-    ensures named { Named bytes.old bytes.new atoms.old atoms.new }
+fn run_second(pass: &mut Pass, i: usize) -> Flag
+    requires { CanPass phase_unseen InSecond pass.old i }
+    ensures { HasPassed phase_unseen InSecond pass.old i pass.new result }
 {
-    let second = second_at(*table, i);
-    let f = if bytes[STATE][4 * second] == SECOND {
-        run_second(table, second, bytes, numbers, atoms)
+    let second = second_at(pass.table, i);
+    let f = if pass.state[4 * second] == SECOND {
+        run_second(pass, second)
     } else {
-        run_child(table, second, bytes, numbers, atoms)
+        run_child(pass, second)
     };
-    bytes[STATE][4 * i] = phase_after(f, SECOND);
+    pass.state[4 * i] = phase_after(f, SECOND);
     f
 }
 
 // A Loop: the rest of its body by rules 4 and 5, or rule 12: the body runs from its start. It stops, so it doesn't end in this pass, and 000's rule 13
 // is never met (L5).
 #[cycle(run)]
-fn run_loop(
-    table: &&[u8],
-    i: usize,
-    bytes: &mut [&mut [u8]; 2],
-    numbers: &mut [u64; NUMBERS],
-    atoms: &mut &mut [u16],
-) -> u8
-    requires { CanRun all_seen (OfKind loop_kind) (held table bytes numbers atoms) i }
-    ensures has_run { HasRun all_seen (OfKind loop_kind) (held table.entry bytes.entry numbers.entry atoms.entry) i
-        (held table.exit bytes.exit numbers.exit atoms.exit) result }
-    ensures named { Named bytes.old bytes.new atoms.old atoms.new }
+fn run_loop(pass: &mut Pass, i: usize) -> Flag
+    requires { CanPass all_seen (OfKind loop_kind) pass.old i }
+    ensures { HasPassed all_seen (OfKind loop_kind) pass.old i pass.new result }
 {
-    let phase = bytes[STATE][4 * i];
+    let phase = pass.state[4 * i];
     if phase == GONE {
-        bytes[STATE][4 * i] = 0;
-        return TERM;
+        pass.state[4 * i] = 0;
+        return Flag::TERM;
     }
     if phase == BEGUN {
-        let f = run_child(table, i + 1, bytes, numbers, atoms);
-        if f != TERM {
+        let f = run_child(pass, i + 1);
+        if f != Flag::TERM {
             return f;
         }
     }
-    let f = run_child(table, i + 1, bytes, numbers, atoms);
-    bytes[STATE][4 * i] = BEGUN;
+    let f = run_child(pass, i + 1);
+    pass.state[4 * i] = BEGUN;
     f
 }
 
 // A Repeat or a RepeatExt: rules 14 and 15 when it begins, 4 and 5 in the rest of a run of its body. How often a RepeatExt runs is asked of the box when
 // it begins (001, "Extended Repeat"); from then on it is a Repeat. The kind of the body is read once for all runs, and a Nothing costs no call.
 #[cycle(run)]
-fn run_repeat(
-    table: &&[u8],
-    i: usize,
-    bytes: &mut [&mut [u8]; 2],
-    numbers: &mut [u64; NUMBERS],
-    atoms: &mut &mut [u16],
-) -> u8
-    requires { CanRun all_seen Repetition (held table bytes numbers atoms) i }
-    ensures has_run { HasRun all_seen Repetition (held table.entry bytes.entry numbers.entry atoms.entry) i
-        (held table.exit bytes.exit numbers.exit atoms.exit) result }
-    ensures named { Named bytes.old bytes.new atoms.old atoms.new }
+fn run_repeat(pass: &mut Pass, i: usize) -> Flag
+    requires { CanPass all_seen Repetition pass.old i }
+    ensures { HasPassed all_seen Repetition pass.old i pass.new result }
 {
-    let phase = bytes[STATE][4 * i];
+    let phase = pass.state[4 * i];
     if phase == GONE {
-        bytes[STATE][4 * i] = 0;
-        return TERM;
+        pass.state[4 * i] = 0;
+        return Flag::TERM;
     }
     let turns = if phase == 0 {
-        times_at(*table, i, numbers)
+        times_at(pass.table, i, &pass.numbers)
     } else {
-        turns_left(bytes[STATE][4 * i + COUNT], bytes[STATE][4 * i + COUNT + 1])
+        turns_left(pass.state[4 * i + COUNT], pass.state[4 * i + COUNT + 1])
     };
     if turns == 0 {
-        return TERM;
+        return Flag::TERM;
     }
-    let kind = kind_at(*table, i + 1);
+    let kind = kind_at(pass.table, i + 1);
     let mut left = turns - 1;
     loop {
         let f = if kind == kinds::NOTHING {
-            run_nothing(table, i + 1, bytes, numbers)
+            run_nothing(pass, i + 1)
         } else {
-            run_child(table, i + 1, bytes, numbers, atoms)
+            run_child(pass, i + 1)
         };
-        if f != TERM {
-            begin_turn(bytes[STATE], 4 * i, left);
+        if f != Flag::TERM {
+            begin_turn(pass.state, 4 * i, left);
             return f;
         }
         if left == 0 {
-            end_turns(bytes[STATE], 4 * i);
-            return TERM;
+            end_turns(pass.state, 4 * i);
+            return Flag::TERM;
         }
         left -= 1;
     }
@@ -284,139 +226,106 @@ fn run_repeat(
 
 // A When by rules 17 to 21. An If (001, "Boolean Test") differs in how its branch is chosen: when it is reached, by a value, and it runs at once.
 #[cycle(run)]
-fn run_when(
-    table: &&[u8],
-    i: usize,
-    bytes: &mut [&mut [u8]; 2],
-    numbers: &mut [u64; NUMBERS],
-    atoms: &mut &mut [u16],
-) -> u8
-    requires { CanRun all_seen Choice (held table bytes numbers atoms) i }
-    ensures has_run { HasRun all_seen Choice (held table.entry bytes.entry numbers.entry atoms.entry) i
-        (held table.exit bytes.exit numbers.exit atoms.exit) result }
-    ensures named { Named bytes.old bytes.new atoms.old atoms.new }
+fn run_when(pass: &mut Pass, i: usize) -> Flag
+    requires { CanPass all_seen Choice pass.old i }
+    ensures { HasPassed all_seen Choice pass.old i pass.new result }
 {
-    let phase = bytes[STATE][4 * i];
+    let phase = pass.state[4 * i];
     if phase == GONE {
-        bytes[STATE][4 * i] = 0;
-        return TERM;
+        pass.state[4 * i] = 0;
+        return Flag::TERM;
     }
     let mut second = phase == SECOND;
     if phase == 0 {
-        if kind_at(*table, i) == kinds::IF {
-            second = value_of(numbers, argument_at(*table, i)) == 0;
+        if kind_at(pass.table, i) == kinds::IF {
+            second = value_of(&pass.numbers, argument_at(pass.table, i)) == 0;
         } else {
-            let rank = test_rank(table, i, numbers);
-            if rank == UNKNOWN {
-                return SUSP;
+            let verdict = test_at(&pass.table, i, &pass.numbers);
+            if verdict == Verdict::Unknown {
+                return Flag::SUSP;
             }
-            second = rank == UNSAT;
-            if numbers[ENDED] != 0 {
-                bytes[STATE][4 * i] = chosen(second);
-                return STOP;
+            second = verdict == Verdict::Unsat;
+            if pass.numbers[ENDED] != 0 {
+                pass.state[4 * i] = chosen(second);
+                return Flag::STOP;
             }
         }
     }
     if second {
-        return run_second(table, i, bytes, numbers, atoms);
+        return run_second(pass, i);
     }
-    let f = run_child(table, i + 1, bytes, numbers, atoms);
-    bytes[STATE][4 * i] = phase_after(f, THEN);
+    let f = run_child(pass, i + 1);
+    pass.state[4 * i] = phase_after(f, THEN);
     f
 }
 
 // An Until by rules 29 to 34. A Freezable differs in what follows once its body has stopped: rules 40 and 41, and 42 to 45 in `run_pending`.
 #[cycle(run)]
-fn run_until(
-    table: &&[u8],
-    i: usize,
-    bytes: &mut [&mut [u8]; 2],
-    numbers: &mut [u64; NUMBERS],
-    atoms: &mut &mut [u16],
-) -> u8
-    requires { CanRun all_seen Break (held table bytes numbers atoms) i }
-    ensures has_run { HasRun all_seen Break (held table.entry bytes.entry numbers.entry atoms.entry) i
-        (held table.exit bytes.exit numbers.exit atoms.exit) result }
-    ensures named { Named bytes.old bytes.new atoms.old atoms.new }
+fn run_until(pass: &mut Pass, i: usize) -> Flag
+    requires { CanPass all_seen Break pass.old i }
+    ensures { HasPassed all_seen Break pass.old i pass.new result }
 {
-    let phase = bytes[STATE][4 * i];
+    let phase = pass.state[4 * i];
     if phase == GONE {
-        bytes[STATE][4 * i] = 0;
-        return TERM;
+        pass.state[4 * i] = 0;
+        return Flag::TERM;
     }
     if phase == SECOND {
-        return run_second(table, i, bytes, numbers, atoms);
+        return run_second(pass, i);
     }
     if phase != STARRED {
-        let f = run_child(table, i + 1, bytes, numbers, atoms);
-        if f != STOP {
+        let f = run_child(pass, i + 1);
+        if f != Flag::STOP {
             return f;
         }
     }
-    if kind_at(*table, i) == kinds::FREEZABLE {
-        return run_pending(table, i, bytes, numbers);
+    if kind_at(pass.table, i) == kinds::FREEZABLE {
+        return run_pending(pass, i);
     }
-    let rank = test_rank(table, i, numbers);
-    let f = read_star(
-        bytes[STATE],
-        4 * i,
-        4 * second_at(*table, i),
-        rank,
-        numbers[ENDED],
-    );
-    if f != TERM {
+    let verdict = test_at(&pass.table, i, &pass.numbers);
+    let second = second_at(pass.table, i);
+    let ended = pass.numbers[ENDED];
+    let f = read_star(pass.state, 4 * i, 4 * second, verdict, ended);
+    if f != Flag::TERM {
         return f;
     }
-    run_second(table, i, bytes, numbers, atoms)
+    run_second(pass, i)
 }
 
 // Rules 26 to 28.
 #[cycle(run)]
-fn run_control(
-    table: &&[u8],
-    i: usize,
-    bytes: &mut [&mut [u8]; 2],
-    numbers: &mut [u64; NUMBERS],
-    atoms: &mut &mut [u16],
-) -> u8
-    requires { CanRun all_seen (OfKind control_kind) (held table bytes numbers atoms) i }
-    ensures has_run { HasRun all_seen (OfKind control_kind) (held table.entry bytes.entry numbers.entry atoms.entry) i
-        (held table.exit bytes.exit numbers.exit atoms.exit) result }
-    ensures named { Named bytes.old bytes.new atoms.old atoms.new }
+fn run_control(pass: &mut Pass, i: usize) -> Flag
+    requires { CanPass all_seen (OfKind control_kind) pass.old i }
+    ensures { HasPassed all_seen (OfKind control_kind) pass.old i pass.new result }
 {
-    if bytes[STATE][4 * i] == GONE {
-        bytes[STATE][4 * i] = 0;
-        return TERM;
+    if pass.state[4 * i] == GONE {
+        pass.state[4 * i] = 0;
+        return Flag::TERM;
     }
-    if has_event(numbers, argument_at(*table, i)) {
-        return run_child(table, i + 1, bytes, numbers, atoms);
+    if has_event(&pass.numbers, argument_at(pass.table, i)) {
+        return run_child(pass, i + 1);
     }
-    numbers[ENDED] as u8
+    if pass.numbers[ENDED] == 0 {
+        return Flag::SUSP;
+    }
+    Flag::STOP
 }
 
 // Rules 35 to 39: the body runs with the event as the sign says, and outside it is again as it was.
 #[cycle(run)]
-fn run_local(
-    table: &&[u8],
-    i: usize,
-    bytes: &mut [&mut [u8]; 2],
-    numbers: &mut [u64; NUMBERS],
-    atoms: &mut &mut [u16],
-) -> u8
-    requires { CanRun all_seen (OfKind local_kind) (held table bytes numbers atoms) i }
-    ensures has_run { HasRun all_seen (OfKind local_kind) (held table.entry bytes.entry numbers.entry atoms.entry) i
-        (held table.exit bytes.exit numbers.exit atoms.exit) result }
-    ensures named { Named bytes.old bytes.new atoms.old atoms.new }
+fn run_local(pass: &mut Pass, i: usize) -> Flag
+    requires { CanPass all_seen (OfKind local_kind) pass.old i }
+    ensures { HasPassed all_seen (OfKind local_kind) pass.old i pass.new result }
 {
-    let phase = bytes[STATE][4 * i];
+    let phase = pass.state[4 * i];
     if phase == GONE {
-        bytes[STATE][4 * i] = 0;
-        return TERM;
+        pass.state[4 * i] = 0;
+        return Flag::TERM;
     }
-    let event = argument_at(*table, i);
-    let outside = exchange_event(numbers, event, phase == PLUS);
-    let f = run_child(table, i + 1, bytes, numbers, atoms);
-    let inside = exchange_event(numbers, event, outside);
-    bytes[STATE][4 * i] = sign_after(f, inside);
+    let event = argument_at(pass.table, i);
+    let outside = exchange_event(&mut pass.numbers, event, phase == PLUS);
+    let f = run_child(pass, i + 1);
+    let inside = exchange_event(&mut pass.numbers, event, outside);
+    pass.state[4 * i] = sign_after(f, inside);
     f
 }

@@ -1,4 +1,6 @@
 -- A reader that goes into a program or into a configuration's bracket stays where the text and the table of names agree.
+use Rattle.scanner.specs.declared.levels.Frame.{Frame}
+use Rattle.std.specs.Prelude.{None}
 use Prim.Native.Nat.{ℕ, zero, suc, ◌-◌, ◌%◌, ◌<◌, ◌≤◌}
 use mathlib.Core.Bool.{Bool, true, false, cond, false≢true}
 use mathlib.Core.Path.{◌≡◌, refl, sym, ◌∙◌, ap, subst}
@@ -17,7 +19,7 @@ use Rattle.form.specs.Inside.Rows.{code_at, codes}
 use Rattle.scanner.specs.Rules.{place_behind_j, behind_bracket, held}
 use Rattle.scanner.specs.Levels.{found, around, level_of, level_at, rest_of, outer_at, rest_at, Under, level}
 use Rattle.form.specs.Inside.Rows.{same}
-use Rattle.scanner.specs.Places.{is_bracket, heads, fits, Follows, IsIn, within_name, in_bracket}
+use Rattle.scanner.specs.Places.{frame, is_bracket, heads, fits, Follows, IsIn, within_name, in_bracket}
 use Rattle.scanner.specs.Places.{room_of, entered, Lies}
 use Rattle.form.proofs.NamesRead.{codes_more}
 use Rattle.form.proofs.ComputedTests.{same_list}
@@ -77,12 +79,12 @@ follows_name : (t : List ℕ) (i : ℕ) → get_or t i 0 ≡ 74 → Follows t (s
 unfolding code_at
 follows_name t i e = follows_first 20 74 refl (λ z. omega arith) refl t i e
 
-module _ (t : List ℕ) (i : ℕ) (at : Place) (opens rests : List ℕ) (σ : Stack) (s : Lies t i at opens rests σ)
-    (g : length opens ≡ 4096) (h : length rests ≡ 4096) where
+module _ (t : List ℕ) (i : ℕ) (at : Place) (ring : List Frame) (σ : Stack) (s : Lies t i at ring σ)
+    (g : length ring ≡ 4096) where
   abbrev Enters : ℕ → ℕ → Type 0
   Enters to q =
-      Lies t (suc i) (entered at to q) (set opens (at.depth % 4096) at.bracket) (set rests (at.depth % 4096) (suc at.pc))
-      (held (suc at.pc) 0 ++ σ)
+      Lies t (suc i) (entered at to q) (set ring (at.depth % 4096) (frame at.bracket (suc at.pc)))
+      (held (suc at.pc) None ++ σ)
 
   few_more : room_of at.live ≤ 4096
   few_more = go (ltb at.live 4096) refl
@@ -108,7 +110,7 @@ module _ (t : List ℕ) (i : ℕ) (at : Place) (opens rests : List ℕ) (σ : St
             (level z (subst (λ (o : ℕ). Under t o σ) (sym (outer_is t q at.bracket c a)) s.under));
         placed = k;
         follows = f;
-        kept = kept_push t at.bracket q at.depth at.live (suc at.pc) opens rests g h s.few
+        kept = kept_push t at.bracket q at.depth at.live (suc at.pc) ring g s.few
             (outer_is t q at.bracket c a) (x, r) s.kept;
       }
 

@@ -1,4 +1,6 @@
 -- A reader that goes out of a bracket stays where the text and the table of names agree; at the end of the text nothing is left over.
+use Rattle.scanner.specs.declared.levels.Frame.{Frame}
+use Rattle.std.specs.Prelude.{Option, None}
 use Prim.Native.Nat.{ℕ, zero, suc, ◌+◌, ◌-◌, ◌%◌, ◌<◌, ◌≤◌}
 use mathlib.Core.Bool.{Bool, true, false, cond, ◌&&◌, false≢true}
 use mathlib.Core.Path.{◌≡◌, refl, sym, ◌∙◌, ap, subst}
@@ -15,7 +17,7 @@ use Rattle.form.specs.Inside.Rows.{form_row, form_count, code_at, name_end, code
 use Rattle.scanner.specs.Rules.{held}
 use Rattle.scanner.specs.Levels.{found, around, level_in, level_from, level_of, level_at, rest_of, outer_at, rest_at, Under, top}
 use Rattle.scanner.specs.Levels.{level}
-use Rattle.scanner.specs.Places.{is_top, heads, fits, IsIn, within_name, in_bracket, Resumes, RingHolds}
+use Rattle.scanner.specs.Places.{no_frame, is_top, heads, fits, IsIn, within_name, in_bracket, Resumes, RingHolds}
 use Rattle.scanner.specs.Places.{Numbered, leaving, Lies}
 use Rattle.form.proofs.NamesRead.{codes_end}
 use Rattle.scanner.proofs.BackToBracket.{back_within}
@@ -70,12 +72,12 @@ resumes_rest : (t : List ℕ) (o : ℕ) → Resumes (rest_at t o) (rest_at t o)
 unfolding rest_at
 resumes_rest t o = (refl, rest_behind (level_at t (around t o).at) (around t o).spaces)
 
-module _ (t : List ℕ) (i : ℕ) (at : Place) (opens rests : List ℕ) (σ : Stack) (s : Lies t i at opens rests σ) where
+module _ (t : List ℕ) (i : ℕ) (at : Place) (ring : List Frame) (σ : Stack) (s : Lies t i at ring σ) where
   -- out of the bracket to place r, with l frames left in the ring
   out_at : (to : Place) → get_or t i 0 ≡ 41 → 0 < at.bracket → (c : ℕ) → around t i ≡ found at.bracket c
-      → to.bracket ≡ outer_at t at.bracket → Resumes to.pc (rest_at t at.bracket) → to.number ≡ 0
-      → to.depth ≤ at.depth → to.live ≤ 4096 → RingHolds t (outer_at t at.bracket) to.depth to.live opens rests
-      → (τ : Stack) → Under t (outer_at t at.bracket) τ → Lies t (suc i) to opens rests τ
+      → to.bracket ≡ outer_at t at.bracket → Resumes to.pc (rest_at t at.bracket) → to.number ≡ None
+      → to.depth ≤ at.depth → to.live ≤ 4096 → RingHolds t (outer_at t at.bracket) to.depth to.live ring
+      → (τ : Stack) → Under t (outer_at t at.bracket) τ → Lies t (suc i) to ring τ
   out_at to b z c a e r n d l k τ u =
       let w = around_close t i at.bracket c b z a in
       let y = outer_within t at.bracket in
@@ -83,46 +85,46 @@ module _ (t : List ℕ) (i : ℕ) (at : Place) (opens rests : List ℕ) (σ : St
         before = omega arith;
         deep = omega arith;
         few = l;
-        numbered = subst (λ (m : ℕ). Numbered to.pc m) (sym n) tt;
+        numbered = subst (λ (m : Option ℕ). Numbered to.pc m) (sym n) tt;
         under = subst (λ (o : ℕ). Under t o τ) (sym e) u;
         placed = subst (λ (o : ℕ). IsIn t (suc i) to.pc o) (sym e)
             (in_bracket (around t at.bracket).spaces (w ∙ around_is t at.bracket) (rw r.0 (rest_there t at.bracket)));
         follows = follows_symbol to.pc r.1 t (suc i);
-        kept = subst (λ (o : ℕ). RingHolds t o to.depth to.live opens rests) (sym e) k;
+        kept = subst (λ (o : ℕ). RingHolds t o to.depth to.live ring) (sym e) k;
       }
 
 peel : (t : List ℕ) (o : ℕ) (σ : Stack) → 0 < o → Under t o σ
-    → (τ : Stack) × Under t (outer_at t o) τ × (σ ≡ held (rest_at t o) 0 ++ τ)
+    → (τ : Stack) × Under t (outer_at t o) τ × (σ ≡ held (rest_at t o) None ++ τ)
 peel t o σ h top = absurd (omega arith)
 peel t o σ h (level {σ = τ} x u) = (τ, u, refl)
 
 -- the ring's last frame
-kept_last : (t : List ℕ) (o d l : ℕ) (opens rests : List ℕ) → RingHolds t o d (suc l) opens rests
-    → (get_or opens ((d - 1) % 4096) 0 ≡ outer_at t o) × Resumes (get_or rests ((d - 1) % 4096) 0) (rest_at t o)
-    × RingHolds t (outer_at t o) (d - 1) l opens rests
-kept_last t o zero l opens rests k = absurd k
-kept_last t o (suc d) l opens rests k = let z : suc d - 1 ≡ d = omega arith in rw z k
+kept_last : (t : List ℕ) (o d l : ℕ) (ring : List Frame) → RingHolds t o d (suc l) ring
+    → ((get_or ring ((d - 1) % 4096) no_frame).bracket ≡ outer_at t o) × Resumes (get_or ring ((d - 1) % 4096) no_frame).rest (rest_at t o)
+    × RingHolds t (outer_at t o) (d - 1) l ring
+kept_last t o zero l ring k = absurd k
+kept_last t o (suc d) l ring k = let z : suc d - 1 ≡ d = omega arith in rw z k
 
-module _ (t : List ℕ) (i : ℕ) (at : Place) (opens rests : List ℕ) (σ : Stack) (s : Lies t i at opens rests σ) where
+module _ (t : List ℕ) (i : ℕ) (at : Place) (ring : List Frame) (σ : Stack) (s : Lies t i at ring σ) where
   abbrev Leaves : ℕ → Type 0
   Leaves l =
-      (τ : Stack) × Lies t (suc i) (leaving t at l opens rests) opens rests τ × (σ ≡ held (leaving t at l opens rests).pc 0 ++ τ)
+      (τ : Stack) × Lies t (suc i) (leaving t at l ring) ring τ × (σ ≡ held (leaving t at l ring).pc None ++ τ)
 
   out_to : get_or t i 0 ≡ 41 → 0 < at.bracket → (c : ℕ) → around t i ≡ found at.bracket c
-      → (τ : Stack) → Under t (outer_at t at.bracket) τ → σ ≡ held (rest_at t at.bracket) 0 ++ τ
-      → (l : ℕ) → l ≤ 4096 → RingHolds t at.bracket at.depth l opens rests → Leaves l
+      → (τ : Stack) → Under t (outer_at t at.bracket) τ → σ ≡ held (rest_at t at.bracket) None ++ τ
+      → (l : ℕ) → l ≤ 4096 → RingHolds t at.bracket at.depth l ring → Leaves l
   unfolding leaving
   out_to b z c a τ u e zero m k = (
     τ,
-    out_at t i at opens rests σ s (leaving t at zero opens rests) b z c a refl (resumes_rest t at.bracket) refl (omega arith)
+    out_at t i at ring σ s (leaving t at zero ring) b z c a refl (resumes_rest t at.bracket) refl (omega arith)
         (omega arith) tt τ u,
     e,
   )
   out_to b z c a τ u e (suc l) m k =
-      let f = kept_last t at.bracket at.depth l opens rests k in (
+      let f = kept_last t at.bracket at.depth l ring k in (
         τ,
-        out_at t i at opens rests σ s (leaving t at (suc l) opens rests) b z c a f.0 f.1 refl (omega arith) (omega arith) f.2 τ u,
-        e ∙ ap (λ (ρ : Stack). ρ ++ τ) (sym (held_same (get_or rests ((at.depth - 1) % 4096) 0) (rest_at t at.bracket) f.1.0 f.1.1)),
+        out_at t i at ring σ s (leaving t at (suc l) ring) b z c a f.0 f.1 refl (omega arith) (omega arith) f.2 τ u,
+        e ∙ ap (λ (ρ : Stack). ρ ++ τ) (sym (held_same (get_or ring ((at.depth - 1) % 4096) no_frame).rest (rest_at t at.bracket) f.1.0 f.1.1)),
       )
 
   pub lies_out : get_or t i 0 ≡ 41 → Closes at.pc → Leaves at.live
@@ -179,29 +181,29 @@ unfolding fits
 top_end p k c e f = rw (codes_end p e) at f
 
 -- at the end of a rule nothing is left over
-pub at_end : (t : List ℕ) (i : ℕ) (at : Place) (opens rests : List ℕ) (σ : Stack) → Lies t i at opens rests σ
+pub at_end : (t : List ℕ) (i : ℕ) (at : Place) (ring : List Frame) (σ : Stack) → Lies t i at ring σ
     → code_at at.pc ≡ 0 → σ ≡ []
-at_end t i at opens rests σ s e = go s.placed
+at_end t i at ring σ s e = go s.placed
   where
     go : IsIn t i at.pc at.bracket → σ ≡ []
     go (within_name h o a) = absurd (no_head_end at.pc e h)
     go (in_bracket c a f) =
         empty_top t at.bracket σ (top_is t at.bracket (top_end at.pc (level_at t at.bracket) c e f)) s.under
 
-pub leaving_none : (t : List ℕ) (at : Place) (l : ℕ) (opens rests : List ℕ) (p o : ℕ) → l ≡ 0 → o ≡ outer_at t at.bracket
+pub leaving_none : (t : List ℕ) (at : Place) (l : ℕ) (ring : List Frame) (p o : ℕ) → l ≡ 0 → o ≡ outer_at t at.bracket
     → p ≡ rest_at t at.bracket
-    → record { pc = p; number = 0; bracket = o; depth = at.depth; live = 0 } ≡ leaving t at l opens rests
+    → record { pc = p; number = None; bracket = o; depth = at.depth; live = 0 } ≡ leaving t at l ring
 unfolding leaving
-leaving_none t at l opens rests p o e f g = rw (e, f, g) refl
+leaving_none t at l ring p o e f g = rw (e, f, g) refl
 
-pub leaving_some : (t : List ℕ) (at : Place) (l : ℕ) (opens rests : List ℕ) → (l ≡ 0 → ⊥)
+pub leaving_some : (t : List ℕ) (at : Place) (l : ℕ) (ring : List Frame) → (l ≡ 0 → ⊥)
     → record {
-      pc = get_or rests ((at.depth - 1) % 4096) 0;
-      number = 0;
-      bracket = get_or opens ((at.depth - 1) % 4096) 0;
+      pc = (get_or ring ((at.depth - 1) % 4096) no_frame).rest;
+      number = None;
+      bracket = (get_or ring ((at.depth - 1) % 4096) no_frame).bracket;
       depth = at.depth - 1;
       live = l - 1;
-    } ≡ leaving t at l opens rests
+    } ≡ leaving t at l ring
 unfolding leaving
-leaving_some t at zero opens rests e = absurd (e refl)
-leaving_some t at (suc l) opens rests e = let z : suc l - 1 ≡ l = omega arith in rw z refl
+leaving_some t at zero ring e = absurd (e refl)
+leaving_some t at (suc l) ring e = let z : suc l - 1 ≡ l = omega arith in rw z refl

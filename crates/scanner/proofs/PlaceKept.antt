@@ -1,5 +1,6 @@
 -- What each turn keeps of the place where the reader is: what that means; at a byte that is read as it is, here or in another row of the
 -- table of names.
+use Rattle.std.specs.Prelude.{Option, None, Some}
 use Prim.Native.Nat.{ℕ, suc, ◌+◌, ◌-◌, ◌%◌, ◌<◌, ◌≤◌}
 use mathlib.Core.Bool.{Bool, true, false, cond, ◌&&◌, false≢true}
 use mathlib.Core.Path.{◌≡◌, refl, sym, subst, ◌∙◌}
@@ -12,7 +13,7 @@ use Rattle.form.specs.Inside.Rows.{code_at, row_at, form_row, form_count, codes,
 use Rattle.form.proofs.ComputedTests.{both}
 use Rattle.form.proofs.NamesRead.{codes_more, name_code, name_letter, name_from, edge, agree_at, Found, found, read_other}
 use Rattle.scanner.specs.declared.rules.Turn.{Turn}
-use Rattle.scanner.specs.declared.rules.Turn.TheVariants.{Dead, On, Opens, Into, Out}
+use Rattle.scanner.specs.declared.rules.Turn.TheVariants.{On, Opens, Into, Out}
 use Rattle.scanner.specs.declared.levels.Level.{Level}
 use Rattle.scanner.specs.Rules.{place_behind_j, behind_bracket}
 use Rattle.scanner.specs.Levels.{rest_of}
@@ -22,7 +23,7 @@ use Rattle.scanner.proofs.NamesChecked.{close_out, name_heads}
 use Rattle.scanner.proofs.SymbolSteps.{other_dead}
 
 -- from place p to place q, on the same level
-pub record Goes (p b q n : ℕ) : Type 0 where
+pub record Goes (p b q : ℕ) (n : Option ℕ) : Type 0 where
   pub not_open : b ≡ 40 → ⊥
   pub not_close : b ≡ 41 → ⊥
   pub in_head : heads (codes p) ≡ true → (b ≡ 32 → ⊥) × (heads (codes q) ≡ true)
@@ -43,15 +44,15 @@ pub record Closes (p : ℕ) : Type 0 where
   pub no_head : heads (codes p) ≡ true → ⊥
   pub in_body : (k : Level) (c : ℕ) → fits k c (codes p) ≡ true → is_bracket k ≡ true
 
-pub data Sits (p b : ℕ) : Turn → Type 0 where
-  sits_dead : Sits p b Dead
-  sits_on : {q n : ℕ} → Goes p b q n → Sits p b (On q n)
+pub data Sits (p b : ℕ) : Option Turn → Type 0 where
+  sits_dead : Sits p b None
+  sits_on : {q : ℕ} {n : Option ℕ} → Goes p b q n → Sits p b (Some (On q n))
   sits_opens :
       {q : ℕ} → b ≡ 40 → code_at q ≡ 40 → heads (codes p) ≡ true → ((t : List ℕ) (i : ℕ) → Follows t i p → Follows t i q)
-      → Sits p b (Opens (suc q))
-  sits_program : b ≡ 74 → code_at p ≡ 128 → Sits p b (Into place_behind_j)
-  sits_test : b ≡ 40 → Tests p → Sits p b (Into behind_bracket)
-  sits_out : b ≡ 41 → Closes p → Sits p b Out
+      → Sits p b (Some (Opens (suc q)))
+  sits_program : b ≡ 74 → code_at p ≡ 128 → Sits p b (Some (Into place_behind_j))
+  sits_test : b ≡ 40 → Tests p → Sits p b (Some (Into behind_bracket))
+  sits_out : b ≡ 41 → Closes p → Sits p b (Some Out)
 
 pub one_back : (i : ℕ) → suc i - 1 ≡ i
 one_back i = omega arith
@@ -114,7 +115,7 @@ fits_byte x l k c h e f g =
     go true q = q
     go false q = q
 
-goes_byte : (p b : ℕ) → b ≡ code_at p → (code_at p ≡ 0 → ⊥) → code_at p < 128 → (b ≡ 40 → ⊥) → (b ≡ 41 → ⊥) → Goes p b (suc p) 0
+goes_byte : (p b : ℕ) → b ≡ code_at p → (code_at p ≡ 0 → ⊥) → code_at p < 128 → (b ≡ 40 → ⊥) → (b ≡ 41 → ⊥) → Goes p b (suc p) None
 goes_byte p b e z h f g =
     record {
       not_open = f;
@@ -136,14 +137,14 @@ sits_own : (p b : ℕ) → b ≡ code_at p → (code_at p ≡ 0 → ⊥) → cod
 unfolding literal_turn heads
 sits_own p b e z h = rw (ne_eqb (code_at p) 0 z, eq-eqb b (code_at p) e) (go (eqb b 40) refl (eqb b 41) refl)
   where
-    go : (t : Bool) → eqb b 40 ≡ t → (u : Bool) → eqb b 41 ≡ u → Sits p b (cond t (Opens (suc p)) (cond u Out (On (suc p) 0)))
+    go : (t : Bool) → eqb b 40 ≡ t → (u : Bool) → eqb b 41 ≡ u → Sits p b (cond t (Some (Opens (suc p))) (cond u (Some Out) (Some (On (suc p) None))))
     go true f u g =
         let y = sym e ∙ eqb-true b 40 f in
         sits_opens (eqb-true b 40 f) y (rw (codes_more p z, y) refl) (λ t i o. o)
     go false f true g = sits_out (eqb-true b 41 g) (closes_byte p (sym e ∙ eqb-true b 41 g))
     go false f false g = sits_on (goes_byte p b e z h (eqb-false b 40 f) (eqb-false b 41 g))
 
-own_turn : (q b : ℕ) → b ≡ code_at q → (code_at q ≡ 0 → ⊥) → (b ≡ 41 → ⊥) → literal_turn q b ≡ cond (eqb b 40) (Opens (suc q)) (On (suc q) 0)
+own_turn : (q b : ℕ) → b ≡ code_at q → (code_at q ≡ 0 → ⊥) → (b ≡ 41 → ⊥) → literal_turn q b ≡ cond (eqb b 40) (Some (Opens (suc q))) (Some (On (suc q) None))
 unfolding literal_turn
 own_turn q b e z n = rw (ne_eqb (code_at q) 0 z, eq-eqb b (code_at q) e, ne_eqb b 41 n)
 
@@ -176,7 +177,7 @@ pub record As (p h : ℕ) : Type 0 where
   pub letter_there : code_at h < 128
   pub following : (t : List ℕ) (i : ℕ) → Follows t i p → Follows t i h
 
-pub sits_as : {p h b : ℕ} {r : Turn} → As p h → Sits h b r → Sits p b r
+pub sits_as : {p h b : ℕ} {r : Option Turn} → As p h → Sits h b r → Sits p b r
 sits_as {p} {h} {b} a sits_dead = sits_dead
 sits_as {p} {h} {b} a (sits_on g) =
     sits_on (record {
@@ -257,7 +258,7 @@ sits_other p b h n = rw (le-ltb p first_name l) (go (eqb q 0) refl)
     q : ℕ
     q = place_from form_count (form_row 0) p b
 
-    go : (s : Bool) → eqb q 0 ≡ s → Sits p b (cond s Dead (cond (eqb b 40) (Opens (suc q)) (On (suc q) 0)))
+    go : (s : Bool) → eqb q 0 ≡ s → Sits p b (cond s None (cond (eqb b 40) (Some (Opens (suc q))) (Some (On (suc q) None))))
     go true e = sits_dead
     go false e =
         let o = found form_count (form_row 0) p b (eqb-false q 0 e) in
@@ -270,7 +271,7 @@ sits_other p b h n = rw (le-ltb p first_name l) (go (eqb q 0) refl)
           letter_there = m;
           following = follows_alike p b q l o;
         } in
-        sits_as a (subst (λ (x : Turn). Sits q b x) (own_turn q b (sym c) (name_code q r.within_name) (λ z. close_out q (c ∙ z) r.within_name))
+        sits_as a (subst (λ (x : Option Turn). Sits q b x) (own_turn q b (sym c) (name_code q r.within_name) (λ z. close_out q (c ∙ z) r.within_name))
         (sits_own q b (sym c) (name_code q r.within_name) m))
 
 pub sits_literal : (p b : ℕ) → (code_at p ≡ 0 → ⊥) → code_at p < 128 → Sits p b (literal_turn p b)
@@ -280,7 +281,7 @@ sits_literal p b z h = go (eqb b (code_at p)) refl (in_name p) refl
     go true e t f = sits_own p b (eqb-true b (code_at p) e) z h
     go false e true f =
         let n = eqb-false b (code_at p) e in
-        subst (λ (x : Turn). Sits p b x) (sym (other_turn_is p b z n)) (sits_other p b f n)
+        subst (λ (x : Option Turn). Sits p b x) (sym (other_turn_is p b z n)) (sits_other p b f n)
     go false e false f =
         let n = eqb-false b (code_at p) e in
-        subst (λ (x : Turn). Sits p b x) (sym (other_turn_is p b z n ∙ other_dead p b f z n)) sits_dead
+        subst (λ (x : Option Turn). Sits p b x) (sym (other_turn_is p b z n ∙ other_dead p b f z n)) sits_dead

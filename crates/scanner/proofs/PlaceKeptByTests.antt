@@ -1,4 +1,5 @@
 -- What each turn keeps of the place where the reader is: at a number and at a configuration.
+use Rattle.std.specs.Prelude.{None, Some}
 use Prim.Native.Nat.{ℕ, suc, ◌-◌, ◌<◌, ◌≤◌}
 use mathlib.Core.Bool.{Bool, true, false, cond, ◌&&◌, false≢true}
 use mathlib.Core.Path.{◌≡◌, refl, sym, ◌∙◌, ap}
@@ -9,7 +10,7 @@ use lib.ListN.{get_or}
 use borrow.Author.Tests.{eqb-true, ne_eqb, ltb-true}
 use Rattle.form.proofs.ComputedTests.{both}
 use Rattle.form.proofs.Digits.{digit_is}
-use Rattle.scanner.specs.declared.rules.Turn.TheVariants.{Dead, On, Into}
+use Rattle.scanner.specs.declared.rules.Turn.TheVariants.{On, Into}
 use Rattle.scanner.specs.declared.levels.Level.{Level}
 use Rattle.scanner.specs.declared.levels.Level.TheVariants.{Top, Several, Branches, Test, One}
 use Rattle.form.specs.Inside.Machine.{is_digit_byte}
@@ -30,7 +31,7 @@ use Rattle.scanner.proofs.PlaceKept.{one_back, follows_symbol, follows_first}
 -- to a number's first digit
 goes_digit : (p b : ℕ) → 128 ≤ code_at p → is_digit_byte b ≡ true → (heads (codes p) ≡ true → ⊥)
     → ((k : Level) (c : ℕ) → fits k c (codes p) ≡ true → fits k c (codes (suc p)) ≡ true)
-    → is_end (code_at (suc p)) ≡ true → Goes p b (suc p) (suc (b - 48))
+    → is_end (code_at (suc p)) ≡ true → Goes p b (suc p) (Some (b - 48))
 goes_digit p b h d f g e =
     let l = digit_is b d in
     let s : 128 ≤ code_at (suc p - 1) = rw (one_back p) h in
@@ -50,7 +51,7 @@ pub sits_digit : (p b : ℕ) → 128 ≤ code_at p → (heads (codes p) ≡ true
 unfolding digit_turn
 sits_digit p b h f g e = go (is_digit_byte b) refl
   where
-    go : (s : Bool) → is_digit_byte b ≡ s → Sits p b (cond s (On (suc p) (suc (b - 48))) Dead)
+    go : (s : Bool) → is_digit_byte b ≡ s → Sits p b (cond s (Some (On (suc p) (Some (b - 48)))) None)
     go true d = sits_on (goes_digit p b h d f g e)
     go false d = sits_dead
 
@@ -91,7 +92,7 @@ sits_at_test p b e = go (eqb b 40) refl
         (λ k c o. (both {a = same (codes (rest_of k c)) (codes (suc p))} (both {a = is_bracket k} (test_fits p k c e o)).1).1)
         (after_test p e)
 
-    go : (s : Bool) → eqb b 40 ≡ s → Sits p b (cond s (Into behind_bracket) (digit_turn p b))
+    go : (s : Bool) → eqb b 40 ≡ s → Sits p b (cond s (Some (Into behind_bracket)) (digit_turn p b))
     go true q = sits_test (eqb-true b 40 q) (tests_test p e)
     go false q = d
 
@@ -133,7 +134,7 @@ not_fits Branches c e = absurd (false≢true e)
 not_fits Test c e = rw (eqb-true c 0 e) refl
 not_fits One c e = absurd (false≢true e)
 
-goes_not : (p : ℕ) → code_at p ≡ 136 → Goes p 110 behind_n 0
+goes_not : (p : ℕ) → code_at p ≡ 136 → Goes p 110 behind_n None
 unfolding code_at
 goes_not p e =
     record {
@@ -158,7 +159,7 @@ sits_inner p b e = go (eqb b 110) refl (eqb b 40) refl
         (rw y refl)
 
     go : (s : Bool) → eqb b 110 ≡ s → (t : Bool) → eqb b 40 ≡ t
-        → Sits p b (cond s (On behind_n 0) (cond t (Into behind_bracket) (digit_turn p b)))
+        → Sits p b (cond s (Some (On behind_n None)) (cond t (Some (Into behind_bracket)) (digit_turn p b)))
     go true q t r = rw (eqb-true b 110 q) (sits_on (goes_not p e))
     go false q true r = sits_test (eqb-true b 40 r) (tests_inner p e)
     go false q false r = d

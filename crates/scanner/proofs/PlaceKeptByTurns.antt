@@ -1,4 +1,5 @@
 -- What each turn keeps of the place where the reader is: at parts, names and numbers; and so each turn.
+use Rattle.std.specs.Prelude.{Option, None, Some}
 use Prim.Native.Nat.{ℕ, zero, suc, ◌-◌, ◌<◌, ◌≤◌}
 use mathlib.Core.Bool.{Bool, true, false, cond, ◌&&◌, false≢true}
 use mathlib.Core.Path.{◌≡◌, refl}
@@ -10,7 +11,7 @@ use Rattle.form.specs.Inside.Machine.{Number, event, plain, value, cap, is_digit
 use Rattle.form.proofs.ComputedTests.{both}
 use Rattle.form.proofs.Digits.{digit_is}
 use Rattle.form.proofs.NamesRead.{codes_more}
-use Rattle.scanner.specs.declared.rules.Turn.TheVariants.{Dead, On, Into, Out}
+use Rattle.scanner.specs.declared.rules.Turn.TheVariants.{On, Into, Out}
 use Rattle.scanner.specs.declared.levels.Level.{Level}
 use Rattle.scanner.specs.declared.levels.Level.TheVariants.{Top, Several, Branches, Test, One}
 use Rattle.scanner.specs.Rules.{place_behind_j, behind_a, behind_o, behind_comma}
@@ -49,7 +50,7 @@ more_fits Branches c e = absurd (false≢true e)
 more_fits Test c e = absurd (false≢true e)
 more_fits One c e = absurd (false≢true e)
 
-goes_part : (p : ℕ) → code_at p ≡ 133 → Goes p 44 behind_comma 0
+goes_part : (p : ℕ) → code_at p ≡ 133 → Goes p 44 behind_comma None
 unfolding code_at
 goes_part p e =
     record {
@@ -65,7 +66,7 @@ sits_parts : (p b : ℕ) → code_at p ≡ 133 → Sits p b (parts_turn b)
 unfolding parts_turn
 sits_parts p b e = go (eqb b 41) refl (eqb b 44) refl
   where
-    go : (s : Bool) → eqb b 41 ≡ s → (t : Bool) → eqb b 44 ≡ t → Sits p b (cond s Out (cond t (On behind_comma 0) Dead))
+    go : (s : Bool) → eqb b 41 ≡ s → (t : Bool) → eqb b 44 ≡ t → Sits p b (cond s (Some Out) (cond t (Some (On behind_comma None)) None))
     go true q t r =
         sits_out (eqb-true b 41 q)
         (record { no_head = no_head_parts p e; in_body = λ k c o. several_bracket k (parts_fits p k c e o) })
@@ -137,7 +138,7 @@ or_fits One c e = absurd (false≢true e)
 -- behind the first letter of `and` or `or`
 goes_word : (p q b : ℕ) → (heads (codes p) ≡ true → ⊥) → ((k : Level) (c : ℕ) → fits k c (codes p) ≡ true → is_test k ≡ true)
     → ((k : Level) (c : ℕ) → is_test k ≡ true → fits k c (codes (suc q)) ≡ true)
-    → 97 ≤ b → b ≡ code_at q → code_at (q - 1) ≡ 0 → Goes p b (suc q) 0
+    → 97 ≤ b → b ≡ code_at q → code_at (q - 1) ≡ 0 → Goes p b (suc q) None
 goes_word p q b n f g l e z =
     record {
       not_open = λ y. omega arith;
@@ -153,13 +154,13 @@ sits_joint : (p b : ℕ) → (heads (codes p) ≡ true → ⊥) → ((k : Level)
 unfolding code_at joint_turn
 sits_joint p b n f = go (eqb b 97) refl (eqb b 111) refl
   where
-    go : (s : Bool) → eqb b 97 ≡ s → (t : Bool) → eqb b 111 ≡ t → Sits p b (cond s (On behind_a 0) (cond t (On behind_o 0) Dead))
+    go : (s : Bool) → eqb b 97 ≡ s → (t : Bool) → eqb b 111 ≡ t → Sits p b (cond s (Some (On behind_a None)) (cond t (Some (On behind_o None)) None))
     go true q t r = let e = eqb-true b 97 q in sits_on (goes_word p 80 b n f and_fits (omega arith) e refl)
     go false q true r = let e = eqb-true b 111 r in sits_on (goes_word p 100 b n f or_fits (omega arith) e refl)
     go false q false r = sits_dead
 
 -- the next digit of a number
-goes_on : (p v b : ℕ) → Numbered p (suc v) → is_digit_byte b ≡ true → grown v b ≤ 65535 → Goes p b p (suc (grown v b))
+goes_on : (p v b : ℕ) → Numbered p (Some v) → is_digit_byte b ≡ true → grown v b ≤ 65535 → Goes p b p (Some (grown v b))
 goes_on p v b (e, s, m) d h =
     let l = digit_is b d in
     record {
@@ -177,13 +178,13 @@ limit_low plain x h = h
 limit_low value x h = omega arith
 limit_low cap x h = omega arith
 
-sits_number : (p v b : ℕ) → Numbered p (suc v) → Sits p b (number_turn p v b)
+sits_number : (p v b : ℕ) → Numbered p (Some v) → Sits p b (number_turn p v b)
 unfolding number_turn
 sits_number p v b m =
     go (is_digit_byte b) refl (leb 1 v && leb (grown v b) (limit (sort_of (code_at (p - 1))))) refl
   where
     go : (d : Bool) → is_digit_byte b ≡ d → (s : Bool) → leb 1 v && leb (grown v b) (limit (sort_of (code_at (p - 1)))) ≡ s
-        → Sits p b (cond d (cond s (On p (suc (grown v b))) Dead) (literal_turn p b))
+        → Sits p b (cond d (cond s (Some (On p (Some (grown v b)))) None) (literal_turn p b))
     go true d true s =
         let l = leb-true (grown v b) (limit (sort_of (code_at (p - 1)))) (both {a = leb 1 v} s).1 in
         sits_on (goes_on p v b m d (limit_low (sort_of (code_at (p - 1))) (grown v b) l))
@@ -213,7 +214,7 @@ sits_symbol p b h =
     go : (r : Bool) → eqb (code_at p) 128 ≡ r → (s : Bool) → eqb (code_at p) 133 ≡ s → (t : Bool) → eqb (code_at p) 134 ≡ t
         → (u : Bool) → eqb (code_at p) 136 ≡ u → (v : Bool) → eqb (code_at p) 129 ≡ v → (w : Bool) → ltb (code_at p) 138 ≡ w
         → (x : Bool) → eqb b 74 ≡ x
-        → Sits p b (cond r (cond x (Into place_behind_j) Dead) (cond s (parts_turn b) (cond t (test_turn p b) (cond u (inner_turn p b)
+        → Sits p b (cond r (cond x (Some (Into place_behind_j)) None) (cond s (parts_turn b) (cond t (test_turn p b) (cond u (inner_turn p b)
         (cond v (literal_turn first_name b) (cond w (joint_turn b) (digit_turn p b)))))))
     go true e s f t g u i v j w k true l = sits_program (eqb-true b 74 l) (eqb-true (code_at p) 128 e)
     go true e s f t g u i v j w k false l = sits_dead
@@ -234,13 +235,13 @@ sits_ended : (p b : ℕ) → code_at p ≡ 0 → Sits p b (literal_turn p b)
 unfolding literal_turn
 sits_ended p b e = rw (eq-eqb (code_at p) 0 e) sits_dead
 
-pub sits : (p n b : ℕ) → Numbered p n → Sits p b (turn_of p n b)
+pub sits : (p : ℕ) (n : Option ℕ) (b : ℕ) → Numbered p n → Sits p b (turn_of p n b)
 unfolding turn_of
-sits p zero b m = go (ltb (code_at p) 128) refl (eqb (code_at p) 0) refl
+sits p None b m = go (ltb (code_at p) 128) refl (eqb (code_at p) 0) refl
   where
     go : (s : Bool) → ltb (code_at p) 128 ≡ s → (t : Bool) → eqb (code_at p) 0 ≡ t
         → Sits p b (cond s (literal_turn p b) (symbol_turn (code_at p) p b))
     go false e t f = sits_symbol p b (ltb-false (code_at p) 128 e)
     go true e true f = sits_ended p b (eqb-true (code_at p) 0 f)
     go true e false f = sits_literal p b (eqb-false (code_at p) 0 f) (ltb-true (code_at p) 128 e)
-sits p (suc v) b m = sits_number p v b m
+sits p (Some v) b m = sits_number p v b m

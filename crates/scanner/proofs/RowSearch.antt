@@ -1,15 +1,13 @@
--- Searches in the table of names, step by step: for the row that goes on with a byte, and for the level that a name tells; and a turn within
--- a number or not.
-use Prim.Native.Nat.{ℕ, zero, suc, ◌+◌, ◌-◌, ◌%◌, ◌<◌, ◌≤◌}
-use mathlib.Core.Bool.{Bool, true, false, cond, ◌&&◌}
-use mathlib.Core.Path.{◌≡◌, refl}
+-- Searches in the table of names, step by step: for the row that goes on with a byte, and for the level that a name tells.
+use Prim.Native.Nat.{ℕ, suc, ◌+◌, ◌-◌, ◌%◌, ◌<◌, ◌≤◌}
+use mathlib.Core.Bool.{Bool, true, false, ◌&&◌}
+use mathlib.Core.Path.{◌≡◌}
 use native.Mathlib.Omega.{arith}
-use lib.Dec.{eqb, ltb}
+use lib.Dec.{eqb}
 use borrow.Author.Tests.{eq-eqb, ne_eqb}
 use Rattle.form.specs.Inside.Rows.{row_at, form_row, form_count, code_at, name_end, agree, place_from}
 use Rattle.scanner.specs.declared.levels.Level.TheVariants.{One}
 use Rattle.scanner.specs.Levels.{level_in, level_from}
-use Rattle.scanner.specs.Turns.{literal_turn, symbol_turn, number_turn, turn_of}
 
 one_fewer : (n j : ℕ) → j < n → n - j ≡ suc (n - suc j)
 one_fewer n j h = omega arith
@@ -67,13 +65,3 @@ module _ (a b k : ℕ) where
   pub level_none : form_count ≤ k → level_from (form_count - k) k a b ≡ One
   unfolding level_from
   level_none h = rw (none_left form_count k h)
-
-pub turn_number : (p v b : ℕ) → 0 < v → turn_of p v b ≡ number_turn p (v - 1) b
-unfolding turn_of
-turn_number p zero b h = absurd (omega arith)
-turn_number p (suc v) b h = let e : suc v - 1 ≡ v = omega arith in rw e
-
-pub turn_plain : (p v b : ℕ) → v ≤ 0 → turn_of p v b ≡ cond (ltb (code_at p) 128) (literal_turn p b) (symbol_turn (code_at p) p b)
-unfolding turn_of
-turn_plain p zero b h = refl
-turn_plain p (suc v) b h = absurd (omega arith)

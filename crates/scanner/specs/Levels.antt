@@ -1,5 +1,5 @@
 -- The bracket that a place of a text stands in, and what is still to come of the levels round it.
-use Rattle.std.specs.Prelude.{ℕ, zero, suc, ◌+◌, ◌-◌, ◌<◌, Bool, cond, ◌&&◌, List, [], ◌++◌, eqb, ltb, get_or}
+use Rattle.std.specs.Prelude.{ℕ, zero, suc, ◌+◌, ◌-◌, ◌<◌, Bool, cond, ◌&&◌, List, [], ◌++◌, eqb, ltb, get_or, None}
 use Rattle.scanner.specs.declared.levels.Bracket.{Bracket}
 use Rattle.scanner.specs.declared.levels.Level.{Level}
 use Rattle.scanner.specs.declared.levels.Level.TheVariants.{Top, Several, Branches, Test, One}
@@ -97,4 +97,4 @@ rest_at t o = rest_of (level_at t (around t o).at) (around t o).spaces
 -- what is still to come of the levels round the bracket at o
 pub data Under (t : List ℕ) : ℕ → Stack → Type 0 where
   top : Under t 0 []
-  level : {o : ℕ} {σ : Stack} → 0 < o → Under t (outer_at t o) σ → Under t o (held (rest_at t o) 0 ++ σ)
+  level : {o : ℕ} {σ : Stack} → 0 < o → Under t (outer_at t o) σ → Under t o (held (rest_at t o) None ++ σ)

@@ -1,5 +1,6 @@
 -- Where the reader is in a text and in the rules, and what its ring of frames holds.
-use Rattle.std.specs.Prelude.{ℕ, zero, suc, ◌-◌, ◌%◌, ◌<◌, ◌≤◌, Bool, true, false, cond, ◌&&◌, ◌||◌, ◌≡◌, List, [], ◌∷◌, eqb, ltb, leb, get_or}
+use Rattle.std.specs.Prelude.{ℕ, zero, suc, ◌-◌, ◌%◌, ◌<◌, ◌≤◌, Bool, true, false, cond, ◌&&◌, ◌||◌, ◌≡◌, List, [], ◌∷◌, eqb, ltb, leb, get_or, Option, None, Some}
+use Rattle.scanner.specs.declared.levels.Frame.{Frame}
 use Rattle.scanner.specs.declared.levels.Level.{Level}
 use Rattle.scanner.specs.declared.levels.Level.TheVariants.{Top, Several, Branches, Test, One}
 use Rattle.scanner.specs.declared.scan.Place.{Place}
@@ -73,45 +74,52 @@ abbrev pub is_end : ℕ → Bool
 is_end x = eqb x 41 || (eqb x 44 || eqb x 32)
 
 -- in no number, or in one of this value so far whose end byte is at p
-abbrev pub Numbered : ℕ → ℕ → Type 0
-Numbered p zero = Unit {0}
-Numbered p (suc v) = (is_end (code_at p) ≡ true) × (128 ≤ code_at (p - 1)) × (v ≤ 65535)
+abbrev pub Numbered : ℕ → Option ℕ → Type 0
+Numbered p None = Unit {0}
+Numbered p (Some v) = (is_end (code_at p) ≡ true) × (128 ≤ code_at (p - 1)) × (v ≤ 65535)
 
 -- two places with the same rest of a rule, the first behind a symbol
 abbrev pub Resumes : ℕ → ℕ → Type 0
 Resumes p q = (codes p ≡ codes q) × (128 ≤ code_at (p - 1))
 
+-- the frame of a level that is left at place p, its bracket being o
+abbrev pub frame : ℕ → ℕ → Frame
+frame o p = record { bracket = o; rest = p }
+
+abbrev pub no_frame : Frame
+no_frame = frame 0 0
+
 -- the ring's last l frames are those of the levels round o, d being the next one's number
-abbrev pub RingHolds : List ℕ → ℕ → ℕ → ℕ → List ℕ → List ℕ → Type 0
-RingHolds t o d zero opens rests = Unit {0}
-RingHolds t o zero (suc l) opens rests = ⊥
-RingHolds t o (suc d) (suc l) opens rests =
-    (get_or opens (d % 4096) 0 ≡ outer_at t o)
-    × Resumes (get_or rests (d % 4096) 0) (rest_at t o)
-    × RingHolds t (outer_at t o) d l opens rests
+abbrev pub RingHolds : List ℕ → ℕ → ℕ → ℕ → List Frame → Type 0
+RingHolds t o d zero ring = Unit {0}
+RingHolds t o zero (suc l) ring = ⊥
+RingHolds t o (suc d) (suc l) ring =
+    ((get_or ring (d % 4096) no_frame).bracket ≡ outer_at t o)
+    × Resumes (get_or ring (d % 4096) no_frame).rest (rest_at t o)
+    × RingHolds t (outer_at t o) d l ring
 
 -- how many frames the ring holds with one more
 abbrev pub room_of : ℕ → ℕ
 room_of l = cond (ltb l 4096) (suc l) l
 
 -- on the same level, at place q with the number n and the bracket o
-abbrev pub moved : Place → ℕ → ℕ → ℕ → Place
+abbrev pub moved : Place → ℕ → Option ℕ → ℕ → Place
 moved at q n o = record { pc = q; number = n; bracket = o; depth = at.depth; live = at.live }
 
 -- into a rule at place q, its bracket being o
 abbrev pub entered : Place → ℕ → ℕ → Place
-entered at q o = record { pc = q; number = 0; bracket = o; depth = suc at.depth; live = room_of at.live }
+entered at q o = record { pc = q; number = None; bracket = o; depth = suc at.depth; live = room_of at.live }
 
 -- out of a bracket, with l frames in the ring: to the level round it, as the text tells it or the ring
-unfoldable pub leaving : List ℕ → Place → ℕ → List ℕ → List ℕ → Place
+unfoldable pub leaving : List ℕ → Place → ℕ → List Frame → Place
 unfolding outer_at rest_at
-leaving t at zero opens rests =
-    record { pc = rest_at t at.bracket; number = 0; bracket = outer_at t at.bracket; depth = at.depth; live = 0 }
-leaving t at (suc l) opens rests =
+leaving t at zero ring =
+    record { pc = rest_at t at.bracket; number = None; bracket = outer_at t at.bracket; depth = at.depth; live = 0 }
+leaving t at (suc l) ring =
     record {
-      pc = get_or rests ((at.depth - 1) % 4096) 0;
-      number = 0;
-      bracket = get_or opens ((at.depth - 1) % 4096) 0;
+      pc = (get_or ring ((at.depth - 1) % 4096) no_frame).rest;
+      number = None;
+      bracket = (get_or ring ((at.depth - 1) % 4096) no_frame).bracket;
       depth = at.depth - 1;
       live = l;
     }
@@ -121,7 +129,7 @@ abbrev pub Ringed : Place → Type 0
 Ringed at = 0 < at.live → 0 < at.depth
 
 -- the reader stands before byte i, and σ is to come of the levels round its own
-pub record Lies (t : List ℕ) (i : ℕ) (at : Place) (opens rests : List ℕ) (σ : Stack) : Type 0 where
+pub record Lies (t : List ℕ) (i : ℕ) (at : Place) (ring : List Frame) (σ : Stack) : Type 0 where
   pub before : at.bracket ≤ i
   pub deep : at.depth ≤ i
   pub few : at.live ≤ 4096
@@ -129,4 +137,4 @@ pub record Lies (t : List ℕ) (i : ℕ) (at : Place) (opens rests : List ℕ) (
   pub under : Under t at.bracket σ
   pub placed : IsIn t i at.pc at.bracket
   pub follows : Follows t i at.pc
-  pub kept : RingHolds t at.bracket at.depth at.live opens rests
+  pub kept : RingHolds t at.bracket at.depth at.live ring

@@ -1,6 +1,6 @@
 -- The table of names as the rules that the scanner goes along: the places where it goes on, and the reading machine's symbols that a place
 -- stands for.
-use Rattle.std.specs.Prelude.{ℕ, zero, suc, ◌+◌, ◌-◌, true, false, cond, [], ◌∷◌}
+use Rattle.std.specs.Prelude.{ℕ, ◌+◌, ◌-◌, true, false, cond, [], ◌∷◌, Option, None, Some}
 use Rattle.form.specs.Inside.Rows.{code_at, row_at, word_row, form_row, codes, in_name}
 use Rattle.form.specs.Inside.Machine.{ending, sort_of, name, tail, syms, Stack}
 
@@ -24,9 +24,8 @@ behind_o = row_at (word_row 3) + 1
 abbrev pub behind_comma : ℕ
 behind_comma = row_at (form_row 3) + 6
 
--- What is still to come of a place's row. Within a number the place is that of its end byte, and the number's value so far is kept one
--- higher (0: in no number).
-unfoldable pub held : ℕ → ℕ → Stack
+-- What is still to come of a place's row. Within a number the place is that of its end byte, and the number's value so far is kept.
+unfoldable pub held : ℕ → Option ℕ → Stack
 unfolding code_at codes in_name syms
-held p zero = cond (in_name p) (name p ∷ []) (syms false (codes p))
-held p (suc v) = tail (sort_of (code_at (p - 1))) v (ending (code_at p)) ∷ syms true (codes p)
+held p None = cond (in_name p) (name p ∷ []) (syms false (codes p))
+held p (Some v) = tail (sort_of (code_at (p - 1))) v (ending (code_at p)) ∷ syms true (codes p)

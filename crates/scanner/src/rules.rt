@@ -1,16 +1,17 @@
 // What each place in the table of names makes of a text's next byte.
-ghost use Rattle.std.specs.Prelude.{◌+◌, ◌-◌, ◌%◌, ◌<◌, ◌≤◌, ◌&&◌, ◌≡◌, eqb};
-ghost use Rattle.form.specs.Inside.Rows.{TheNames, row_at, form_row, form_count, long, code_at, agree, place_from};
+ghost use Rattle.std.specs.Prelude.{◌+◌, ◌-◌, ◌%◌, ◌<◌, ◌≤◌, ◌&&◌, ◌≡◌, MatchOption, None, eqb};
+ghost use Rattle.std.specs.Option.{ForSome};
+ghost use Rattle.form.specs.Inside.Rows.{row_at, form_row, form_count, long, code_at, agree, place_from};
 ghost use Rattle.form.specs.Inside.Machine.{limit, sort_of};
-ghost use Rattle.scanner.specs.Turns.{other_turn, literal_turn, digit_turn, test_turn, inner_turn, parts_turn, joint_turn};
+ghost use Rattle.scanner.specs.Turns.{other_turn, literal_turn, digit_turn, test_turn, inner_turn, parts_turn, joint_turn, program_turn};
 ghost use Rattle.scanner.specs.Turns.{symbol_turn, number_turn, turn_of};
 
 use events::EventSet;
+use form::digit_value;
 use form::names::{
-    EVENT, FIRST_FORM, FIRST_WORD, FORMS, INNER, LONG, NAME, NUMBER, PARTS, PROGRAM, ROW, TEST,
-    VALUE, code,
+    EVENT, FIRST_FORM, FIRST_WORD, FORMS, INNER, NAME, NUMBER, Names, PARTS, PROGRAM, ROW, TEST,
+    VALUE,
 };
-use form::{digit_value, is_digit};
 
 // Where the first form's name begins; and where the table goes on behind the J of a program, the bracket of a configuration, the n of a
 // `not`, the a of an `and`, the o of an `or`, and the comma before a later part.
@@ -37,247 +38,238 @@ const LARGEST_CAP: usize = 255;
 
 const LARGEST: usize = 65535;
 
-// What a byte does at a place: nothing goes on; on at the same level; a name's bracket; into a rule, with the rest
-// of this one left behind; out of a bracket.
+// What a byte does at a place: on at the same level, the value of a number so far being that, if it is in one; a name's bracket; into a rule,
+// with the rest of this one left behind; out of a bracket.
 #[derive(Clone, Copy)]
 pub enum Turn {
-    Dead,
-    On(usize, usize),
+    On(usize, Option<usize>),
     Opens(usize),
     Into(usize),
     Out,
 }
 
 // The code before a place.
-pub fn code_before(names: &[u8; LONG], pc: usize) -> u8
-    requires { TheNames names.now }
+pub fn code_before(names: &Names, pc: usize) -> u8
     ensures { result ≡ code_at (pc - 1) }
 {
-    if pc == 0 {
-        return code(names, 0);
-    }
-    code(names, pc - 1)
+    names.code(pc.saturating_sub(1))
 }
 
 // Whether so many codes from two places on are the same.
-fn same_codes(names: &[u8; LONG], a: usize, c: usize, n: usize) -> bool
-    requires the_names { TheNames names.now }
-    requires n_bound { (a + n ≤ long) × (c + n ≤ long) }
+fn same_codes(names: &Names, a: usize, c: usize, n: usize) -> bool
+    requires in_the_table { (a + n ≤ long) × (c + n ≤ long) }
     ensures { result ≡ agree n a c }
 {
-    let mut j = 0;
-    while j < n {
-        if code(names, a + j) != code(names, c + j) {
+    for j in 0..n {
+        if names.code(a + j) != names.code(c + j) {
             return false;
         }
-        j += 1;
     }
     true
 }
 
 // Whether a row begins with the letters before a place, and has b behind them.
-fn goes_on(names: &[u8; LONG], row: usize, pc: usize, b: u8) -> bool
-    requires the_names { TheNames names.now }
-    requires row_bound { (row < form_row form_count) × (pc < long) }
+fn goes_on(names: &Names, row: usize, pc: usize, b: u8) -> bool
+    requires in_the_table { (row < form_row form_count) × (pc < long) }
     ensures { result ≡ (eqb b (code_at (row_at row + pc % 20)) && agree (pc % 20) (pc - pc % 20) (row_at row)) }
 {
     let column = pc % ROW;
-    if b == code(names, ROW * row + column) {
+    if b == names.code(ROW * row + column) {
         return same_codes(names, pc - column, ROW * row, column);
     }
     false
 }
 
-// The place in a form's name that has b behind the letters before a place; 0 if there is none.
-fn other_place(names: &[u8; LONG], pc: usize, b: u8) -> usize
-    requires the_names { TheNames names.now }
-    requires pc_lt_long { pc < long }
-    ensures { (result ≡ place_from form_count (form_row 0) pc b) × (result < long) }
+// The place in a form's name that has b behind the letters before a place.
+fn other_place(names: &Names, pc: usize, b: u8) -> Option<usize>
+    requires in_the_table { pc < long }
+    ensures { MatchOption result (place_from form_count (form_row 0) pc b ≡ 0) (λ q. (q ≡ place_from form_count (form_row 0) pc b) × (0 < q) × (q < long)) }
 {
-    let mut row = FIRST_FORM;
-    while row < FIRST_FORM + FORMS {
+    for row in FIRST_FORM..FIRST_FORM + FORMS {
         if goes_on(names, row, pc, b) {
-            return ROW * row + pc % ROW;
+            return Some(ROW * row + pc % ROW);
         }
-        row += 1;
     }
-    0
+    None
 }
 
 // Behind the same letters in another form's name.
-fn other(names: &[u8; LONG], pc: usize, b: u8) -> Turn
-    requires the_names { TheNames names.now }
-    requires pc_lt_long { pc < long }
+#[tactic(auto, unfolding(crate::specs::Turns::other_turn))]
+fn other(names: &Names, pc: usize, b: u8) -> Option<Turn>
+    requires in_the_table { pc < long }
     ensures { result ≡ other_turn pc b }
 {
     if pc < FIRST_NAME {
-        return Turn::Dead;
+        return None;
     }
-    let at = other_place(names, pc, b);
-    if at == 0 {
-        return Turn::Dead;
+    match other_place(names, pc, b) {
+        None => None,
+        Some(at) if b == b'(' => Some(Turn::Opens(at + 1)),
+        Some(at) => Some(Turn::On(at + 1, None)),
     }
-    if b == b'(' {
-        return Turn::Opens(at + 1);
-    }
-    Turn::On(at + 1, 0)
 }
 
 // At a byte that is to be read as it is.
-fn literal(names: &[u8; LONG], pc: usize, b: u8) -> Turn
-    requires { TheNames names.now }
+#[tactic(auto, unfolding(crate::specs::Turns::literal_turn))]
+fn literal(names: &Names, pc: usize, b: u8) -> Option<Turn>
     ensures { result ≡ literal_turn pc b }
 {
-    let x = code(names, pc);
+    let x = names.code(pc);
     if x == 0 {
-        return Turn::Dead;
+        return None;
     }
     if b == x {
-        if b == b'(' {
-            return Turn::Opens(pc + 1);
-        }
-        if b == b')' {
-            return Turn::Out;
-        }
-        return Turn::On(pc + 1, 0);
+        return Some(match b {
+            b'(' => Turn::Opens(pc + 1),
+            b')' => Turn::Out,
+            _ => Turn::On(pc + 1, None),
+        });
     }
     other(names, pc, b)
 }
 
-// At a number: its value so far is kept one higher, 0 standing for none.
-fn digit(pc: usize, b: u8) -> Turn
-    requires { pc < long }
+// At a number.
+#[tactic(auto, unfolding(crate::specs::Turns::digit_turn))]
+fn digit(pc: usize, b: u8) -> Option<Turn>
+    requires in_the_table { pc < long }
     ensures { result ≡ digit_turn pc b }
 {
-    if is_digit(b) {
-        return Turn::On(pc + 1, digit_value(b) + 1);
+    match digit_value(b) {
+        Some(d) => Some(Turn::On(pc + 1, Some(d))),
+        None => None,
     }
-    Turn::Dead
 }
 
-fn test(pc: usize, b: u8) -> Turn
-    requires { pc < long }
+#[tactic(auto, unfolding(crate::specs::Turns::test_turn))]
+fn test(pc: usize, b: u8) -> Option<Turn>
+    requires in_the_table { pc < long }
     ensures { result ≡ test_turn pc b }
 {
     if b == b'(' {
-        return Turn::Into(BEHIND_BRACKET);
+        return Some(Turn::Into(BEHIND_BRACKET));
     }
     digit(pc, b)
 }
 
-fn inner(pc: usize, b: u8) -> Turn
-    requires { pc < long }
+#[tactic(auto, unfolding(crate::specs::Turns::inner_turn))]
+fn inner(pc: usize, b: u8) -> Option<Turn>
+    requires in_the_table { pc < long }
     ensures { result ≡ inner_turn pc b }
 {
     if b == b'n' {
-        return Turn::On(BEHIND_N, 0);
+        return Some(Turn::On(BEHIND_N, None));
     }
     test(pc, b)
 }
 
-fn parts(b: u8) -> Turn
+#[tactic(auto, unfolding(crate::specs::Turns::parts_turn))]
+fn parts(b: u8) -> Option<Turn>
     ensures { result ≡ parts_turn b }
 {
-    if b == b')' {
-        return Turn::Out;
+    match b {
+        b')' => Some(Turn::Out),
+        b',' => Some(Turn::On(BEHIND_COMMA, None)),
+        _ => None,
     }
-    if b == b',' {
-        return Turn::On(BEHIND_COMMA, 0);
-    }
-    Turn::Dead
 }
 
-fn joint(names: &[u8; LONG], b: u8) -> Turn
-    requires { TheNames names.now }
+#[tactic(auto, unfolding(crate::specs::Turns::joint_turn))]
+fn joint(names: &Names, b: u8) -> Option<Turn>
     ensures { result ≡ joint_turn b }
 {
-    if b == code(names, BEHIND_A - 1) {
-        return Turn::On(BEHIND_A, 0);
+    if b == names.code(BEHIND_A - 1) {
+        return Some(Turn::On(BEHIND_A, None));
     }
-    if b == code(names, BEHIND_O - 1) {
-        return Turn::On(BEHIND_O, 0);
+    if b == names.code(BEHIND_O - 1) {
+        return Some(Turn::On(BEHIND_O, None));
     }
-    Turn::Dead
+    None
 }
 
-fn symbol(names: &[u8; LONG], x: u8, pc: usize, b: u8) -> Turn
-    requires the_names { TheNames names.now }
-    requires pc_lt_long { pc < long }
+#[tactic(auto, unfolding(crate::specs::Turns::program_turn))]
+fn program(b: u8) -> Option<Turn>
+    ensures { result ≡ program_turn b }
+{
+    if b == b'J' {
+        return Some(Turn::Into(BEHIND_J));
+    }
+    None
+}
+
+#[tactic(auto, unfolding(crate::specs::Turns::symbol_turn))]
+fn symbol(names: &Names, x: u8, pc: usize, b: u8) -> Option<Turn>
+    requires in_the_table { pc < long }
     ensures { result ≡ symbol_turn x pc b }
 {
-    if x == PROGRAM {
-        if b == b'J' {
-            return Turn::Into(BEHIND_J);
+    match x {
+        PROGRAM => program(b),
+        PARTS => parts(b),
+        TEST => test(pc, b),
+        INNER => inner(pc, b),
+        NAME => literal(names, FIRST_NAME, b),
+        _ => {
+            if x < EVENT {
+                return joint(names, b);
+            }
+            digit(pc, b)
         }
-        return Turn::Dead;
     }
-    if x == PARTS {
-        return parts(b);
-    }
-    if x == TEST {
-        return test(pc, b);
-    }
-    if x == INNER {
-        return inner(pc, b);
-    }
-    if x == NAME {
-        return literal(names, FIRST_NAME, b);
-    }
-    if x < EVENT {
-        return joint(names, b);
-    }
-    digit(pc, b)
 }
 
 // The largest number that may end at this place.
-fn limit_at(names: &[u8; LONG], pc: usize) -> usize
-    requires { TheNames names.now }
+fn limit_at(names: &Names, pc: usize) -> usize
     ensures { result ≡ limit (sort_of (code_at (pc - 1))) }
 {
     let x = code_before(names, pc);
     if x < NUMBER {
         return LARGEST_EVENT;
     }
-    if x == NUMBER {
-        return LARGEST;
+    match x {
+        NUMBER => LARGEST,
+        VALUE => LARGEST_VALUE,
+        _ => LARGEST_CAP,
     }
-    if x == VALUE {
-        return LARGEST_VALUE;
-    }
-    LARGEST_CAP
 }
 
 // Within a number whose end byte is at this place.
-fn number(names: &[u8; LONG], pc: usize, value: usize, b: u8) -> Turn
-    requires the_names { TheNames names.now }
-    requires value_bound { value ≤ 65535 }
+#[tactic(auto, unfolding(crate::specs::Turns::number_turn))]
+fn number(names: &Names, pc: usize, value: usize, b: u8) -> Option<Turn>
+    requires low { value ≤ 65535 }
     ensures { result ≡ number_turn pc value b }
 {
-    if is_digit(b) {
-        if value == 0 {
-            return Turn::Dead;
-        }
-        let grown = 10 * value + digit_value(b);
-        if limit_at(names, pc) < grown {
-            return Turn::Dead;
-        }
-        return Turn::On(pc, grown + 1);
+    let Some(d) = digit_value(b) else {
+        return literal(names, pc, b);
+    };
+    if value == 0 {
+        return None;
     }
-    literal(names, pc, b)
+    let grown = 10 * value + d;
+    if limit_at(names, pc) < grown {
+        return None;
+    }
+    Some(Turn::On(pc, Some(grown)))
 }
 
-// What the byte b does at a place, within a number or not.
-pub fn turn_at(names: &[u8; LONG], pc: usize, value: usize, b: u8) -> Turn
-    requires the_names { TheNames names.now }
-    requires value_bound { value ≤ 65536 }
-    ensures { result ≡ turn_of pc value b }
+// In no number.
+#[tactic(auto, unfolding(crate::specs::Turns::turn_of))]
+fn rule(names: &Names, pc: usize, b: u8) -> Option<Turn>
+    ensures { result ≡ turn_of pc None b }
 {
-    if 0 < value {
-        return number(names, pc, value - 1, b);
-    }
-    let x = code(names, pc);
+    let x = names.code(pc);
     if x < PROGRAM {
         return literal(names, pc, b);
     }
     symbol(names, x, pc, b)
+}
+
+// What the byte b does at a place, within a number of that value so far or in none.
+#[tactic(auto, unfolding(crate::specs::Turns::turn_of))]
+pub fn turn_at(names: &Names, pc: usize, value: Option<usize>, b: u8) -> Option<Turn>
+    requires low { ForSome value (λ v. v ≤ 65535) }
+    ensures { result ≡ turn_of pc value b }
+{
+    match value {
+        Some(v) => number(names, pc, v, b),
+        None => rule(names, pc, b),
+    }
 }

@@ -1,108 +1,91 @@
 // Reading a text once from left to right: where it fails, or how large its table is.
 ghost use Rattle.std.specs.Prelude.{suc, ◌+◌, ◌<◌, ◌≤◌, ◌%◌, ◌≡◌, length, set};
-ghost use Rattle.form.specs.Inside.Rows.{TheNames, long};
-ghost use Rattle.scanner.specs.Places.{room_of, entered, leaving, Ringed};
-ghost use Rattle.scanner.specs.Scanning.{Somewhere, Taken, opened_at, one_node, one_test, tally_code};
+ghost use Rattle.std.specs.Option.{ForSome};
+ghost use Rattle.form.specs.Inside.Rows.{long};
+ghost use Rattle.form.specs.Inside.Counted.{a_node, a_test};
+ghost use Rattle.scanner.specs.Places.{room_of, frame, entered, leaving, Ringed};
+ghost use Rattle.scanner.specs.Scanning.{Somewhere, Taken, opened_at, tally_code};
 ghost use Rattle.scanner.specs.Scanning.{tally_number, tally_at, Tells};
 
-use crate::levels::outer;
+use crate::levels::{Frame, outer};
 use crate::rules::{Turn, code_before, turn_at};
-use form::names::{INNER, LONG, NUMBER, PARTS, PROGRAM, TEST, code, table_of_names};
+use form::Sizes;
+use form::names::{INNER, NUMBER, Names, PARTS, PROGRAM, TEST};
 
-// What reading a text tells: where it fails, or its nodes, configuration records, and one above its highest event.
-#[derive(Clone, Copy)]
-pub enum Scanned {
-    Fails(usize),
-    Counts { n: usize, m: usize, v: usize },
-}
+// How many frames the ring has.
+const RING: usize = 4096;
 
-// Where the reader is: a place in the rules, a number's value so far and 1 (0: in none), the innermost open bracket
+// Where the reader is: a place in the rules, the value so far of the number that it is in, the innermost open bracket
 // (or behind the J whose bracket is still to come), the ring's next frame, and how many frames it holds.
 #[derive(Clone, Copy)]
 pub struct Place {
     pub pc: usize,
-    pub number: usize,
+    pub number: Option<usize>,
     pub bracket: usize,
     pub depth: usize,
     pub live: usize,
 }
 
-// A byte with which no reading goes on, or where the reader is behind it.
-#[derive(Clone, Copy)]
-pub enum Took {
-    Not,
-    To(Place),
-}
-
-// Nodes, configuration records, and one above the highest event so far.
-#[derive(Clone, Copy)]
-pub struct Tally {
-    pub nodes: usize,
-    pub tests: usize,
-    pub events: usize,
-}
-
 fn room(live: usize) -> usize
     ensures { result ≡ room_of live }
 {
-    if live < 4096 {
+    if live < RING {
         return live + 1;
     }
     live
 }
 
 // Into a rule; the ring takes the frame of the level that is left.
-fn enter(at: Place, to: usize, bracket: usize, opens: &mut [usize], rests: &mut [usize]) -> Place
-    requires pc_lt_long { at.pc < long }
-    requires depth_bound { at.depth < 18446744073709551615 }
-    requires opens_len { length opens.old ≡ 4096 }
-    requires rests_len { length rests.old ≡ 4096 }
-    ensures value { result ≡ entered at to bracket }
-    ensures opens_after { opens.new ≡ set opens.old (at.depth % 4096) at.bracket }
-    ensures rests_after { rests.new ≡ set rests.old (at.depth % 4096) (suc at.pc) }
+fn enter(at: Place, to: usize, bracket: usize, ring: &mut [Frame]) -> Place
+    requires in_the_table { at.pc < long }
+    requires not_too_deep { at.depth < 18446744073709551615 }
+    requires ring_len { length ring.old ≡ 4096 }
+    ensures place { result ≡ entered at to bracket }
+    ensures left { ring.new ≡ set ring.old (at.depth % 4096) (frame at.bracket (suc at.pc)) }
 {
-    let k = at.depth % 4096;
-    opens[k] = at.bracket;
-    rests[k] = at.pc + 1;
+    ring[at.depth % RING] = Frame {
+        bracket: at.bracket,
+        rest: at.pc + 1,
+    };
     Place {
         pc: to,
-        number: 0,
-        bracket: bracket,
+        number: None,
+        bracket,
         depth: at.depth + 1,
         live: room(at.live),
     }
 }
 
 // Out of a bracket, to the level round it, which the ring holds or the text tells.
-fn leave(names: &[u8; LONG], text: &[u8], at: Place, opens: &[usize], rests: &[usize]) -> Place
-    requires the_names { TheNames names.now }
-    requires bracket_in_bounds { at.bracket ≤ length text.now }
+#[tactic(auto, unfolding(crate::specs::Places::leaving))]
+fn leave(names: &Names, text: &[u8], at: Place, ring: &[Frame]) -> Place
+    requires in_the_text { at.bracket ≤ length text.now }
     requires ringed { Ringed at }
-    requires opens_len { length opens.now ≡ 4096 }
-    requires rests_len { length rests.now ≡ 4096 }
-    ensures { result ≡ leaving text.now at at.live opens.now rests.now }
+    requires ring_len { length ring.now ≡ 4096 }
+    ensures { result ≡ leaving text.now at at.live ring.now }
 {
     if at.live == 0 {
         let round = outer(names, text, at.bracket);
         return Place {
             pc: round.rest,
-            number: 0,
+            number: None,
             bracket: round.bracket,
-            depth: at.depth,
-            live: 0,
+            ..at
         };
     }
-    let k = (at.depth - 1) % 4096;
+    let depth = at.depth - 1;
+    let frame = ring[depth % RING];
     Place {
-        pc: rests[k],
-        number: 0,
-        bracket: opens[k],
-        depth: at.depth - 1,
+        pc: frame.rest,
+        number: None,
+        bracket: frame.bracket,
+        depth,
         live: at.live - 1,
     }
 }
 
 // Where a program's name or a configuration's bracket is whose first byte is at i.
+#[tactic(auto, unfolding(crate::specs::Scanning::opened_at))]
 fn opened(b: u8, i: usize) -> usize
     requires { i < 18446744073709551615 }
     ensures { result ≡ opened_at b i }
@@ -113,172 +96,126 @@ fn opened(b: u8, i: usize) -> usize
     i + 1
 }
 
-// Reads byte i.
-fn read_byte(
-    names: &[u8; LONG],
-    text: &[u8],
-    i: usize,
-    at: Place,
-    opens: &mut [usize],
-    rests: &mut [usize],
-) -> Took
-    requires the_names { TheNames names.now }
-    requires i_in_bounds { i < length text.now }
-    requires somewhere { Somewhere text.now i at opens.old rests.old }
-    requires opens_len { length opens.old ≡ 4096 }
-    requires rests_len { length rests.old ≡ 4096 }
-    ensures { Taken text.now i at opens.old rests.old opens.new rests.new result }
+// Where the reader is behind byte i, if a reading goes on with it.
+fn read_byte(names: &Names, text: &[u8], i: usize, at: Place, ring: &mut [Frame]) -> Option<Place>
+    requires in_the_text { i < length text.now }
+    requires somewhere { Somewhere text.now i at ring.old }
+    requires ring_len { length ring.old ≡ 4096 }
+    ensures { Taken text.now i at ring.old ring.new result }
 {
     let b = text[i];
-    let turn = turn_at(names, at.pc, at.number, b);
+    let turn = turn_at(names, at.pc, at.number, b)?;
     match turn {
-        Turn::Dead => Took::Not,
-        Turn::On(pc, number) => {
-            Took::To(Place {
-                pc: pc,
-                number: number,
-                bracket: at.bracket,
-                depth: at.depth,
-                live: at.live,
-            })
-        }
-        Turn::Opens(pc) => Took::To(Place {
-            pc: pc,
-            number: 0,
+        Turn::On(pc, number) => Some(Place { pc, number, ..at }),
+        Turn::Opens(pc) => Some(Place {
+            pc,
+            number: None,
             bracket: i,
-            depth: at.depth,
-            live: at.live,
+            ..at
         }),
-        Turn::Into(pc) => Took::To(enter(at, pc, opened(b, i), opens, rests)),
-        Turn::Out => Took::To(leave(names, text, at, opens, rests)),
+        Turn::Into(pc) => Some(enter(at, pc, opened(b, i), ring)),
+        Turn::Out => Some(leave(names, text, at, ring)),
     }
 }
 
 // An event is named where its number has ended.
-fn named(names: &[u8; LONG], k: Tally, pc: usize, number: usize, b: u8) -> Tally
-    requires { TheNames names.now }
-    ensures { result ≡ tally_number pc number b k }
+#[tactic(auto, unfolding(crate::specs::Scanning::tally_number))]
+fn named(names: &Names, k: Sizes, pc: usize, value: usize, b: u8) -> Sizes
+    requires low { value ≤ 65535 }
+    ensures { result ≡ tally_number pc value b k }
 {
-    if b == code(names, pc) {
+    if b == names.code(pc) {
         if NUMBER <= code_before(names, pc) {
             return k;
         }
-        if k.events < number {
-            return Tally {
-                nodes: k.nodes,
-                tests: k.tests,
-                events: number,
-            };
-        }
-        return k;
+        return Sizes {
+            events: k.events.max(value + 1),
+            ..k
+        };
     }
     k
 }
 
-fn one_node(k: Tally) -> Tally
+fn one_node(k: Sizes) -> Sizes
     requires { k.nodes < 18446744073709551615 }
-    ensures { result ≡ one_node k }
+    ensures { result ≡ a_node k }
 {
-    Tally {
+    Sizes {
         nodes: k.nodes + 1,
-        tests: k.tests,
-        events: k.events,
+        ..k
     }
 }
 
-fn one_test(k: Tally) -> Tally
+fn one_test(k: Sizes) -> Sizes
     requires { k.tests < 18446744073709551615 }
-    ensures { result ≡ one_test k }
+    ensures { result ≡ a_test k }
 {
-    Tally {
-        nodes: k.nodes,
+    Sizes {
         tests: k.tests + 1,
-        events: k.events,
+        ..k
     }
 }
 
 // What the byte b adds at a code.
-fn counted_at(k: Tally, x: u8, b: u8) -> Tally
-    requires nodes_bound { k.nodes < 18446744073709551615 }
-    requires tests_bound { k.tests < 18446744073709551615 }
+#[tactic(auto, unfolding(crate::specs::Scanning::tally_code))]
+fn counted_at(k: Sizes, x: u8, b: u8) -> Sizes
+    requires few_nodes { k.nodes < 18446744073709551615 }
+    requires few_tests { k.tests < 18446744073709551615 }
     ensures { result ≡ tally_code x b k }
 {
-    if x == PROGRAM {
-        return one_node(k);
+    match x {
+        PROGRAM => one_node(k),
+        PARTS if b == b',' => one_node(k),
+        TEST => one_test(k),
+        INNER if b != b'n' => one_test(k),
+        _ => k,
     }
-    if x == PARTS {
-        if b == b',' {
-            return one_node(k);
-        }
-        return k;
-    }
-    if x == TEST {
-        return one_test(k);
-    }
-    if x == INNER {
-        if b == b'n' {
-            return k;
-        }
-        return one_test(k);
-    }
-    k
 }
 
 // What the byte b adds to the counts.
-fn counted(names: &[u8; LONG], k: Tally, pc: usize, number: usize, b: u8) -> Tally
-    requires the_names { TheNames names.now }
-    requires nodes_bound { k.nodes < 18446744073709551615 }
-    requires tests_bound { k.tests < 18446744073709551615 }
+#[tactic(auto, unfolding(crate::specs::Scanning::tally_at))]
+fn counted(names: &Names, k: Sizes, pc: usize, number: Option<usize>, b: u8) -> Sizes
+    requires few_nodes { k.nodes < 18446744073709551615 }
+    requires few_tests { k.tests < 18446744073709551615 }
+    requires low { ForSome number (λ v. v ≤ 65535) }
     ensures { result ≡ tally_at pc number b k }
 {
-    if number == 0 {
-        let x = code(names, pc);
-        if x < PROGRAM {
-            return k;
-        }
-        return counted_at(k, x, b);
+    match number {
+        Some(value) => named(names, k, pc, value, b),
+        None => counted_at(k, names.code(pc), b),
     }
-    named(names, k, pc, number, b)
 }
 
-// Reads a text.
-pub fn scan(text: &[u8]) -> Scanned
+// Reads a text: its sizes, or the place where it fails.
+pub fn scan(text: &[u8]) -> Result<Sizes, usize>
     ensures { Tells text.now result }
 {
-    let names = table_of_names();
-    let mut opens = [0usize; 4096];
-    let mut rests = [0usize; 4096];
+    let names = Names::new();
+    let mut ring = [Frame {
+        bracket: 0,
+        rest: 0,
+    }; RING];
     let mut at = Place {
         pc: 0,
-        number: 0,
+        number: None,
         bracket: 0,
         depth: 0,
         live: 0,
     };
-    let mut k = Tally {
+    let mut k = Sizes {
         nodes: 0,
         tests: 0,
         events: 1,
     };
-    let mut i: usize = 0;
-    while i < text.len() {
-        let b = text[i];
-        let took = read_byte(&names, text, i, at, &mut opens, &mut rests);
-        match took {
-            Took::Not => return Scanned::Fails(i),
-            Took::To(next) => {
-                k = counted(&names, k, at.pc, at.number, b);
-                at = next;
-                i = i + 1;
-            }
-        }
-    }
-    if code(&names, at.pc) == 0 {
-        return Scanned::Counts {
-            n: k.nodes,
-            m: k.tests,
-            v: k.events,
+    for (i, b) in text.iter().enumerate() {
+        let Some(next) = read_byte(&names, text, i, at, &mut ring) else {
+            return Err(i);
         };
+        k = counted(&names, k, at.pc, at.number, *b);
+        at = next;
     }
-    Scanned::Fails(i)
+    if names.code(at.pc) == 0 {
+        return Ok(k);
+    }
+    Err(text.len())
 }

@@ -1,21 +1,23 @@
 -- A node with no byte but zeros around others that have some: it rests by its kind, and by its second part.
-use Prim.Native.Nat.{ℕ, ◌+◌, ◌≤◌, ◌<◌}
+use Prim.Native.Nat.{ℕ, ◌+◌, ◌<◌}
 use mathlib.Core.Bool.{false, ◌&&◌}
 use mathlib.Core.Path.{◌≡◌, refl, ap, sym, ◌∙◌}
 use mathlib.Core.Logic.{inl, inr}
 use mathlib.Core.List.{List}
 use native.Mathlib.Omega.{arith}
-use native.Mathlib.Decide.{ℕ_discrete}
-use lib.Dec.{ltb}
-use borrow.Author.Tests.{lt-leb, leb-true, lt-ltb}
+use borrow.Author.Tests.{lt-leb}
 use Rattle.table.specs.Records.{kind_at, size_at}
 use Rattle.table.specs.Good.{children}
+use Rattle.table.specs.Kinds.{kind_number}
+use Rattle.table.specs.declared.kinds.Kind.{Kind}
+use Rattle.table.specs.declared.kinds.Kind.TheVariants.{Nothing, Stop, Atom, Seq, Par, Loop, Repeat, Generate, Await}
+use Rattle.table.specs.declared.kinds.Kind.TheVariants.{When, Until, Control, Local, Freezable, If, RepeatExt}
 use Rattle.table.proofs.Laid.{Laid, none}
-use Rattle.table.proofs.Subtrees.{body, pair, known_at, laid_there}
+use Rattle.table.proofs.Subtrees.{body, pair, laid_there}
 use Rattle.state.specs.Resting.{first_zero, second_zero, below_zero, phase_rests}
 use Rattle.state.specs.Inside.{Judging}
 use Rattle.state.proofs.Near.{below_near, body_below, pair_below}
-use Rattle.state.proofs.Phases.{no_parts, branches_fresh, body_fresh, plain_fresh}
+use Rattle.state.proofs.Phases.{branches_fresh, body_fresh}
 
 module _ {t s : List ℕ} {i near : ℕ} (j : Judging t s i near) (around : near < i + size_at t i) where
   some_below : below_zero t s i ≡ false
@@ -33,28 +35,24 @@ module _ {t s : List ℕ} {i near : ℕ} (j : Judging t s i near) (around : near
   in_branch : (k : ℕ) → kind_at t i ≡ k → children k ≡ 2 → (first_zero t s i && second_zero t s i) ≡ false
   in_branch k e c = sym (pair_below s (pair j.behind.rooted i j.inside (ap children e ∙ c))) ∙ some_below
 
-  -- a kind past 10
-  pub late_around : 10 < kind_at t i → phase_rests t s i (kind_at t i) 0 ≡ ltb (kind_at t i) 14
-  unfolding children
-  late_around h = go (kind_at t i) refl (ℕ_discrete (kind_at t i) 14) (ℕ_discrete (kind_at t i) 15)
-    where
-      go : (k : ℕ) → kind_at t i ≡ k → Dec (k ≡ 14) → Dec (k ≡ 15) → phase_rests t s i k 0 ≡ ltb k 14
-      go k e (yes a) b = branches_fresh t s i (inr a) ∙ rw a (in_branch 14 (e ∙ a) refl)
-      go k e (no a) (yes b) = body_fresh t s i (inr (inr b)) ∙ rw b (in_body 15 (e ∙ b) refl)
-      go k e (no a) (no b) =
-          let l : kind_at t i ≤ 15 = leb-true _ _ (known_at j.behind.rooted i j.inside) in
-          plain_fresh t s i k (λ z. omega arith) (λ z. omega arith) (λ z. omega arith) (λ z. omega arith) (λ z. omega arith) a b
-          ∙ sym (lt-ltb k 14 (omega arith))
-
-  -- another but a Par, a Seq or an Until
-  pub early_around : kind_at t i ≤ 10 → (kind_at t i ≡ 3 → ⊥) → (kind_at t i ≡ 4 → ⊥) → (kind_at t i ≡ 10 → ⊥)
+  -- a kind without parts has nothing around it; any other but these isn't fresh there
+  pub not_fresh : (k : Kind) → kind_number k ≡ kind_at t i
+      → (k ≡ Seq → ⊥) → (k ≡ Par → ⊥) → (k ≡ Until → ⊥) → (k ≡ Control → ⊥) → (k ≡ Local → ⊥) → (k ≡ Freezable → ⊥)
       → phase_rests t s i (kind_at t i) 0 ≡ false
   unfolding children
-  early_around h p q r = go (kind_at t i) refl (ℕ_discrete (kind_at t i) 5) (ℕ_discrete (kind_at t i) 6) (ℕ_discrete (kind_at t i) 9)
-    where
-      go : (k : ℕ) → kind_at t i ≡ k → Dec (k ≡ 5) → Dec (k ≡ 6) → Dec (k ≡ 9) → phase_rests t s i k 0 ≡ false
-      go k e (yes a) b c = body_fresh t s i (inl a) ∙ in_body 5 (e ∙ a) refl
-      go k e (no a) (yes b) c = body_fresh t s i (inr (inl b)) ∙ in_body 6 (e ∙ b) refl
-      go k e (no a) (no b) (yes c) = branches_fresh t s i (inl c) ∙ in_branch 9 (e ∙ c) refl
-      go k e (no a) (no b) (no c) =
-          absurd (has_part (ap children e ∙ no_parts k (omega arith) (λ z. p (e ∙ z)) (λ z. q (e ∙ z)) a b c))
+  not_fresh Nothing e a b c d f g = absurd (has_part (ap children (sym e)))
+  not_fresh Stop e a b c d f g = absurd (has_part (ap children (sym e)))
+  not_fresh Atom e a b c d f g = absurd (has_part (ap children (sym e)))
+  not_fresh Generate e a b c d f g = absurd (has_part (ap children (sym e)))
+  not_fresh Await e a b c d f g = absurd (has_part (ap children (sym e)))
+  not_fresh Loop e a b c d f g = body_fresh t s i (inl (sym e)) ∙ in_body 5 (sym e) refl
+  not_fresh Repeat e a b c d f g = body_fresh t s i (inr (inl (sym e))) ∙ in_body 6 (sym e) refl
+  not_fresh RepeatExt e a b c d f g = body_fresh t s i (inr (inr (sym e))) ∙ in_body 15 (sym e) refl
+  not_fresh When e a b c d f g = branches_fresh t s i (inl (sym e)) ∙ in_branch 9 (sym e) refl
+  not_fresh If e a b c d f g = branches_fresh t s i (inr (sym e)) ∙ in_branch 14 (sym e) refl
+  not_fresh Seq e a b c d f g = absurd (a refl)
+  not_fresh Par e a b c d f g = absurd (b refl)
+  not_fresh Until e a b c d f g = absurd (c refl)
+  not_fresh Control e a b c d f g = absurd (d refl)
+  not_fresh Local e a b c d f g = absurd (f refl)
+  not_fresh Freezable e a b c d f g = absurd (g refl)

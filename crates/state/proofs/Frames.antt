@@ -9,7 +9,6 @@ use Rattle.junior.specs.Configuration.{Config}
 use Rattle.junior.specs.Program.{Program, One, loop, repeat, control, local, freezable, Two, seq, when, until, if, size}
 use Rattle.junior.specs.Values.{Times}
 use Rattle.junior.specs.Term.{Term, seq0, seq2, loop1, repeat1, when1, when2, until0, until2, freezable0, if1, if2, prog}
-use Rattle.junior.specs.Term
 use Rattle.junior.specs.Figures.{LoopsStop}
 use Rattle.junior.specs.Inside.{pot}
 use Rattle.table.specs.Spells.{Spells}

@@ -81,8 +81,8 @@ module _ {t s : List ℕ} {i near : ℕ} (j : Judged t s i near) (at : ℕ) (a :
   at_in = omega arith
 
   -- the nodes up to `at` rest, and so do those of the all-zero subtree there
-  pub on_past : (m : ℕ) → m ≡ size_at t at → at + m ≤ near → Hold (rests t s) i at → Hold (rests t s) i (at + m)
-  on_past m e h r =
+  pub on_past : (end : ℕ) → end ≡ at + size_at t at → end ≤ near → Hold (rests t s) i at → Hold (rests t s) i end
+  on_past end e h r =
       rw e
       (hold_join (rests t s) i at (at + size_at t at) r
       (zero_rests s j.rooted at at_in at (omega arith) (λ k c d. j.nearest.before k (omega arith) (omega arith))))

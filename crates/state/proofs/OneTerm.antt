@@ -14,7 +14,6 @@ use Rattle.junior.specs.Program.{Parts, no_part, one_part, two_parts, parts, siz
 use Rattle.junior.specs.Term.{Term, done, seq0, seq2, loop0, loop1, repeat0, repeat1, when0, when1, when2}
 use Rattle.junior.specs.Term.{until0, until*, until2, freezable0, freezable*, if0, if1, if2}
 use Rattle.junior.specs.Term.{prog, fresh}
-use Rattle.junior.specs.Term
 use Rattle.state.specs.StateBytes.{code, zeros, below, state_bytes}
 use Rattle.state.proofs.Parts.{len_bytes, own_phase, own_flags}
 

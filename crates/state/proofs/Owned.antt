@@ -169,5 +169,5 @@ module _ (t s : List ℕ) (i : ℕ) where
           (λ e. let f : k ≡ 6 = eqb-true _ _ e in rw (kind, one, no_flag, f) (rw f at counts))
           (λ e. let f : k ≡ 15 = eqb-true _ _ e in rw (kind, one, no_flag, f) (rw f at counts))
 
-      pub count_so : most < 65536 → rests t s i ≡ (repeats k && counted_below r most)
-      count_so fits = same_truth (rests t s i) (repeats k && counted_below r most) by_count (count_by fits)
+      pub count_so : (b : Bool) → b ≡ (repeats k && counted_below r most) → (b ≡ true → most < 65536) → rests t s i ≡ b
+      count_so b is fits = same_truth (rests t s i) b (λ h. is ∙ by_count h) (λ e. count_by (fits e) (sym is ∙ e))

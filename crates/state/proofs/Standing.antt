@@ -14,7 +14,6 @@ use Rattle.junior.specs.Values.{Times, exactly, asked, most}
 use Rattle.junior.specs.Program.{Program, Par, Loop, Repeat, When, If, Leaf, nothing, stop, atom, generate, await, One, loop, repeat}
 use Rattle.junior.specs.Program.{control, local, freezable, Two, seq, par, when, until, if, Parts, no_part, one_part, two_parts, parts, size, kind}
 use Rattle.junior.specs.Term.{Term, done, prog, fresh}
-use Rattle.junior.specs.Term
 use Rattle.junior.specs.AtRest.{AtRest, Over}
 use Rattle.junior.proofs.Fresh.{prog_fresh, fresh_at_rest}
 use Rattle.table.specs.Records.{byte, nodes, kind_at, argument_at, second_child}

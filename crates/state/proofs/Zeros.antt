@@ -1,12 +1,13 @@
 -- Nodes with no byte but zeros: one by one, and in parts.
-use Prim.Native.Nat.{ℕ, zero, suc, ◌+◌, ◌-◌, ◌*◌, ◌≤◌, ◌<◌}
+use Prim.Native.Nat.{ℕ, zero, suc, ◌+◌, ◌*◌, ◌≤◌, ◌<◌}
 use mathlib.Core.Bool.{Bool, true, false, ◌&&◌, false≢true, and_assoc}
 use mathlib.Core.Path.{◌≡◌, refl, sym, ◌∙◌}
 use mathlib.Core.List.{List}
 use native.Mathlib.Omega.{arith}
 use native.Mathlib.Nat.{add-zero, zero-add, suc-add}
 use native.Mathlib.Decide.{ℕ_discrete}
-use borrow.Author.Tests.{eqb-true}
+use lib.Dec.{eqb}
+use borrow.Author.Tests.{eqb-true, ne_eqb}
 use Rattle.table.proofs.Laid.{both}
 use Rattle.state.specs.StateBytes.{Own, in_phase}
 use Rattle.state.specs.Resting.{phase_at, flags_at, count_at, zero_node, zero_nodes}
@@ -37,6 +38,14 @@ own_not_zero s i e = go (zero_node s i) refl
     go true z = let (a, b, c) = zero_owns s i z in absurd (e (rw (a, b, c)))
     go false z = refl
 
+-- that number tested
+pub own_tested : (s : List ℕ) (i r : ℕ) → r ≡ own s i → eqb r 0 ≡ zero_node s i
+own_tested s i r e = go (ℕ_discrete (own s i) 0)
+  where
+    go : Dec (own s i ≡ 0) → eqb r 0 ≡ zero_node s i
+    go (yes z) = rw (own_zero s i z, e, z)
+    go (no z) = rw (own_not_zero s i z, e) (ne_eqb _ _ z)
+
 -- two nodes' own bytes as one number
 module _ (s : List ℕ) (i r : ℕ) (two : r ≡ own s i * 4294967296 + own s (i + 1)) where
   pub two_zero : r ≡ 0 → (zero_node s i ≡ true) × (zero_node s (i + 1) ≡ true)
@@ -47,19 +56,7 @@ module _ (s : List ℕ) (i r : ℕ) (two : r ≡ own s i * 4294967296 + own s (i
       let (a, b, c) = zero_owns s (i + 1) z in
       own_not_zero s i (λ f. e (two ∙ rw (f, a, b, c)))
 
--- the first of some nodes, and the rest
-pub zero_rest : (s : List ℕ) (a m : ℕ) → 0 < m → zero_nodes s a m ≡ (zero_node s a && zero_nodes s (a + 1) (m - 1))
-unfolding zero_nodes
-zero_rest s a zero h = absurd (omega arith)
-zero_rest s a (suc m) h = let e : suc m - 1 ≡ m = omega arith in rw e
-
--- what the first of them tells of all
-pub zeros_behind : (s : List ℕ) (a m : ℕ) → 0 < m → own s a ≡ 0 → zero_nodes s a m ≡ zero_nodes s (a + 1) (m - 1)
-zeros_behind s a m h e = rw (zero_rest s a m h, own_zero s a e)
-
-pub not_all_zero : (s : List ℕ) (a m : ℕ) → 0 < m → (own s a ≡ 0 → ⊥) → zero_nodes s a m ≡ false
-not_all_zero s a m h e = rw (zero_rest s a m h, own_not_zero s a e)
-
+-- some nodes, by each of them
 pub zero_all : (s : List ℕ) (a m : ℕ) → ((k : ℕ) → a ≤ k → k < a + m → zero_node s k ≡ true) → zero_nodes s a m ≡ true
 unfolding zero_nodes
 zero_all s a zero h = refl

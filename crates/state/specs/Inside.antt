@@ -15,10 +15,6 @@ pub record Number (s : List ℕ) (i r : ℕ) : Type 0 where
   pub flags_fit : flags_at s i < 256
   pub count_fits : count_at s i < 65536
 
--- a kind with a second part or branch: 3, 9, 10 and 14
-unfoldable pub has_second : ℕ → Bool
-has_second k = (eqb k 3 || eqb k 14) || (ltb 8 k && ltb k 11)
-
 -- the number r is one TERM flag of node i, and that branch is in phase 3
 abbrev pub one_ended : List ℕ → List ℕ → ℕ → ℕ → Bool
 one_ended t s i r =

@@ -9,9 +9,5 @@ pub mod resting;
 pub fn clear(part: &mut [u8])
     ensures { part.new ≡ replicate (length part.old) 0 }
 {
-    let mut k = 0;
-    while k < part.len() {
-        part[k] = 0;
-        k += 1;
-    }
+    part.fill(0);
 }

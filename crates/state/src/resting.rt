@@ -1,19 +1,33 @@
 // Refusal 10: a state that isn't at rest (specs/Resting.antt). The nodes with a byte other than zero are met from the last to the first.
 // The last one met is the nearest such node, `near`, behind all nodes that are still to judge, and so tells which subtrees are all zero.
-ghost use Rattle.std.specs.Prelude.{◌≡◌, false, not, ◌&&◌, ◌+◌, ◌*◌, ◌<◌, ◌≤◌, length};
+ghost use Rattle.std.specs.Prelude.{◌≡◌, true, false, not, ◌&&◌, ◌+◌, ◌*◌, ◌<◌, ◌≤◌, length, MatchOption};
 ghost use Rattle.events.specs.Events.{lowest};
 ghost use Rattle.table.specs.Records.{kind_at, argument_at, size_at};
-ghost use Rattle.table.specs.Good.{children};
+ghost use Rattle.table.specs.Good.{known, children};
+ghost use Rattle.table.specs.Kinds.{kind_number};
 ghost use Rattle.table.specs.Inside.{Rooted};
 ghost use Rattle.state.specs.Resting.{zero_node, zero_nodes, second_zero, repeats, most_runs, phase_rests, count_rests, rests};
-ghost use Rattle.state.specs.Inside.{own, Number, has_second, one_ended, counted_below, TwosFrom, ZeroFrom, Tells, Judged, Judging, Blamed};
+ghost use Rattle.state.specs.Inside.{own, Number, one_ended, counted_below, TwosFrom, ZeroFrom, Tells, Judged, Judging, Blamed};
 
-use table::records::{argument_at, kind_at, second_at, size_at, wide, word_at};
+use table::kinds::{Kind, kind_of};
+use table::records::{argument_at, second_at, size_at, wide, word_at};
 
 // A phase of 1 and a flags byte of 1, in a node's own bytes as one number.
 const PHASE: usize = 16777216;
 
 const FLAGS: usize = 65536;
+
+// The phases at rest but for 0: begun, in its second part, gone.
+const BEGUN: usize = 1;
+
+const SECOND: usize = 2;
+
+const GONE: usize = 3;
+
+// A Par's flags where its first branch has answered TERM, where its second has.
+const FIRST_TERM: usize = 2;
+
+const SECOND_TERM: usize = 8;
 
 // Node i's own bytes as one number.
 fn own_at(state: &[u8], i: usize) -> usize
@@ -31,20 +45,25 @@ fn two_at(state: &[u8], i: usize) -> usize
     own_at(state, i) * 4294967296 + own_at(state, i + 1)
 }
 
+// Whether node i has no byte but zeros.
+#[tactic(auto, using(crate::proofs::Zeros::own_tested))]
+fn zero_node(state: &[u8], i: usize) -> bool
+    requires { 4 * i + 3 < length state.now }
+    ensures { result ≡ zero_node state.now i }
+{
+    own_at(state, i) == 0
+}
+
 // Whether the m nodes from a on have no byte but zeros.
-#[tactic(auto, using(crate::proofs::Zeros::zeros_behind, crate::proofs::Zeros::not_all_zero), unfolding(crate::specs::Resting::zero_nodes))]
+#[tactic(auto, using(crate::proofs::Zeros::zero_all, crate::proofs::Zeros::zero_not))]
 fn zero_nodes(state: &[u8], a: usize, m: usize) -> bool
     requires { 4 * (a + m) ≤ length state.now }
     ensures { result ≡ zero_nodes state.now a m }
 {
-    let mut at = a;
-    let mut left = m;
-    while 0 < left {
-        if own_at(state, at) != 0 {
+    for i in a..a + m {
+        if !zero_node(state, i) {
             return false;
         }
-        at += 1;
-        left -= 1;
     }
     true
 }
@@ -63,69 +82,18 @@ fn zero_part(state: &[u8], near: usize, a: usize, m: usize) -> bool
     zero_nodes(state, a, m)
 }
 
-// Whether the subtree of node i's second child is all zero.
-fn second_zero(table: &[u8], state: &[u8], i: usize, near: usize) -> bool
-    requires judging { Judging table.now state.now i near }
-    requires i_value { children (kind_at table.now i) ≡ 2 }
-    ensures { result ≡ second_zero table.now state.now i }
+// How often the body of node i runs at most, if it is a repetition: a Repeat's count, a RepeatExt's cap.
+pub fn most_runs(table: &[u8], i: usize) -> Option<usize>
+    requires inside { 6 * i + 3 < length table.now }
+    requires known_kind { known (kind_at table.now i) ≡ true }
+    ensures { MatchOption result (repeats (kind_at table.now i) ≡ false)
+        (λ most. (repeats (kind_at table.now i) ≡ true) × (most ≡ most_runs (kind_at table.now i) (argument_at table.now i)) × (most < 65536)) }
 {
-    let end = i + size_at(table, i);
-    if end <= near {
-        return true;
+    match kind_of(table, i) {
+        Kind::Repeat => Some(argument_at(table, i)),
+        Kind::RepeatExt => Some(argument_at(table, i) / 16),
+        _ => None,
     }
-    let second = second_at(table, i);
-    zero_part(state, near, second, end - second)
-}
-
-// Whether a kind has a second part or branch: a Seq, When, Until or If.
-fn has_second(k: usize) -> bool
-    ensures { result ≡ has_second k }
-{
-    match k {
-        3 | 14 => true,
-        _ => 8 < k && k < 11,
-    }
-}
-
-// Whether node i, of kind k, rests in phase 2.
-fn second_rests(table: &[u8], state: &[u8], i: usize, near: usize, k: usize) -> bool
-    requires { Judging table.now state.now i near × (k ≡ kind_at table.now i) }
-    ensures { result ≡ phase_rests table.now state.now i k 2 }
-{
-    if has_second(k) {
-        return second_at(table, i) <= near;
-    }
-    false
-}
-
-// Whether it rests in phase 1, its count 0.
-fn begun_rests(table: &[u8], state: &[u8], i: usize, near: usize, k: usize) -> bool
-    requires { Judging table.now state.now i near × (k ≡ kind_at table.now i) }
-    ensures { result ≡ (phase_rests table.now state.now i k 1 && count_rests table.now i k 1 0) }
-{
-    match k {
-        5 => true,
-        6 => 0 < argument_at(table, i),
-        15 => 0 < argument_at(table, i) / 16,
-        9 | 14 => second_zero(table, state, i, near),
-        _ => false,
-    }
-}
-
-// Whether node i, a Par, rests with one of its flags TERM: that branch is in phase 3.
-fn flag_rests(table: &[u8], state: &[u8], i: usize, own: usize) -> bool
-    requires rooted { Rooted table.now (size_at table.now 0) }
-    requires table_in_bounds { 4 * size_at table.now 0 ≤ length state.now }
-    requires i_bound { (i < size_at table.now 0) × (kind_at table.now i ≡ 4) }
-    ensures { result ≡ one_ended table.now state.now i own }
-{
-    if own == 2 * FLAGS {
-        return state[4 * (i + 1)] == 3;
-    }
-    if own == 8 * FLAGS {
-        return state[4 * second_at(table, i)] == 3;
-    }
-    false
 }
 
 // Whether own bytes are phase 1 and a count above 0 and below `most`.
@@ -136,53 +104,130 @@ fn counted(own: usize, most: usize) -> bool
     PHASE < own && own < PHASE + most
 }
 
-// Whether node i, of kind k, rests with such a count.
-fn count_rests(table: &[u8], i: usize, k: usize, own: usize) -> bool
-    requires { 6 * i + 3 < length table.now }
-    ensures { result ≡ (repeats k && counted_below own (most_runs k (argument_at table.now i))) }
-{
-    match k {
-        6 => counted(own, argument_at(table, i)),
-        15 => counted(own, argument_at(table, i) / 16),
-        _ => false,
-    }
+// A node that is judged where it stands, by the nearest node behind it that has a byte other than zero.
+#[derive(Clone, Copy)]
+struct Node<'a> {
+    table: &'a [u8],
+    state: &'a [u8],
+    i: usize,
+    near: usize,
+    ghost judging: { Judging table.now state.now i near },
 }
 
-// Whether node i, which has a byte other than zero, rests. Its own bytes are compared as one number: most have a phase alone.
-fn rests_at(table: &[u8], state: &[u8], i: usize, near: usize) -> bool
-    requires { Judging table.now state.now i near × (zero_node state.now i ≡ false) }
-    ensures { result ≡ rests table.now state.now i }
-{
-    let own = own_at(state, i);
-    if own == 3 * PHASE {
-        return i + size_at(table, i) <= near;
+impl Node<'_> {
+    fn kind(&self) -> Kind
+        ensures { kind_number result ≡ kind_at self.now.table.now self.now.i }
+    {
+        kind_of(self.table, self.i)
     }
-    let k = kind_at(table, i);
-    if own == 2 * PHASE {
-        return second_rests(table, state, i, near, k);
-    }
-    if own == PHASE {
-        return begun_rests(table, state, i, near, k);
-    }
-    if k == 4 {
-        return flag_rests(table, state, i, own);
-    }
-    count_rests(table, i, k, own)
-}
 
-// Whether node i, which has no byte but zeros, rests around `near`. A kind without parts has nothing around it.
-fn fresh_rests(table: &[u8], state: &[u8], i: usize, near: usize) -> bool
-    requires { Judging table.now state.now i near × (near < i + size_at table.now i) }
-    ensures { result ≡ phase_rests table.now state.now i (kind_at table.now i) 0 }
-{
-    let k = kind_at(table, i);
-    if 10 < k {
-        return k < 14;
+    // The node behind its subtree.
+    fn end(&self) -> usize
+        ensures { result ≡ self.now.i + size_at self.now.table.now self.now.i }
+    {
+        self.i + size_at(self.table, self.i)
     }
-    match k {
-        4 => true,
-        3 | 10 => second_zero(table, state, i, near),
-        _ => false,
+
+    // Whether its second child's subtree is all zero.
+    fn second_zero(&self) -> bool
+        requires two_children { children (kind_at self.now.table.now self.now.i) ≡ 2 }
+        ensures { result ≡ second_zero self.now.table.now self.now.state.now self.now.i }
+    {
+        let end = self.end();
+        if end <= self.near {
+            return true;
+        }
+        let second = second_at(self.table, self.i);
+        zero_part(self.state, self.near, second, end - second)
+    }
+
+    // Whether it rests in phase 2: all of its first child's subtree is zero.
+    fn second_rests(&self) -> bool
+        ensures { result ≡ phase_rests self.now.table.now self.now.state.now self.now.i (kind_at self.now.table.now self.now.i) 2 }
+    {
+        match self.kind() {
+            Kind::Seq | Kind::When | Kind::Until | Kind::If => {
+                second_at(self.table, self.i) <= self.near
+            }
+            _ => false,
+        }
+    }
+
+    // Whether it rests in phase 1, its count 0.
+    fn begun_rests(&self) -> bool
+        ensures { result
+            ≡ (phase_rests self.now.table.now self.now.state.now self.now.i (kind_at self.now.table.now self.now.i) 1
+            && count_rests self.now.table.now self.now.i (kind_at self.now.table.now self.now.i) 1 0) }
+    {
+        match self.kind() {
+            Kind::Loop => true,
+            Kind::When | Kind::If => self.second_zero(),
+            _ => match most_runs(self.table, self.i) {
+                Some(most) => 0 < most,
+                None => false,
+            },
+        }
+    }
+
+    // Whether it, a Par, rests with one of its flags TERM: that branch is in phase 3.
+    fn flag_rests(&self, own: usize) -> bool
+        requires par { kind_at self.now.table.now self.now.i ≡ 4 }
+        ensures { result ≡ one_ended self.now.table.now self.now.state.now self.now.i own }
+    {
+        if own == FIRST_TERM * FLAGS {
+            return wide(self.state[4 * (self.i + 1)]) == GONE;
+        }
+        if own == SECOND_TERM * FLAGS {
+            return wide(self.state[4 * second_at(self.table, self.i)]) == GONE;
+        }
+        false
+    }
+
+    // Whether it rests with a count above 0.
+    fn count_rests(&self, own: usize) -> bool
+        ensures counted { result
+            ≡ (repeats (kind_at self.now.table.now self.now.i)
+            && counted_below own (most_runs (kind_at self.now.table.now self.now.i) (argument_at self.now.table.now self.now.i))) }
+        ensures fits { result ≡ true
+            → most_runs (kind_at self.now.table.now self.now.i) (argument_at self.now.table.now self.now.i) < 65536 }
+    {
+        match most_runs(self.table, self.i) {
+            Some(most) => counted(own, most),
+            None => false,
+        }
+    }
+
+    // Whether it rests, where it has a byte other than zero. Its own bytes are compared as one number: most have a phase alone.
+    fn rests(&self) -> bool
+        requires { zero_node self.now.state.now self.now.i ≡ false }
+        ensures { result ≡ rests self.now.table.now self.now.state.now self.now.i }
+    {
+        let own = own_at(self.state, self.i);
+        if own == GONE * PHASE {
+            return self.end() <= self.near;
+        }
+        if own == SECOND * PHASE {
+            return self.second_rests();
+        }
+        if own == BEGUN * PHASE {
+            return self.begun_rests();
+        }
+        match self.kind() {
+            Kind::Par => self.flag_rests(own),
+            _ => self.count_rests(own),
+        }
+    }
+
+    // Whether it rests, where it has no byte but zeros and `near` is below it.
+    fn fresh_rests(&self) -> bool
+        requires { self.now.near < self.now.i + size_at self.now.table.now self.now.i }
+        ensures { result ≡ phase_rests self.now.table.now self.now.state.now self.now.i (kind_at self.now.table.now self.now.i) 0 }
+    {
+        match self.kind() {
+            Kind::Par | Kind::Control | Kind::Local | Kind::Freezable => true,
+            Kind::Seq | Kind::Until => self.second_zero(),
+            _ => false,
+        }
     }
 }
 
@@ -192,13 +237,19 @@ fn begun_low(table: &[u8], state: &[u8], i: usize, near: usize, low: usize) -> u
     requires blamed { Blamed table.now state.now (i + 1) low }
     ensures { Blamed table.now state.now i result }
 {
-    if rests_at(table, state, i, near) {
+    let node = Node {
+        table,
+        state,
+        i,
+        near,
+    };
+    if node.rests() {
         return low;
     }
     i
 }
 
-// The same for all nodes from i up to `near`, which have no byte but zeros. A subtree that is all zero rests as a whole.
+// The same for all nodes from i up to `near`, which have no byte but zeros. A subtree that is all zero rests as a whole: the walk goes past it.
 fn fresh_low(table: &[u8], state: &[u8], i: usize, near: usize, low: usize) -> usize
     requires judged { Judged table.now state.now i near }
     requires blamed { Blamed table.now state.now near low }
@@ -206,12 +257,18 @@ fn fresh_low(table: &[u8], state: &[u8], i: usize, near: usize, low: usize) -> u
 {
     let mut at = i;
     while at < near {
-        let end = at + size_at(table, at);
+        let node = Node {
+            table,
+            state,
+            i: at,
+            near,
+        };
+        let end = node.end();
         if end <= near {
             at = end;
             continue;
         }
-        if fresh_rests(table, state, at, near) {
+        if node.fresh_rests() {
             at += 1;
             continue;
         }
@@ -220,7 +277,7 @@ fn fresh_low(table: &[u8], state: &[u8], i: usize, near: usize, low: usize) -> u
     low
 }
 
-// Two by two, where the nodes before `near` that have no byte but zeros begin.
+// Where the nodes before `near` that have no byte but zeros begin, two by two: one test of eight bytes is half the work, in each call of an instant.
 fn zero_twos(state: &[u8], near: usize) -> usize
     requires { 4 * near ≤ length state.now }
     ensures { TwosFrom state.now near result }
@@ -244,7 +301,7 @@ fn zero_from(state: &[u8], near: usize) -> usize
     if i == 0 {
         return 0;
     }
-    if own_at(state, i - 1) != 0 {
+    if !zero_node(state, i - 1) {
         return i;
     }
     i - 1
@@ -254,7 +311,7 @@ fn zero_from(state: &[u8], near: usize) -> usize
 // part of it from its first record on.
 pub fn first_blamed(table: &[u8], n: usize, state: &[u8]) -> usize
     requires rooted { Rooted table.now n }
-    requires n_in_bounds { 4 * n ≤ length state.now }
+    requires state_long { 4 * n ≤ length state.now }
     ensures { result ≡ lowest n (λ i. not (rests table.now state.now i)) }
 {
     let mut near = n;

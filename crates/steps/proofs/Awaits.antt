@@ -9,11 +9,12 @@ use lib.Dec.{lit<, ltb}
 use lib.ListN.{get_or, set}
 use borrow.Author.Tests.{eqb-true, ne_eqb}
 use Rattle.events.specs.Members.{marks}
+use Rattle.junior.specs.declared.Flag.TheVariants.{SUSP, STOP, TERM}
+use Rattle.junior.specs.declared.Verdict.{Verdict}
 use Rattle.junior.specs.declared.Verdict.TheVariants.{Sat, Unsat, Unknown}
 use Rattle.junior.specs.Configuration.{Config, Event, Not, And, Or, test, fixed, eval, verdict}
 use Rattle.table.specs.Records.{part_kind, part_event}
 use Rattle.table.specs.Spells.{Configured, tested}
-use Rattle.table.specs.Inside.Ranks.{unranked}
 use Rattle.state.specs.Kinds.{await_kind}
 use Rattle.state.proofs.Shape.{shape_by}
 use Rattle.steps.specs.Running.{Rooms, TestRead, Runs}
@@ -22,25 +23,12 @@ use Rattle.steps.proofs.LeafParts.{await_has, await_waits, await_fails, await_en
 use Rattle.steps.proofs.Tally.{not_ended, is_ended}
 use Rattle.steps.specs.Numbers.{ended_at, words_of, tally_of}
 use Rattle.steps.specs.Kinds.{OfKind}
-use Rattle.steps.specs.Tests.{CanTest, TestRanked, lone_event}
+use Rattle.steps.specs.Tests.{CanTest, TestIs, lone_event}
 use Rattle.steps.specs.Flags.{flag_of}
 use Rattle.steps.specs.Lent.{lent, CanRun, HasRun}
 use Rattle.steps.proofs.Context.{put_phase}
 use Rattle.steps.proofs.Row.{kept_same}
 use Rattle.steps.proofs.Dispatch.{phase_is}
-
--- ranks as verdicts
-pub ranked_0 : {r : ℕ} → r ≡ 0 → unranked r ≡ Unsat
-unfolding unranked
-ranked_0 e = rw e
-
-pub ranked_1 : {r : ℕ} → r ≡ 1 → unranked r ≡ Unknown
-unfolding unranked
-ranked_1 e = rw e
-
-pub ranked_2 : {r : ℕ} → r ≢ 1 → r ≢ 0 → unranked r ≡ Sat
-unfolding unranked
-ranked_2 {r} a b = rw (ne_eqb r 0 b, ne_eqb r 1 a)
 
 -- a lone event is read by its presence and by whether the end is declared
 lone_read : (table : List ℕ) (c : ℕ) (words : List ℕ) (d : Config) → Configured table c d → part_kind table c ≡ 0
@@ -58,8 +46,7 @@ lone_ranked : (table : List ℕ) (i : ℕ) (m : List ℕ) → lone_event table i
 lone_ranked table i m lone b a d h = lone_read table (tested table i) (words_of m) d h (eqb-true _ _ lone) b a _ _
 
 lone_sat : (table : List ℕ) (i : ℕ) (m : List ℕ) → lone_event table i ≡ true
-    → marks (words_of m) (part_event table (tested table i)) ≡ true → TestRanked table i m 2
-unfolding unranked
+    → marks (words_of m) (part_event table (tested table i)) ≡ true → TestIs table i m Sat
 lone_sat table i m lone here = lone_ranked table i m lone true here
 
 module _ {table : List ℕ} {i : ℕ} {state m : List ℕ} {rooms : Rooms} (on : get_or state (4 * i) 0 ≢ 3) where
@@ -70,13 +57,12 @@ module _ {table : List ℕ} {i : ℕ} {state m : List ℕ} {rooms : Rooms} (on :
 
   -- a lone event that is absent: it answers whether the end is declared
   pub lone_run : lone_event table i ≡ true → marks (words_of m) (part_event table (tested table i)) ≡ false
-      → HasRun 0 (OfKind await_kind) (lent table state m rooms) i (lent table state m rooms) (get_or m ended_at 0)
+      → HasRun 0 (OfKind await_kind) (lent table state m rooms) i (lent table state m rooms) (flag_of (get_or m ended_at 0))
   lone_run lone a before part behind o =
       record {
         part' = part;
         around = o.around;
         kept = kept_same m;
-        below = omega (arith, o.numbers.ended_below);
         runs = go (get_or m ended_at 0) o.numbers.ended_below (lone_ranked table i m lone false a);
       }
     where
@@ -86,55 +72,50 @@ module _ {table : List ℕ} {i : ℕ} {state m : List ℕ} {rooms : Rooms} (on :
       go (suc zero) l reads t w h P at = await_fails reads (shape_by t w refl) (λ e. on (phase_is o.around h ∙ e)) h refl
       go (suc (suc n)) l reads t w h P at = absurd (omega arith)
 
-  module _ {r : ℕ} (reads : TestRanked table i m r) where
-    pub await_suspends : r ≡ 1 → HasRun 0 (OfKind await_kind) (lent table state m rooms) i (lent table state m rooms) 0
-    await_suspends is before part behind o =
-        record {
-          part' = part;
-          around = o.around;
-          kept = kept_same m;
-          below = lit< tt;
-          runs = λ t w h P at. await_waits reads (shape_by t w refl) (λ e. on (phase_is o.around h ∙ e)) h (ranked_1 is);
-        }
+  pub await_suspends : TestIs table i m Unknown → HasRun 0 (OfKind await_kind) (lent table state m rooms) i (lent table state m rooms) SUSP
+  await_suspends reads before part behind o =
+      record {
+        part' = part;
+        around = o.around;
+        kept = kept_same m;
+        runs = λ t w h P at. await_waits reads (shape_by t w refl) (λ e. on (phase_is o.around h ∙ e)) h refl;
+      }
 
-    pub await_refused : r ≡ 0 → HasRun 0 (OfKind await_kind) (lent table state m rooms) i (lent table state m rooms) 1
-    await_refused is before part behind o =
-        record {
-          part' = part;
-          around = o.around;
-          kept = kept_same m;
-          below = lit< tt;
-          runs = λ t w h P at. await_fails reads (shape_by t w refl) (λ e. on (phase_is o.around h ∙ e)) h (ranked_0 is);
-        }
+  pub await_refused : TestIs table i m Unsat → HasRun 0 (OfKind await_kind) (lent table state m rooms) i (lent table state m rooms) STOP
+  await_refused reads before part behind o =
+      record {
+        part' = part;
+        around = o.around;
+        kept = kept_same m;
+        runs = λ t w h P at. await_fails reads (shape_by t w refl) (λ e. on (phase_is o.around h ∙ e)) h refl;
+      }
 
-    pub await_met : r ≢ 1 → r ≢ 0 → get_or m ended_at 0 ≡ 0 → HasRun 0 (OfKind await_kind) (lent table state m rooms) i (lent table state m rooms) 2
-    await_met a b z before part behind o =
-        record {
-          part' = part;
-          around = o.around;
-          kept = kept_same m;
-          below = lit< tt;
-          runs = λ t w h P at.
-              await_ends reads (shape_by t w refl) (λ e. on (phase_is o.around h ∙ e)) h (ranked_2 a b) (not_ended z);
-        }
+  pub await_met : TestIs table i m Sat → get_or m ended_at 0 ≡ 0 → HasRun 0 (OfKind await_kind) (lent table state m rooms) i (lent table state m rooms) TERM
+  await_met reads z before part behind o =
+      record {
+        part' = part;
+        around = o.around;
+        kept = kept_same m;
+        runs = λ t w h P at.
+            await_ends reads (shape_by t w refl) (λ e. on (phase_is o.around h ∙ e)) h refl (not_ended z);
+      }
 
-    pub await_met_late : r ≢ 1 → r ≢ 0 → get_or m ended_at 0 ≢ 0
-        → HasRun 0 (OfKind await_kind) (lent table state m rooms) i (lent table (set state (4 * i) 3) m rooms) 1
-    await_met_late a b z before part behind o =
-        record {
-          part' = set part 0 3;
-          around = put_phase o.around 3 (own_in o.live.2 0 (lit< tt));
-          kept = kept_same m;
-          below = lit< tt;
-          runs = λ t w h P at.
-              await_stops reads (shape_by t w refl) (λ e. on (phase_is o.around h ∙ e)) h (ranked_2 a b) (is_ended z);
-        }
+  pub await_met_late : TestIs table i m Sat → get_or m ended_at 0 ≢ 0
+      → HasRun 0 (OfKind await_kind) (lent table state m rooms) i (lent table (set state (4 * i) 3) m rooms) STOP
+  await_met_late reads z before part behind o =
+      record {
+        part' = set part 0 3;
+        around = put_phase o.around 3 (own_in o.live.2 0 (lit< tt));
+        kept = kept_same m;
+        runs = λ t w h P at.
+            await_stops reads (shape_by t w refl) (λ e. on (phase_is o.around h ∙ e)) h refl (is_ended z);
+      }
 
   -- one that is present
   module _ (lone : lone_event table i ≡ true) (here : marks (words_of m) (part_event table (tested table i)) ≡ true) where
-    pub lone_met : get_or m ended_at 0 ≡ 0 → HasRun 0 (OfKind await_kind) (lent table state m rooms) i (lent table state m rooms) 2
-    lone_met z = await_met (lone_sat table i m lone here) (λ e. omega arith) (λ e. omega arith) z
+    pub lone_met : get_or m ended_at 0 ≡ 0 → HasRun 0 (OfKind await_kind) (lent table state m rooms) i (lent table state m rooms) TERM
+    lone_met z = await_met (lone_sat table i m lone here) z
 
     pub lone_met_late : get_or m ended_at 0 ≢ 0
-        → HasRun 0 (OfKind await_kind) (lent table state m rooms) i (lent table (set state (4 * i) 3) m rooms) 1
-    lone_met_late z = await_met_late (lone_sat table i m lone here) (λ e. omega arith) (λ e. omega arith) z
+        → HasRun 0 (OfKind await_kind) (lent table state m rooms) i (lent table (set state (4 * i) 3) m rooms) STOP
+    lone_met_late z = await_met_late (lone_sat table i m lone here) z

@@ -67,7 +67,7 @@ module _ {table : List ℕ} {i : ℕ} {state words : List ℕ} {rooms : Rooms} {
         parking_room = h.parking_room;
       }
 
--- a node's falling number: its size first, then a rank at the node, run_node's being the highest
+-- a node's falling number: its size first, then a rank at the node, run_child's being the highest
 abbrev pub falling : List ℕ → ℕ → ℕ → ℕ
 falling table i rank = 4 * size_at table i + rank
 
@@ -78,7 +78,7 @@ pub falls : {skip : ℕ} {table : List ℕ} {i : ℕ} {state words : List ℕ} {
     → falling table i lower < k
 falls rank lower h e l = omega arith
 
--- what run_node asks for a smaller x: the falling number, and that it is live
+-- what run_child asks for a smaller x: the falling number, and that it is live
 pub asks_for : {skip : ℕ} {table : List ℕ} {i : ℕ} {state words : List ℕ} {rooms : Rooms} {tally : List ℕ} {t : Term} {k : ℕ}
     → Ready skip table i state words rooms tally t
     → (rank : ℕ)

@@ -7,6 +7,7 @@ use mathlib.Core.List.{List, [], ◌∷◌}
 use native.Mathlib.Omega.{arith}
 use lib.ListN.{length, get_or}
 use borrow.Author.Tests.{leb-true}
+use Rattle.junior.specs.declared.Flag.{Flag}
 use Rattle.junior.specs.Term.{Term, prog}
 use Rattle.junior.specs.Program.{kind}
 use Rattle.events.specs.Members.{places}
@@ -76,14 +77,13 @@ module _ {W U : Term → Type 0} {table : List ℕ} {i : ℕ} {state m : List �
   pub can_narrow : CanRun 0 U (lent table state m rooms) i → CanRun 0 W (lent table state m rooms) i
   can_narrow (before, part, behind, o) = (before, part, behind, narrow o)
 
-  pub widen : {L' : Lent} {r : ℕ} → HasRun 0 W (lent table state m rooms) i L' r → HasRun 0 U (lent table state m rooms) i L' r
+  pub widen : {L' : Lent} {r : Flag} → HasRun 0 W (lent table state m rooms) i L' r → HasRun 0 U (lent table state m rooms) i L' r
   widen run before part behind o =
       let g = run before part behind (narrow o) in
       record {
         part' = g.part';
         around = g.around;
         kept = g.kept;
-        below = g.below;
         runs = λ t u h. g.runs t (are _ _ _ o.around t h) h;
       }
 
@@ -120,7 +120,7 @@ module _ {U : Term → Type 0} {table : List ℕ} {i : ℕ} {state m : List ℕ}
   pub to_kind : {k : ℕ} → n ≡ k → CanRun 0 U (lent table state m rooms) i → CanRun 0 (OfKind k) (lent table state m rooms) i
   to_kind is o = can_narrow (λ b p q a t h. of_kind a h read is) o
 
-  pub by_kind : {L' : Lent} {r k : ℕ} → n ≡ k → HasRun 0 (OfKind k) (lent table state m rooms) i L' r
+  pub by_kind : {L' : Lent} {r : Flag} {k : ℕ} → n ≡ k → HasRun 0 (OfKind k) (lent table state m rooms) i L' r
       → HasRun 0 U (lent table state m rooms) i L' r
   by_kind is run = widen (λ b p q a t h. of_kind a h read is) run
 
@@ -129,7 +129,7 @@ module _ {U : Term → Type 0} {table : List ℕ} {i : ℕ} {state m : List ℕ}
         → CanRun 0 BothSuspended (lent table state m rooms) i
     to_both z o = can_narrow (λ b p q a t h. both a h read is z) o
 
-    pub by_both : {L' : Lent} {r : ℕ} → (get_or state (4 * i) 0 ≡ 0) × (get_or state (4 * i + 1) 0 ≡ 0)
+    pub by_both : {L' : Lent} {r : Flag} → (get_or state (4 * i) 0 ≡ 0) × (get_or state (4 * i + 1) 0 ≡ 0)
         → HasRun 0 BothSuspended (lent table state m rooms) i L' r → HasRun 0 U (lent table state m rooms) i L' r
     by_both z run = widen (λ b p q a t h. both a h read is z) run
 
@@ -137,7 +137,7 @@ module _ {U : Term → Type 0} {table : List ℕ} {i : ℕ} {state m : List ℕ}
         → CanRun 0 NotBoth (lent table state m rooms) i
     to_half z o = can_narrow (λ b p q a t h. half a h read is z) o
 
-    pub by_half : {L' : Lent} {r : ℕ} → (get_or state (4 * i) 0 ≡ 0 → get_or state (4 * i + 1) 0 ≢ 0)
+    pub by_half : {L' : Lent} {r : Flag} → (get_or state (4 * i) 0 ≡ 0 → get_or state (4 * i + 1) 0 ≢ 0)
         → HasRun 0 NotBoth (lent table state m rooms) i L' r → HasRun 0 U (lent table state m rooms) i L' r
     by_half z run = widen (λ b p q a t h. half a h read is z) run
 
@@ -170,5 +170,5 @@ the_last (before, part, behind, o) {n} read ((((((((((((z, n0), n1), n2), n5), n
     between n beyond-11 (rw is at (its_kind (prog t)).known_kind) n13 n14 n15
 
 -- the node that the code has found is the one that the laws speak of
-pub run_at : {W : Term → Type 0} {L L' : Lent} {r j k : ℕ} → j ≡ k → HasRun 0 W L j L' r → HasRun 0 W L k L' r
+pub run_at : {W : Term → Type 0} {L L' : Lent} {r : Flag} {j k : ℕ} → j ≡ k → HasRun 0 W L j L' r → HasRun 0 W L k L' r
 run_at {W} {L} {L'} {r} e run = subst (λ (n : ℕ). HasRun 0 W L n L' r) e run

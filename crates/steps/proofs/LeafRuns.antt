@@ -11,7 +11,7 @@ use borrow.Author.Tests.{lt-ltb}
 use Rattle.events.specs.Events.{put}
 use Rattle.events.specs.Members.{places, marks}
 use Rattle.junior.specs.declared.Flag.{Flag}
-use Rattle.junior.specs.declared.Flag.TheVariants.{TERM}
+use Rattle.junior.specs.declared.Flag.TheVariants.{STOP, TERM}
 use Rattle.junior.specs.Program.{size}
 use Rattle.junior.specs.Term.{Term, prog}
 use Rattle.junior.specs.Trace.{Place, collect}
@@ -61,24 +61,22 @@ event_of (is_done p k) n h = absurd (n refl)
 event_of (is_generate s) n h = omega (arith, generate_placed h.placed, h.placed.spelled.1)
 
 module _ {table : List ℕ} {i : ℕ} {state m : List ℕ} {rooms : Rooms} where
-  pub nothing_run : HasRun 0 (OfKind nothing_kind) (lent table state m rooms) i (lent table (set state (4 * i) 0) m rooms) 2
+  pub nothing_run : HasRun 0 (OfKind nothing_kind) (lent table state m rooms) i (lent table (set state (4 * i) 0) m rooms) TERM
   nothing_run before part behind o =
       record {
         part' = set part 0 0;
         around = put_phase o.around 0 (own_in o.live.2 0 (lit< tt));
         kept = kept_same m;
-        below = lit< tt;
         runs = λ t w h P at. nothing_ran (shape_by t w refl) h;
       }
 
   module _ (on : get_or state (4 * i) 0 ≢ 3) where
-    pub stop_run : HasRun 0 (OfKind stop_kind) (lent table state m rooms) i (lent table (set state (4 * i) 3) m rooms) 1
+    pub stop_run : HasRun 0 (OfKind stop_kind) (lent table state m rooms) i (lent table (set state (4 * i) 3) m rooms) STOP
     stop_run before part behind o =
         record {
           part' = set part 0 3;
           around = put_phase o.around 3 (own_in o.live.2 0 (lit< tt));
           kept = kept_same m;
-          below = lit< tt;
           runs = λ t w h P at. stop_ran (shape_by t w refl) (λ e. on (phase_is o.around h ∙ e)) h;
         }
 
@@ -89,13 +87,12 @@ module _ {table : List ℕ} {i : ℕ} {state m : List ℕ} {rooms : Rooms} where
     -- the atom a goes into the row, which then has d
     pub atom_run : (a d : ℕ) → a ≡ argument_at table i → d ≡ get_or m atoms_at 0 + 1
         → {row' : List ℕ} → row' ≡ set rooms.row (get_or m atoms_at 0) a
-        → HasRun 0 (OfKind atom_kind) (lent table state m rooms) i (lent table state (set m atoms_at d) (rooms_of row' rooms.store)) 2
+        → HasRun 0 (OfKind atom_kind) (lent table state m rooms) i (lent table state (set m atoms_at d) (rooms_of row' rooms.store)) TERM
     atom_run a d names counts {row'} is before part behind o =
         record {
           part' = part;
           around = o.around;
           kept = kept_but m atoms_at d (λ e. omega arith) (λ e. omega arith);
-          below = lit< tt;
           runs = λ t w h P at.
               ran_in (words_stay m atoms_at d (lit< tt)) (tally_0 m d o.numbers.long)
               (rw (is, counts) (atom_ran (shape_by t w refl) (λ e. on (phase_is o.around h ∙ e)) h a names));
@@ -106,7 +103,7 @@ module _ {table : List ℕ} {i : ℕ} {state m : List ℕ} {rooms : Rooms} where
         let (t, w, h) = o.live in event_of (shape_by t w refl) (λ e. on (phase_is o.around h ∙ e)) h
 
     pub generate_run : (e : ℕ) → e ≡ argument_at table i → e < places → {m₁ : List ℕ} → Put e true m m₁
-        → HasRun 0 (OfKind generate_kind) (lent table state m rooms) i (lent table state (set m₁ moved_at 1) rooms) 2
+        → HasRun 0 (OfKind generate_kind) (lent table state m rooms) i (lent table state (set m₁ moved_at 1) rooms) TERM
     generate_run e names there {m₁} q before part behind o =
         let long = q.kept.long ∙ o.numbers.long in
         let in_set : put e true (marks (words_of m)) ≡ put e (ltb e (64 * length (words_of m))) (marks (words_of m)) =
@@ -115,7 +112,6 @@ module _ {table : List ℕ} {i : ℕ} {state m : List ℕ} {rooms : Rooms} where
           part' = part;
           around = o.around;
           kept = kept_then q.kept (kept_but m₁ moved_at 1 (λ e. omega arith) (λ e. omega arith));
-          below = lit< tt;
           runs = λ t w h P at.
               ran_in (words_stay m₁ moved_at 1 (lit< tt)) (tally_1 m₁ 1 long ∙ ap (λ (l : List ℕ). set l 1 1) q.tally)
               (generate_ran (shape_by t w refl) (λ z. on (phase_is o.around h ∙ z)) h e names (words_of m₁) q.wide (q.events ∙ in_set));

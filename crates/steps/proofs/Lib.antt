@@ -1,7 +1,6 @@
 -- The laws, each file named after its subject.
 pub mod Slices
 pub mod Pieces
-pub mod FlagTables
 pub mod Children
 pub mod Done
 pub mod LoadedNode
@@ -19,3 +18,4 @@ pub mod PendingRuns
 pub mod Awaits
 pub mod TestsRead
 pub mod ChildContext
+pub mod FlagTests

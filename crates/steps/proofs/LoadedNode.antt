@@ -6,7 +6,7 @@ use native.Mathlib.Omega.{arith}
 use lib.ListN.{length}
 use Rattle.events.specs.Members.{places}
 use Rattle.junior.specs.Configuration.{Config}
-use Rattle.junior.specs.Program.{Program, Repeat, Generate, Await, When, Until, Control, Local, If, kind}
+use Rattle.junior.specs.Program.{Program, Repeat, Generate, Await, When, Until, Local, If, kind}
 use Rattle.junior.specs.Values.{Times, exactly, asked, most}
 use Rattle.table.specs.Records.{configurations, events, argument_at, size_at}
 use Rattle.table.specs.Good.{argument_limit}

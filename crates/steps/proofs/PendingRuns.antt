@@ -13,7 +13,7 @@ use borrow.Rule.Slice.PartMut.{put_mid}
 use Rattle.events.specs.Members.{places, marks}
 use Rattle.table.specs.Records.{argument_at, size_at}
 use Rattle.table.proofs.Loaded.{size_stands}
-use Rattle.junior.specs.declared.Flag.TheVariants.{SUSP}
+use Rattle.junior.specs.declared.Flag.TheVariants.{SUSP, STOP, TERM}
 use Rattle.state.specs.Kinds.{freezable_kind}
 use Rattle.steps.specs.Running.{Rooms, rooms_of, Ran}
 use Rattle.steps.specs.Kinds.{OfKind, Pending}
@@ -76,25 +76,20 @@ module _ {table : List ℕ} {i : ℕ} {state m : List ℕ} {rooms : Rooms} where
 
   module _ {a : ℕ} (names : a ≡ argument_at table i) where
     module _ (on : marks (words_of m) a ≡ true) {state₁ m₁ store₁ : List ℕ} (p : Parked table i a state m rooms.store state₁ m₁ store₁) where
-      pub cleared_writes : CanRun 1 Pending (lent table state m rooms) i → 4 * i < length state₁
-      cleared_writes (before, part, behind, o) =
-          phase_in (around_cleared o p) (omega (arith, length-replicate {A = ℕ} (length part) 0, own_in o.live.2 0 (lit< tt)))
-
       pub freezes_now : get_or m ended_at 0 ≡ 0
-          → HasRun 1 Pending (lent table state m rooms) i (lent table state₁ m₁ (rooms_of rooms.row store₁)) 2
+          → HasRun 1 Pending (lent table state m rooms) i (lent table state₁ m₁ (rooms_of rooms.row store₁)) TERM
       freezes_now z before part behind o =
           record {
             part' = replicate (length part) 0;
             around = around_cleared o p;
             kept = rw p.numbers_is (kept_but m parked_at _ (λ e. omega arith) (λ e. omega arith));
-            below = lit< tt;
             runs = λ t w h P at.
                 ran_in (ap words_of p.numbers_is ∙ words_stay m parked_at _ (lit< tt)) (counted o p)
                 (pending_freezes names on (stored o p) (pends_by t w) h z P at);
           }
 
       pub freezes_late : get_or m ended_at 0 ≢ 0
-          → HasRun 1 Pending (lent table state m rooms) i (lent table (set state₁ (4 * i) 3) m₁ (rooms_of rooms.row store₁)) 1
+          → HasRun 1 Pending (lent table state m rooms) i (lent table (set state₁ (4 * i) 3) m₁ (rooms_of rooms.row store₁)) STOP
       freezes_late z before part behind o =
           record {
             part' = set (replicate (length part) 0) 0 3;
@@ -102,7 +97,6 @@ module _ {table : List ℕ} {i : ℕ} {state m : List ℕ} {rooms : Rooms} where
                 put_phase (around_cleared o p) 3
                 (omega (arith, length-replicate {A = ℕ} (length part) 0, own_in o.live.2 0 (lit< tt)));
             kept = rw p.numbers_is (kept_but m parked_at _ (λ e. omega arith) (λ e. omega arith));
-            below = lit< tt;
             runs = λ t w h P at.
                 ran_in (ap words_of p.numbers_is ∙ words_stay m parked_at _ (lit< tt)) (counted o p)
                 (pending_freezes_late names on (stored o p) (pends_by t w) h z P at);
@@ -110,31 +104,29 @@ module _ {table : List ℕ} {i : ℕ} {state m : List ℕ} {rooms : Rooms} where
 
     module _ (off : marks (words_of m) a ≡ false) where
       pub pending_suspends : get_or m ended_at 0 ≡ 0
-          → HasRun 1 Pending (lent table state m rooms) i (lent table (set state (4 * i) 1) m rooms) 0
+          → HasRun 1 Pending (lent table state m rooms) i (lent table (set state (4 * i) 1) m rooms) SUSP
       pending_suspends z before part behind o =
           record {
             part' = set part 0 1;
             around = put_phase o.around 1 (own_in o.live.2 0 (lit< tt));
             kept = kept_same m;
-            below = lit< tt;
             runs = λ t w h P at. pending_waits names off (pends_by t w) h z P;
           }
 
       pub pending_refused : get_or m ended_at 0 ≢ 0
-          → HasRun 1 Pending (lent table state m rooms) i (lent table (set state (4 * i) 0) m rooms) 1
+          → HasRun 1 Pending (lent table state m rooms) i (lent table (set state (4 * i) 0) m rooms) STOP
       pending_refused z before part behind o =
           record {
             part' = set part 0 0;
             around = put_phase o.around 0 (own_in o.live.2 0 (lit< tt));
             kept = kept_same m;
-            below = lit< tt;
             runs = λ t w h P at. pending_stops names off (pends_by t w) h z P;
           }
 
 -- a Freezable that is pending, its event absent and the end not declared, has run with everything as it was
 module _ {table : List ℕ} {i : ℕ} {state m : List ℕ} {rooms : Rooms} where
   pub pending_stays : stays_pending table i (get_or state (4 * i) 0) m ≡ true
-      → HasRun 0 (OfKind freezable_kind) (lent table state m rooms) i (lent table state m rooms) 0
+      → HasRun 0 (OfKind freezable_kind) (lent table state m rooms) i (lent table state m rooms) SUSP
   pending_stays e before part behind o =
       let phase = get_or state (4 * i) 0 in
       let on = marks (words_of m) (argument_at table i) in
@@ -146,7 +138,6 @@ module _ {table : List ℕ} {i : ℕ} {state m : List ℕ} {rooms : Rooms} where
         part' = part;
         around = o.around;
         kept = kept_same m;
-        below = lit< tt;
         runs = λ t w h P at.
             subst (λ (l : List ℕ). Ran P t (words_of m) rooms (tally_of m) l (words_of m) rooms (tally_of m) SUSP) (set_there part 0 1 there)
             (pending_waits refl (not-true on off) (pends_by t (w, sym (phase_is o.around h) ∙ starred)) (unseen h 1) (eqb-true _ 0 z) P);

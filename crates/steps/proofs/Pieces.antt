@@ -7,10 +7,9 @@ use native.Mathlib.Nat.{add-zero}
 use lib.ListN.{length, get_or, take, drop, set, length-append, length-drop}
 use lib.Seq.{sets-eq, get_or-drop, drop-drop, take-add, take_all, take_at, drop_at, drop-append-le, length-take-le}
 use borrow.Rule.Slice.PartMut.{mid_of, post_of, put_mid, same_len_mid, put_same}
-use Rattle.std.specs.Borrow.{MutBor}
-use Rattle.steps.specs.Lent.{state_in, store_in, SameBytes}
+use Rattle.steps.specs.declared.Pass.{Pass}
 use Rattle.steps.specs.Parking.{piece_from, Copied}
-use Rattle.steps.proofs.Slices.{put, state_stays, store_stays, store_back, same_state_back, same_store_back}
+use Rattle.steps.proofs.Slices.{all_same}
 
 -- what stands in place of a Freezable's own four bytes
 abbrev label_of : ℕ → ℕ → List ℕ
@@ -34,19 +33,6 @@ four_read l k h =
     let first = get_or-drop k l 0 0 ∙ ap (λ j. get_or l j 0) (add-zero k) in
     rw (← first, ← get_or-drop k l 1 0, ← get_or-drop k l 2 0, ← get_or-drop k l 3 0)
     (first_four (drop k l) (omega (arith, length-drop k l)))
-
--- where there are no others, they are all
-pub four_all : (l : List ℕ) → length l ≡ 4 → four_from l 0 ≡ l
-four_all l e = first_four l (omega arith) ∙ take_all 4 l (omega arith)
-
--- written, they are that part
-pub four_put : (l : List ℕ) (k a b c d : ℕ) → k + 4 ≤ length l
-    → set (set (set (set l k a) (k + 1) b) (k + 2) c) (k + 3) d ≡ put_mid k 4 l (a ∷ b ∷ c ∷ d ∷ [])
-four_put l k a b c d h =
-    let one : k + 1 ≡ suc k = omega arith in
-    let two : k + 2 ≡ suc (suc k) = omega arith in
-    let three : k + 3 ≡ suc (suc (suc k)) = omega arith in
-    rw (one, two, three, drop-drop 4 k l) (sets-eq (a ∷ b ∷ c ∷ d ∷ []) l k h ∙ simp append_assoc)
 
 -- a part is as long as it is said to be, and the list as long as it was
 mid_long : (a n : ℕ) (l : List ℕ) → a + n ≤ length l → length (mid_of a n l) ≡ n
@@ -85,54 +71,33 @@ put_front a n k l ys zs h e =
     (simp append_assoc)
 
 -- none is copied at first
-pub copied_none : (from to : ℕ) (slices : List (MutBor (List ℕ))) → Copied from to 0 slices slices
-copied_none from to slices = record { state_is = refl; store_is = sym (put_same to 0 (store_in slices).now); same = (refl, refl) }
+pub copied_none : (from to : ℕ) (p : Pass) → Copied from to 0 p p
+copied_none from to p = record { state_is = refl; store_is = sym (put_same to 0 p.store.now); numbers_is = refl; atoms_is = refl; named = all_same }
 
-module _ {from to n : ℕ} {slices slices' : List (MutBor (List ℕ))} (o : Copied from to n slices slices') where
+module _ {from to n : ℕ} {p p' : Pass} (o : Copied from to n p p') where
   -- the store is as long as it was
-  pub copied_long : from + 4 * n ≤ length (state_in slices).now → to + 4 * n ≤ length (store_in slices).now
-      → length (store_in slices').now ≡ length (store_in slices).now
+  pub copied_long : from + 4 * n ≤ length p.state.now → to + 4 * n ≤ length p.store.now → length p'.store.now ≡ length p.store.now
   copied_long h k =
-      let state = (state_in slices).now in
       ap length o.store_is
-      ∙ put_long to (4 * n) (store_in slices).now (mid_of from (4 * n) state) k (mid_long from (4 * n) state h)
-
-  -- the state is as it was, whatever store is back
-  pub state_whole : (store : List ℕ) → (state_in (put slices' 1 store)).now ≡ (state_in slices).now
-  state_whole store = ap (λ s. s.now) (state_stays slices' store) ∙ o.state_is
+      ∙ put_long to (4 * n) p.store.now (mid_of from (4 * n) p.state.now) k (mid_long from (4 * n) p.state.now h)
 
   -- four bytes more
-  pub copied_more : {store : List ℕ} → from + 4 * n + 4 ≤ length (state_in slices).now → to + 4 * n ≤ length (store_in slices).now
-      → store ≡ put_mid (to + 4 * n) 4 (store_in slices').now (four_from (state_in slices').now (from + 4 * n))
-      → length store ≡ length (store_in slices').now
-      → Copied from to (n + 1) slices (put slices' 1 store)
-  copied_more {store} h k e l =
-      let state = (state_in slices).now in
+  pub copied_more : {store : List ℕ} → from + 4 * n + 4 ≤ length p.state.now → to + 4 * n ≤ length p.store.now
+      → store ≡ put_mid (to + 4 * n) 4 p'.store.now (four_from p'.state.now (from + 4 * n))
+      → store ≡ put_mid to (4 * (n + 1)) p.store.now (mid_of from (4 * (n + 1)) p.state.now)
+  copied_more h k e =
+      let state = p.state.now in
       let own = ap (λ l. four_from l (from + 4 * n)) o.state_is ∙ four_read state (from + 4 * n) h in
       let next : 4 * (n + 1) ≡ 4 * n + 4 = omega arith in
-      record {
-        state_is = state_whole store;
-        store_is =
-            store_back slices' store l
-            ∙ (e
-            ∙ (ap (put_mid (to + 4 * n) 4 (store_in slices').now) own
-            ∙ rw (o.store_is, next) (copy_then from to (4 * n) 4 state (store_in slices).now (omega arith) (omega arith))));
-        same = same_store_back slices slices' store o.same;
-      }
+      e
+      ∙ (ap (put_mid (to + 4 * n) 4 p'.store.now) own
+      ∙ rw (o.store_is, next) (copy_then from to (4 * n) 4 state p.store.now (omega arith) (omega arith)))
 
-  -- the first four bytes labelled, the store has the piece, whatever state is back
-  pub piece_put : (event node : ℕ) {store : List ℕ} (state : List ℕ) → 1 ≤ n
-      → from + 4 * n ≤ length (state_in slices).now → to ≤ length (store_in slices).now
-      → store ≡ put_mid to 4 (store_in slices').now (label_of event node) → length store ≡ length (store_in slices').now
-      → (store_in (put (put slices' 1 store) 0 state)).now
-      ≡ put_mid to (4 * n) (store_in slices).now (piece_from event node (mid_of from (4 * n) (state_in slices).now))
-  piece_put event node {store} state one h k e l =
-      let own = mid_of from (4 * n) (state_in slices).now in
-      let four : 4 ≤ length own = omega (arith, mid_long from (4 * n) (state_in slices).now h) in
-      ap (λ s. s.now) (store_stays (put slices' 1 store) state)
-      ∙ (store_back slices' store l
-      ∙ (e ∙ rw o.store_is (put_front to (4 * n) 4 (store_in slices).now own (label_of event node) k four)))
-
-  -- the slices are the same ones then
-  pub piece_same : (store state : List ℕ) → SameBytes slices (put (put slices' 1 store) 0 state)
-  piece_same store state = same_state_back slices (put slices' 1 store) state (same_store_back slices slices' store o.same)
+  -- the first four bytes labelled, the store has the piece
+  pub piece_put : (event node : ℕ) {store : List ℕ} → 1 ≤ n → from + 4 * n ≤ length p.state.now → to ≤ length p.store.now
+      → store ≡ put_mid to 4 p'.store.now (label_of event node)
+      → store ≡ put_mid to (4 * n) p.store.now (piece_from event node (mid_of from (4 * n) p.state.now))
+  piece_put event node one h k e =
+      let own = mid_of from (4 * n) p.state.now in
+      let four : 4 ≤ length own = omega (arith, mid_long from (4 * n) p.state.now h) in
+      e ∙ rw o.store_is (put_front to (4 * n) 4 p.store.now own (label_of event node) k four)

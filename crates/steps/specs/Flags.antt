@@ -1,4 +1,4 @@
--- Flags as numbers inside a pass: 0 SUSP, 1 STOP, 2 TERM; and a Par's branches joined, by the bytes of the whole state.
+-- The flag that stands in a byte, 0 SUSP, 1 STOP, 2 TERM; and a Par's branches joined, by the bytes of the whole state.
 use Rattle.std.specs.Prelude.{ℕ, zero, suc, ◌+◌, ◌*◌, ◌<◌, cond, ◌≡◌, ◌≢◌, List, set}
 use Rattle.junior.specs.declared.Flag.{Flag}
 use Rattle.junior.specs.declared.Flag.TheVariants.{SUSP, STOP, TERM}
@@ -17,12 +17,11 @@ par_end_at α β at second s =
     let flags = cond (flag_is_term (γ α β)) 0 (code (δ₁ α β) + 4 * code (δ₂ α β)) in
     ended β second (gone (γ α β)) (ended α (at + 4) (gone (γ α β)) (set s (at + 1) flags))
 
-pub record ParEnds (f g at second : ℕ) (s s' : List ℕ) (r : ℕ) : Type 0 where
-  pub bytes : s' ≡ par_end_at (flag_of f) (flag_of g) at second s
-  pub below : r < 3
-  pub flag : flag_of r ≡ γ (flag_of f) (flag_of g)
+pub record ParEnds (f g : Flag) (at second : ℕ) (s s' : List ℕ) (r : Flag) : Type 0 where
+  pub bytes : s' ≡ par_end_at f g at second s
+  pub flag : r ≡ γ f g
 
 -- what the Par at byte `above` answers whose first branch is suspended and whose second, at byte `at`, has answered r; a Par that is that very node, r
-pub record Heard (r above at : ℕ) (s s' : List ℕ) (q : ℕ) : Type 0 where
+pub record Heard (r : Flag) (above at : ℕ) (s s' : List ℕ) (q : Flag) : Type 0 where
   pub itself : above ≡ at → (s' ≡ s) × (q ≡ r)
-  pub above_it : above ≢ at → ParEnds 0 r above at s s' q
+  pub above_it : above ≢ at → ParEnds SUSP r above at s s' q

@@ -1,10 +1,10 @@
 -- What the functions of a pass promise one another, over one record of all that is lent. No contract of a customer's call cites this file.
-use Rattle.std.specs.Prelude.{ℕ, ◌*◌, ◌<◌, ◌≡◌, List, [], ◌++◌, length, get_or}
-use Rattle.std.specs.Borrow.{Bor, MutBor}
+use Rattle.std.specs.Prelude.{ℕ, ◌*◌, ◌<◌, ◌≡◌, List, ◌++◌, length}
 use Rattle.junior.specs.Term.{Term}
+use Rattle.junior.specs.declared.Flag.{Flag}
+use Rattle.steps.specs.declared.Pass.{Pass}
 use Rattle.steps.specs.Running.{Rooms, rooms_of, Live, Runs}
 use Rattle.steps.specs.Numbers.{Numbers, Kept, words_of, tally_of}
-use Rattle.steps.specs.Flags.{flag_of}
 
 -- all that is lent; a room more changes `Rooms` and `held`
 pub record Lent : Type 0 where
@@ -16,25 +16,13 @@ pub record Lent : Type 0 where
 abbrev pub lent : List ℕ → List ℕ → List ℕ → Rooms → Lent
 lent table state numbers rooms = record { table = table; state = state; numbers = numbers; rooms = rooms }
 
--- State and store are lent by one reference, to an array of two slices. What stands in a place of it; beyond its places there is nothing.
-abbrev pub slice_at : List (MutBor (List ℕ)) → ℕ → MutBor (List ℕ)
-slice_at slices place = get_or slices place (record { ref_ptr = (0, 0); ghost_name = 0; now = [] })
+-- what a pass runs over
+abbrev pub lent_of : Pass → Lent
+lent_of p = lent p.table.now p.state.now p.numbers (rooms_of p.atoms.now p.store.now)
 
-abbrev pub state_in : List (MutBor (List ℕ)) → MutBor (List ℕ)
-state_in slices = slice_at slices 0
-
-abbrev pub store_in : List (MutBor (List ℕ)) → MutBor (List ℕ)
-store_in slices = slice_at slices 1
-
--- what stands behind the references
-abbrev pub held : Bor (Bor (List ℕ)) → MutBor (List (MutBor (List ℕ))) → MutBor (List ℕ) → MutBor (MutBor (List ℕ)) → Lent
-held table bytes numbers atoms =
-    lent table.now.now (state_in bytes.now).now numbers.now (rooms_of atoms.now.now (store_in bytes.now).now)
-
--- the same for a node that does no atom, whatever the row is
-abbrev pub storing : Bor (Bor (List ℕ)) → MutBor (List (MutBor (List ℕ))) → MutBor (List ℕ) → List ℕ → Lent
-storing table bytes numbers row =
-    lent table.now.now (state_in bytes.now).now numbers.now (rooms_of row (store_in bytes.now).now)
+-- what stands behind the references of pass p' later on, over the table of p
+abbrev pub lent_then : Pass → Pass → Lent
+lent_then p p' = lent p.table.now p'.state.now p'.numbers (rooms_of p'.atoms.now p'.store.now)
 
 -- the bytes `part` of node i and all below it stand in the whole state
 pub record Around (state : List ℕ) (i : ℕ) (before part behind : List ℕ) : Type 0 where
@@ -48,36 +36,32 @@ pub record Stands (skip : ℕ) (W : Term → Type 0) (L : Lent) (i : ℕ) (befor
   pub live : Live skip W L.table i part (words_of L.numbers) L.rooms (tally_of L.numbers)
 
 -- whatever such term stands there was run once, all around it is as it was, and r is its flag
-pub record Went (skip : ℕ) (W : Term → Type 0) (L : Lent) (i : ℕ) (before part behind : List ℕ) (L' : Lent) (r : ℕ) : Type 0 where
+pub record Went (skip : ℕ) (W : Term → Type 0) (L : Lent) (i : ℕ) (before part behind : List ℕ) (L' : Lent) (r : Flag) : Type 0 where
   pub part' : List ℕ
   pub around : Around L'.state i before part' behind
   pub kept : Kept L.numbers L'.numbers
-  pub below : r < 3
   pub runs :
       Runs skip W L.table i part (words_of L.numbers) L.rooms (tally_of L.numbers)
-      part' (words_of L'.numbers) L'.rooms (tally_of L'.numbers) (flag_of r)
+      part' (words_of L'.numbers) L'.rooms (tally_of L'.numbers) r
 
 -- what each function of the cycle asks, and what it gives
 abbrev pub CanRun : ℕ → (Term → Type 0) → Lent → ℕ → Type 0
 CanRun skip W L i = (before : List ℕ) × (part : List ℕ) × (behind : List ℕ) × Stands skip W L i before part behind
 
-abbrev pub HasRun : ℕ → (Term → Type 0) → Lent → ℕ → Lent → ℕ → Type 0
+abbrev pub HasRun : ℕ → (Term → Type 0) → Lent → ℕ → Lent → Flag → Type 0
 HasRun skip W L i L' r =
     (before part behind : List ℕ) → Stands skip W L i before part behind → Went skip W L i before part behind L' r
 
--- the same where the row isn't looked at: whatever it is, it stays
-abbrev pub CanRunBeside : ℕ → (Term → Type 0) → (List ℕ → Lent) → ℕ → Type 0
-CanRunBeside skip W L i = (row : List ℕ) × CanRun skip W (L row) i
+-- a pass holds on to its table and to its slices
+abbrev pub Named : Pass → Pass → Type 0
+Named p p' =
+    (p'.table.now ≡ p.table.now) × (p'.state.ghost_name ≡ p.state.ghost_name) × (p'.atoms.ghost_name ≡ p.atoms.ghost_name)
+    × (p'.store.ghost_name ≡ p.store.ghost_name)
 
-abbrev pub HasRunBeside : ℕ → (Term → Type 0) → (List ℕ → Lent) → ℕ → (List ℕ → Lent) → ℕ → Type 0
-HasRunBeside skip W L i L' r = (row : List ℕ) → HasRun skip W (L row) i (L' row) r
+-- the same of a pass: all that a contract of a function of the cycle says
+abbrev pub CanPass : ℕ → (Term → Type 0) → Pass → ℕ → Type 0
+CanPass skip W p i = CanRun skip W (lent_of p) i
 
--- the slices behind a thin reference, or in the two places of the array, are the same ones
-abbrev pub Same : MutBor (List ℕ) → MutBor (List ℕ) → Type 0
-Same slice slice' = slice'.ghost_name ≡ slice.ghost_name
-
-abbrev pub SameBytes : List (MutBor (List ℕ)) → List (MutBor (List ℕ)) → Type 0
-SameBytes bytes bytes' = Same (state_in bytes) (state_in bytes') × Same (store_in bytes) (store_in bytes')
-
-abbrev pub Named : List (MutBor (List ℕ)) → List (MutBor (List ℕ)) → MutBor (List ℕ) → MutBor (List ℕ) → Type 0
-Named bytes bytes' atoms atoms' = SameBytes bytes bytes' × Same atoms atoms'
+pub record HasPassed (skip : ℕ) (W : Term → Type 0) (p : Pass) (i : ℕ) (p' : Pass) (r : Flag) : Type 0 where
+  pub has_run : HasRun skip W (lent_of p) i (lent_then p p') r
+  pub named : Named p p'

@@ -1,12 +1,12 @@
 -- What parking does to the state, the row of numbers and the store.
 use Rattle.std.specs.Prelude.{ℕ, ◌+◌, ◌*◌, ◌/◌, ◌%◌, Bool, ◌&&◌, not, ◌≡◌, List, ◌∷◌, eqb, get_or, drop, set, replicate}
 use borrow.Rule.Slice.PartMut.{mid_of, put_mid}
-use Rattle.std.specs.Borrow.{MutBor}
 use Rattle.events.specs.Members.{marks}
 use Rattle.table.specs.Records.{argument_at, size_at}
+use Rattle.steps.specs.declared.Pass.{Pass}
+use Rattle.steps.specs.Lent.{Named}
 use Rattle.steps.specs.Running.{end_declared}
 use Rattle.steps.specs.Numbers.{parked_at, words_of, tally_of}
-use Rattle.steps.specs.Lent.{state_in, store_in, SameBytes}
 
 -- node i, in this phase, is pending, the end isn't declared, and its event is absent
 abbrev pub stays_pending : List ℕ → ℕ → ℕ → List ℕ → Bool
@@ -25,7 +25,9 @@ pub record Parked (table : List ℕ) (i event : ℕ) (state numbers store state'
   pub numbers_is : numbers' ≡ set numbers parked_at (get_or numbers parked_at 0 + 4 * size_at table i)
 
 -- before that, the bytes of so many nodes are copied from the state to the store
-pub record Copied (from to nodes : ℕ) (slices slices' : List (MutBor (List ℕ))) : Type 0 where
-  pub state_is : (state_in slices').now ≡ (state_in slices).now
-  pub store_is : (store_in slices').now ≡ put_mid to (4 * nodes) (store_in slices).now (mid_of from (4 * nodes) (state_in slices).now)
-  pub same : SameBytes slices slices'
+pub record Copied (from to nodes : ℕ) (p p' : Pass) : Type 0 where
+  pub state_is : p'.state.now ≡ p.state.now
+  pub store_is : p'.store.now ≡ put_mid to (4 * nodes) p.store.now (mid_of from (4 * nodes) p.state.now)
+  pub numbers_is : p'.numbers ≡ p.numbers
+  pub atoms_is : p'.atoms.now ≡ p.atoms.now
+  pub named : Named p p'

@@ -3,7 +3,10 @@ use Rattle.std.specs.Prelude.{ℕ, ◌+◌, ◌-◌, Bool, ◌≡◌, ◌≢◌,
 use borrow.Rule.Slice.PartMut.{put_mid}
 use Rattle.table.specs.Records.{part_kind}
 use Rattle.table.specs.Spells.{tested}
-use Rattle.table.specs.Inside.Ranks.{unranked}
+use Rattle.junior.specs.declared.Flag.{Flag}
+use Rattle.junior.specs.declared.Flag.TheVariants.{SUSP, STOP, TERM}
+use Rattle.junior.specs.declared.Verdict.{Verdict}
+use Rattle.junior.specs.declared.Verdict.TheVariants.{Sat, Unsat, Unknown}
 use Rattle.steps.specs.Running.{HasTest, TestRead}
 use Rattle.steps.specs.Numbers.{Numbers, words_of, tally_of}
 
@@ -15,17 +18,17 @@ pub record CanTest (table : List ℕ) (i : ℕ) (numbers : List ℕ) : Type 0 wh
 abbrev pub lone_event : List ℕ → ℕ → Bool
 lone_event table i = eqb (part_kind table (tested table i)) 0
 
--- r is the rank of what it is read as
-abbrev pub TestRanked : List ℕ → ℕ → List ℕ → ℕ → Type 0
-TestRanked table i numbers r = TestRead table i (words_of numbers) (tally_of numbers) (unranked r)
+-- v is what it is read as
+abbrev pub TestIs : List ℕ → ℕ → List ℕ → Verdict → Type 0
+TestIs table i numbers v = TestRead table i (words_of numbers) (tally_of numbers) v
 
 -- the bytes s of a state in which the body of an Until, at byte `at` with its handler at byte `second`, is made fresh
 abbrev pub body_cleared : ℕ → ℕ → List ℕ → List ℕ
 body_cleared at second s = let long = second - (at + 4) in put_mid (at + 4) long s (replicate long 0)
 
--- what the state s and the flag become, by the rank of an Until*'s test: rules 34, 33, 32, and 31, where TERM says that the handler is now to be run
-pub data StarRead (rank ended at second : ℕ) (s : List ℕ) : List ℕ → ℕ → Type 0 where
-  waits : rank ≡ 1 → StarRead rank ended at second s (set s at 1) 0
-  refused : rank ≡ 0 → StarRead rank ended at second s (set s at 0) 1
-  satisfied_late : rank ≢ 1 → rank ≢ 0 → ended ≢ 0 → StarRead rank ended at second s (set (body_cleared at second s) at 2) 1
-  satisfied : rank ≢ 1 → rank ≢ 0 → ended ≡ 0 → StarRead rank ended at second s (body_cleared at second s) 2
+-- what the state s and the flag become, by what an Until*'s test is read as: rules 34, 33, 32, and 31, where TERM says that the handler is now to be run
+pub data StarRead (v : Verdict) (ended at second : ℕ) (s : List ℕ) : List ℕ → Flag → Type 0 where
+  waits : v ≡ Unknown → StarRead v ended at second s (set s at 1) SUSP
+  refused : v ≡ Unsat → StarRead v ended at second s (set s at 0) STOP
+  satisfied_late : v ≡ Sat → ended ≢ 0 → StarRead v ended at second s (set (body_cleared at second s) at 2) STOP
+  satisfied : v ≡ Sat → ended ≡ 0 → StarRead v ended at second s (body_cleared at second s) TERM

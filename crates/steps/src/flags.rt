@@ -1,55 +1,63 @@
-// Flags inside a pass are numbers; a Par's flags byte is the first branch's and 4 times the second's.
+// Flags inside a pass; a Par's flags byte is the first branch's and 4 times the second's.
 ghost use Rattle.std.specs.Prelude.{◌≡◌, ◌≢◌, ◌+◌, ◌*◌, ◌<◌, length, get_or};
 ghost use Rattle.steps.specs.Running.{phase_after, sign_after, gone, ended};
+ghost use Rattle.junior.specs.declared.Flag.TheVariants.{SUSP, TERM};
+ghost use Rattle.state.specs.StateBytes.{code};
 ghost use Rattle.steps.specs.Flags.{flag_of, ParEnds, Heard};
 
-use crate::phases::GONE;
-use table::records::wide;
-
-pub const SUSP: u8 = 0;
-
-pub const STOP: u8 = 1;
-
-pub const TERM: u8 = 2;
-
-// γ: the joined flag, by the first branch's and the second's (000, 2.4).
-const JOINED: [[u8; 3]; 3] = [[0, 0, 0], [0, 1, 1], [0, 1, 2]];
+use crate::phases::{GONE, PLUS};
+use junior::Flag;
 
 // δ₁ and δ₂ as a Par's flags byte; zero where the Par itself ends.
 const KEPT: [[u8; 3]; 3] = [[0, 4, 8], [1, 0, 8], [2, 2, 0]];
 
+// γ: the joined flag, by the first branch's and the second's (000, 2.4). A static: a const of an enum's values is built anew at each use.
+static JOINED: [[Flag; 3]; 3] = [
+    [Flag::SUSP, Flag::SUSP, Flag::SUSP],
+    [Flag::SUSP, Flag::STOP, Flag::STOP],
+    [Flag::SUSP, Flag::STOP, Flag::TERM],
+];
+
+// The flag that stands in a byte.
+pub fn flag_at(byte: u8) -> Flag
+    ensures { result ≡ flag_of byte }
+{
+    match byte {
+        0 => Flag::SUSP,
+        1 => Flag::STOP,
+        _ => Flag::TERM,
+    }
+}
+
 // A Par at byte `at` whose branches have both been run. Where both are suspended or both stop, its bytes are as they were.
-pub fn both_ran(state: &mut [u8], at: usize, second: usize, f: u8, g: u8) -> u8
-    requires f_bound { (f < 3) × (g < 3) × (at + 4 < length state.old) × (second < length state.old) }
-    requires at_value { get_or state.old (at + 1) 0 ≡ 0 }
+pub fn both_ran(state: &mut [u8], at: usize, second: usize, f: Flag, g: Flag) -> Flag
+    requires in_bounds { (at + 4 < length state.old) × (second < length state.old) }
+    requires flags_before { get_or state.old (at + 1) 0 ≡ 0 }
     ensures { ParEnds f g at second state.old state.new result }
 {
-    if f == g {
-        if f != TERM {
-            return f;
-        }
+    if f == g && f != Flag::TERM {
+        return f;
     }
     par_end(state, at, second, f, g)
 }
 
 // A Par at byte `at` whose first branch is suspended and whose second has answered g. It is suspended itself, whatever g is.
-pub fn second_ran(state: &mut [u8], at: usize, second: usize, g: u8) -> u8
-    requires g_bound { (g < 3) × (at + 4 < length state.old) × (second < length state.old) }
-    requires at_value { get_or state.old (at + 1) 0 ≡ 0 }
-    ensures { ParEnds 0 g at second state.old state.new result }
+pub fn second_ran(state: &mut [u8], at: usize, second: usize, g: Flag) -> Flag
+    requires in_bounds { (at + 4 < length state.old) × (second < length state.old) }
+    requires flags_before { get_or state.old (at + 1) 0 ≡ 0 }
+    ensures { ParEnds SUSP g at second state.old state.new result }
 {
-    if g == SUSP {
-        return SUSP;
+    if g == Flag::SUSP {
+        return Flag::SUSP;
     }
-    state[at + 1] = 4 * g;
+    state[at + 1] = 4 * g as u8;
     end_branch(state, second, g, GONE);
-    SUSP
+    Flag::SUSP
 }
 
 // What a Par at byte `above` answers whose first branch is suspended and whose second, at byte `at`, has answered r; r if they are the same.
-pub fn heard_above(state: &mut [u8], above: usize, at: usize, r: u8) -> u8
-    requires r_bound { r < 3 }
-    requires above_in_bounds { above ≢ at → (above + 4 < length state.old) × (at < length state.old) × (get_or state.old (above + 1) 0 ≡ 0) }
+pub fn heard_above(state: &mut [u8], above: usize, at: usize, r: Flag) -> Flag
+    requires { above ≢ at → (above + 4 < length state.old) × (at < length state.old) × (get_or state.old (above + 1) 0 ≡ 0) }
     ensures { Heard r above at state.old state.new result }
 {
     if above == at {
@@ -59,24 +67,24 @@ pub fn heard_above(state: &mut [u8], above: usize, at: usize, r: u8) -> u8
 }
 
 // A Par at byte `at` of which only the first branch has been run, the second's flag being g. Where that stays suspended, its bytes are as they were.
-pub fn first_ran(state: &mut [u8], at: usize, second: usize, f: u8, g: u8) -> u8
-    requires f_bound { (f < 3) × (g < 3) × (at + 4 < length state.old) × (second < length state.old) }
-    requires at_value { (get_or state.old (at + 1) 0 ≡ 4 * g) × (g ≡ 2 → get_or state.old second 0 ≡ 3) }
+pub fn first_ran(state: &mut [u8], at: usize, second: usize, f: Flag, g: Flag) -> Flag
+    requires in_bounds { (at + 4 < length state.old) × (second < length state.old) }
+    requires flags_before { (get_or state.old (at + 1) 0 ≡ 4 * code g) × (g ≡ TERM → get_or state.old second 0 ≡ 3) }
     ensures { ParEnds f g at second state.old state.new result }
 {
-    if f != SUSP {
-        return par_end(state, at, second, f, g);
+    if f == Flag::SUSP {
+        return Flag::SUSP;
     }
-    SUSP
+    par_end(state, at, second, f, g)
 }
 
 // A Par at byte `at` whose branches have answered f and g: its flags, phase 3 for a branch that has ended, and the joined flag.
-pub fn par_end(state: &mut [u8], at: usize, second: usize, f: u8, g: u8) -> u8
-    requires { (f < 3) × (g < 3) × (at + 4 < length state.old) × (second < length state.old) }
+pub fn par_end(state: &mut [u8], at: usize, second: usize, f: Flag, g: Flag) -> Flag
+    requires { (at + 4 < length state.old) × (second < length state.old) }
     ensures { ParEnds f g at second state.old state.new result }
 {
-    let a = wide(f);
-    let b = wide(g);
+    let a = f as usize;
+    let b = g as usize;
     let joined = JOINED[a][b];
     state[at + 1] = KEPT[a][b];
     let phase = gone_in(joined);
@@ -86,47 +94,32 @@ pub fn par_end(state: &mut [u8], at: usize, second: usize, f: u8, g: u8) -> u8
 }
 
 // The phase of an ended branch: 3 while its Par goes on.
-fn gone_in(joined: u8) -> u8
-    requires { joined < 3 }
-    ensures { result ≡ gone (flag_of joined) }
+fn gone_in(joined: Flag) -> u8
+    ensures { result ≡ gone joined }
 {
-    if joined == TERM {
-        return 0;
-    }
-    3
+    if joined == Flag::TERM { 0 } else { GONE }
 }
 
 // A branch at byte `at` that has answered f: if it has ended, its phase.
-fn end_branch(state: &mut [u8], at: usize, f: u8, phase: u8)
-    requires { (f < 3) × (at < length state.old) }
-    ensures { state.new ≡ ended (flag_of f) at phase state.old }
+fn end_branch(state: &mut [u8], at: usize, f: Flag, phase: u8)
+    requires { at < length state.old }
+    ensures { state.new ≡ ended f at phase state.old }
 {
-    if f == TERM {
+    if f == Flag::TERM {
         state[at] = phase;
     }
 }
 
 // The phase of a node in its part: 0 again once that has ended.
-pub fn phase_after(f: u8, phase: u8) -> u8
-    requires { f < 3 }
-    ensures { result ≡ phase_after (flag_of f) phase }
+pub fn phase_after(f: Flag, phase: u8) -> u8
+    ensures { result ≡ phase_after f phase }
 {
-    if f == TERM {
-        return 0;
-    }
-    phase
+    if f == Flag::TERM { 0 } else { phase }
 }
 
 // The sign of a Local whose body has answered, as a phase.
-pub fn sign_after(f: u8, present: bool) -> u8
-    requires { f < 3 }
-    ensures { result ≡ sign_after (flag_of f) present }
+pub fn sign_after(f: Flag, present: bool) -> u8
+    ensures { result ≡ sign_after f present }
 {
-    if f == SUSP {
-        if present {
-            return 1;
-        }
-        return 0;
-    }
-    0
+    if f == Flag::SUSP && present { PLUS } else { 0 }
 }

@@ -33,7 +33,7 @@ pub const PARKED: usize = WORDS + 6;
 // How many numbers the row has.
 pub const NUMBERS: usize = ROW;
 
-// The events, taken out of the row.
+// The events, taken out of the row. Word by word, here and below: with copy_from_slice a small instant took 9 per cent more instructions (b).
 pub fn events_of(numbers: &[u64; NUMBERS]) -> EventSet
     requires { length numbers.now ≡ places_of_row }
     ensures { result.words ≡ words_of numbers.now }
@@ -96,12 +96,8 @@ fn times_asked(numbers: &[u64; NUMBERS], argument: usize) -> usize
     requires { length numbers.now ≡ places_of_row }
     ensures { result ≡ min (cap_in argument) (values_in (tally_of numbers.now) (value_in argument)) }
 {
-    let cap = argument / 16;
     let value = value_of(numbers, argument % 16) as usize;
-    if value < cap {
-        return value;
-    }
-    cap
+    value.min(argument / 16)
 }
 
 // How often the body of node i, a Repeat or a RepeatExt, is run once it begins.
@@ -122,9 +118,10 @@ fn put_digit(word: u64, at: usize, present: bool) -> u64
     ensures { digits result ≡ put at present (digits word) }
 {
     if present {
-        return word | 1 << at;
+        word | 1 << at
+    } else {
+        word & !(1 << at)
     }
-    word & !(1 << at)
 }
 
 // The row before the first pass of an instant.

@@ -3,12 +3,6 @@ ghost use Rattle.std.specs.Prelude.{◌≡◌, ◌&&◌, cond, ◌+◌, ◌-◌,
 ghost use borrow.Rule.Slice.PartMut.{put_mid};
 
 use state::clear;
-use table::records::wide;
-
-// Where the state and the store's free part stand among the bytes that are lent.
-pub const STATE: usize = 0;
-
-pub const STORE: usize = 1;
 
 // Where the flags and the count stand behind the phase.
 pub const FLAGS: usize = 1;
@@ -32,27 +26,21 @@ pub const PLUS: u8 = 1;
 pub fn both_suspended(phase: u8, flags: u8) -> bool
     ensures { result ≡ (eqb phase 0 && eqb flags 0) }
 {
-    if phase == 0 {
-        return flags == 0;
-    }
-    false
+    phase == 0 && flags == 0
 }
 
 // The phase of a When that has chosen.
 pub fn chosen(second: bool) -> u8
     ensures { result ≡ cond second 2 1 }
 {
-    if second {
-        return SECOND;
-    }
-    THEN
+    if second { SECOND } else { THEN }
 }
 
 // How often the body of a begun repetition is still to be run, the run that it is in counted, by its count.
 pub fn turns_left(high: u8, low: u8) -> usize
     ensures { result ≡ high * 256 + low + 1 }
 {
-    wide(high) * 256 + wide(low) + 1
+    usize::from(u16::from_be_bytes([high, low])) + 1
 }
 
 // A Repeat at byte `at` has begun, k runs being still to begin.
@@ -61,8 +49,9 @@ pub fn begin_turn(state: &mut [u8], at: usize, k: usize)
     ensures { state.new ≡ set (set (set state.old at 1) (at + 2) (k / 256)) (at + 3) (k % 256) }
 {
     state[at] = BEGUN;
-    state[at + COUNT] = (k / 256) as u8;
-    state[at + COUNT + 1] = (k % 256) as u8;
+    let [high, low] = (k as u16).to_be_bytes();
+    state[at + COUNT] = high;
+    state[at + COUNT + 1] = low;
 }
 
 // A Repeat at byte `at` has ended.

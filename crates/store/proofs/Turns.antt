@@ -1,11 +1,12 @@
 -- Going from piece to piece, with turns enough: what is still to see of the pieces says what all of them say.
 use Prim.Native.Nat.{ℕ, zero, suc, ◌+◌, ◌-◌, ◌≤◌, ◌<◌}
-use mathlib.Core.Bool.{true, false, cond, ◌&&◌}
+use mathlib.Core.Bool.{Bool, true, false, cond, ◌&&◌}
 use mathlib.Core.Path.{◌≡◌, refl, sym, ◌∙◌}
 use mathlib.Core.List.{List}
 use native.Mathlib.Omega.{arith}
 use lib.Dec.{eqb}
 use borrow.Author.Tests.{eq-eqb, ne_eqb}
+use Rattle.std.proofs.Common.{Option, Some, None, unwrap_or, IfSome, MatchOption}
 use Rattle.table.proofs.Laid.{both}
 use Rattle.store.specs.Store.{in_use, event_at, piece_length, piece_good, pieces_good, newest_from, newest}
 
@@ -98,3 +99,23 @@ module _ (t s : List ℕ) (e end : ℕ) where
   newest_found u h =
       let d : 2 + in_use s - 2 ≡ in_use s = omega arith in
       sym h ∙ rw (u, d)
+
+-- where the one found begins; 0 if none is
+abbrev pub place : Option ℕ → ℕ
+place o = unwrap_or o 0
+
+pub place_more : (b : Bool) (at : ℕ) (o : Option ℕ) → place (cond b (Some at) o) ≡ cond b at (place o)
+place_more true at o = refl
+place_more false at o = refl
+
+-- none begins at byte 0
+abbrev pub Behind0 : Option ℕ → Type 0
+Behind0 o = IfSome o (λ at. 0 < at)
+
+pub behind0_more : (b : Bool) {at : ℕ} (o : Option ℕ) → 0 < at → Behind0 o → Behind0 (cond b (Some at) o)
+behind0_more true o h p = h
+behind0_more false o h p = p
+
+pub found_is : (o : Option ℕ) {n : ℕ} → Behind0 o → place o ≡ n → MatchOption o (n ≡ 0) (λ at. (at ≡ n) × (0 < at))
+found_is None p e = sym e
+found_is (Some at) p e = (e, p)

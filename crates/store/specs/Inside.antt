@@ -1,6 +1,8 @@
 -- What private functions of the store go by. No public contract cites this file.
-use Rattle.std.specs.Prelude.{ℕ, ◌+◌, ◌≤◌, ◌<◌, Bool, true, ◌≡◌, List, eqb}
+use Rattle.std.specs.Prelude.{ℕ, ◌+◌, ◌≤◌, ◌<◌, Bool, true, ◌≡◌, ⊤, List, eqb}
 use Rattle.events.specs.Events.{lowest}
+use Rattle.store.specs.declared.good.Ways.{Ways}
+use Rattle.store.specs.declared.good.Ways.TheVariants.{Few, Each, Free}
 use Rattle.table.specs.Records.{nodes, size_at}
 use Rattle.table.specs.Part.{never_runs}
 use Rattle.table.specs.Inside.{Loaded}
@@ -22,6 +24,8 @@ pub record Next (t : List ℕ) (i j r : ℕ) : Type 0 where
 unfoldable pub all_run : List ℕ → Bool
 all_run t = eqb (lowest (nodes t) (never_runs t)) (nodes t)
 
--- no way down has to be gone if that is known
-abbrev pub Spared : List ℕ → ℕ → Type 0
-Spared t ways = ways ≡ 0 → all_run t ≡ true
+-- where no way down is gone, no node is one
+abbrev pub Spared : List ℕ → Ways → Type 0
+Spared t (Few n) = ⊤
+Spared t Each = ⊤
+Spared t Free = all_run t ≡ true

@@ -1,11 +1,12 @@
 // The store of parked pieces (L8): whether it is good (25), what room it has (13), where the newest piece of an event is, how one is taken out.
 #![tactic(auto)]
 
-ghost use Rattle.std.specs.Prelude.{◌≡◌, true, cond, ◌++◌, ◌+◌, ◌<◌, ◌≤◌, eqb, length, drop};
+ghost use Rattle.std.specs.Prelude.{◌≡◌, true, ◌++◌, ◌+◌, ◌<◌, ◌≤◌, length, drop, MatchOption};
 ghost use Rattle.table.specs.Inside.{Loaded};
-ghost use Rattle.store.specs.Store.{in_use, event_at, two, store_good, store_room, newest, without};
+ghost use Rattle.store.specs.Store.{in_use, two, store_good, store_room, newest, without};
 
-use table::records::{size_at, word_at};
+use good::Pieces;
+use table::records::word_at;
 use writing::{close_gap, put_word};
 
 pub mod good;
@@ -24,31 +25,19 @@ pub fn room_of(store: &[u8]) -> usize
     65535 - used
 }
 
-// The piece at byte `at` if it is of this event, else the one found before it.
-fn later_of(store: &[u8], event: usize, at: usize, found: usize) -> usize
-    requires { at + 1 < length store.now }
-    ensures { result ≡ cond (eqb (event_at store.now at) event) at found }
-{
-    if word_at(store, at) == event {
-        return at;
-    }
-    found
-}
-
-// Where the newest piece of an event begins; 0 if there is none.
-pub fn newest_at(table: &[u8], store: &[u8], event: usize) -> usize
+// Where the newest piece of an event begins, if there is one.
+pub fn newest_at(table: &[u8], store: &[u8], event: usize) -> Option<usize>
     requires loaded { Loaded table.now }
-    requires store_value { store_good table.now store.now ≡ true }
-    ensures { result ≡ newest table.now store.now event }
+    requires good { store_good table.now store.now ≡ true }
+    ensures { MatchOption result (newest table.now store.now event ≡ 0)
+        (λ at. (at ≡ newest table.now store.now event) × (0 < at)) }
 {
-    let end = 2 + word_at(store, 0);
-    let mut at = 2;
-    let mut found = 0;
-    while at < end {
-        found = later_of(store, event, at, found);
-        at += 4 + 4 * size_at(table, word_at(store, at + 2));
-    }
-    found
+    let pieces = Pieces {
+        table,
+        store,
+        end: 2 + word_at(store, 0),
+    };
+    pieces.newest_at(event)
 }
 
 // So many bytes are in use now.

@@ -7,8 +7,7 @@ pub fn put_word(room: &mut [u8], i: usize, x: usize)
     requires { (i + 1 < length room.old) × (x < 65536) }
     ensures { room.new ≡ take i room.old ++ (two x ++ drop (i + 2) room.old) }
 {
-    room[i] = (x / 256) as u8;
-    room[i + 1] = (x % 256) as u8;
+    room[i..i + 2].copy_from_slice(&(x as u16).to_be_bytes());
 }
 
 // All of `from` in front of a room.
@@ -16,9 +15,7 @@ pub fn copy(from: &[u8], room: &mut [u8])
     requires { length from.now ≤ length room.old }
     ensures { room.new ≡ from.now ++ drop (length from.now) room.old }
 {
-    for k in 0..from.len() {
-        room[k] = from[k];
-    }
+    room[..from.len()].copy_from_slice(from);
 }
 
 // What stands behind the first n bytes is moved down over them.
@@ -26,8 +23,5 @@ pub fn close_gap(part: &mut [u8], n: usize)
     requires { n ≤ length part.old }
     ensures { part.new ≡ drop n part.old ++ drop (length part.old - n) part.old }
 {
-    let rest = part.len() - n;
-    for k in 0..rest {
-        part[k] = part[n + k];
-    }
+    part.copy_within(n.., 0);
 }

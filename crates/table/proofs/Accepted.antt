@@ -1,22 +1,23 @@
 -- What an accepted table has, and what suffices for a table to be judged by its program.
 use Prim.Native.Nat.{ℕ, ◌≤◌, ◌<◌}
 use mathlib.Core.Bool.{Bool, true, false, cond, not}
-use mathlib.Core.Path.{◌≡◌, refl}
+use mathlib.Core.Path.{◌≡◌, refl, ap, sym, ◌∙◌}
 use mathlib.Core.Logic.{◌≢◌}
 use mathlib.Core.List.{List}
 use native.Mathlib.Omega.{arith}
 use lib.Dec.{ltb}
 use borrow.Author.Tests.{le-ltb, ltb-false}
 use Rattle.events.specs.Events.{lowest}
-use Rattle.table.specs.declared.Checked.{Checked}
-use Rattle.table.specs.declared.Checked.TheVariants.{BadLength, BadCounts, BadDistances, BadConfiguration, BadNode, TooDeep}
-use Rattle.table.specs.declared.Checked.TheVariants.{EndlessLoop, TooHeavy}
-use Rattle.table.specs.declared.Checked.TheVariants as variants
+use Rattle.std.specs.Prelude.{Ok, Err}
+use Rattle.table.specs.declared.Figures.{Figures}
+use Rattle.table.specs.declared.TableRefusal.{TableRefusal}
+use Rattle.table.specs.declared.TableRefusal.TheVariants.{BadLength, BadCounts, BadDistances, BadConfiguration, BadNode, TooDeep}
+use Rattle.table.specs.declared.TableRefusal.TheVariants.{EndlessLoop, TooHeavy}
 use Rattle.table.specs.Records.{nodes, configurations}
 use Rattle.table.specs.Good.{good_configuration, good_node}
 use Rattle.table.specs.Spells.{tree_of}
 use Rattle.table.specs.Verdict.{length_good, counts_good, distances_good, program_verdict, nodes_verdict, records_verdict}
-use Rattle.table.specs.Verdict.{verdict_of, number_of}
+use Rattle.table.specs.Verdict.{Verdict, verdict_of, refusal_number, number_of}
 use Rattle.table.specs.Inside.{ConfigurationsGood, NodesGood, Loaded}
 use Rattle.table.specs.Inside.Framing.{frame_of}
 use Rattle.table.proofs.Lowest.{lowest_bad, none_bad}
@@ -49,7 +50,7 @@ passed P true e n = absurd (n e)
 passed P false e n = (refl, e)
 
 -- none of refusals 1 to 5
-abbrev pub Past5 : Checked → Type 0
+abbrev pub Past5 : Verdict → Type 0
 Past5 c = 1 ≤ number_of c → 5 < number_of c
 
 -- a table past 1 to 5
@@ -70,22 +71,47 @@ past_5 t h =
     let good = none_bad (good_configuration t) (configurations t) bad_configuration refl (ltb-false bad_configuration (configurations t) g.0) in
     let all = none_bad (good_node t) (nodes t) bad_node refl (ltb-false bad_node (nodes t) n.0) in
     record {
-      loaded = record { framed = frame_counts t _ _ _ (rw (l.0, c.0, d.0)); configurations_good = good; nodes_good = all };
+      loaded = record { framed = frame_counts t _ (rw (l.0, c.0, d.0)); configurations_good = good; nodes_good = all };
       verdict_is = by_program t l.0 c.0 d.0 good all;
     }
 
 pub accepted : (t : List ℕ) → number_of (verdict_of t) ≡ 0 → Accepted t
 accepted t h = past_5 t (λ l. absurd (omega arith))
 
--- a verdict other than `Accepted` has a number
-pub not_accepted : (c : Checked) → ((g a w f : ℕ) → c ≡ variants.Accepted g a w f → ⊥) → number_of c ≢ 0
+-- each refusal has a number
+pub some_number : (why : TableRefusal) → 1 ≤ refusal_number why
+some_number BadLength = omega arith
+some_number BadCounts = omega arith
+some_number BadDistances = omega arith
+some_number (BadConfiguration j) = omega arith
+some_number (BadNode i) = omega arith
+some_number (TooDeep i) = omega arith
+some_number (EndlessLoop i) = omega arith
+some_number TooHeavy = omega arith
+
+-- so a verdict with none has figures, and one with another number has none
+pub no_number : {c : Verdict} {x : Figures} → Ok x ≡ c → number_of c ≡ 0
 unfolding number_of
-not_accepted BadLength n e = omega arith
-not_accepted BadCounts n e = omega arith
-not_accepted BadDistances n e = omega arith
-not_accepted (BadConfiguration j) n e = omega arith
-not_accepted (BadNode i) n e = omega arith
-not_accepted (TooDeep i) n e = omega arith
-not_accepted (EndlessLoop i) n e = omega arith
-not_accepted TooHeavy n e = omega arith
-not_accepted (variants.Accepted g a w f) n e = n g a w f refl
+no_number e = ap number_of (sym e)
+
+-- as a call has it of check
+pub loaded : {t : List ℕ} {x : Figures} → Ok x ≡ verdict_of t → Loaded t
+loaded {t} e = (accepted t (no_number e)).loaded
+
+pub its_figures : (c : Verdict) → number_of c ≡ 0 → (x : Figures) × (c ≡ Ok x)
+unfolding number_of
+its_figures (Ok x) e = (x, refl)
+its_figures (Err why) e = absurd (omega (arith, some_number why))
+
+pub not_accepted : (c : Verdict) → ((x : Figures) → c ≡ Ok x → ⊥) → number_of c ≢ 0
+unfolding number_of
+not_accepted (Ok x) n e = n x refl
+not_accepted (Err why) n e = omega (arith, some_number why)
+
+-- a verdict refuses for one reason, and none that has number 0 does
+pub one_refusal : {c : Verdict} {u v : TableRefusal} → c ≡ Err u → c ≡ Err v → u ≡ v
+one_refusal {u = u} {v = v} e f = let same : ◌≡◌ {A = Verdict} (Err u) (Err v) = sym e ∙ f in cc
+
+pub not_both : {c : Verdict} {why : TableRefusal} → number_of c ≡ 0 → c ≡ Err why → ⊥
+unfolding number_of
+not_both {why = why} z e = let n = ap number_of e in omega (arith, some_number why)

@@ -9,12 +9,13 @@ use lib.Dec.{ltb, leb, eqb}
 use borrow.Author.Tests.{lt-ltb, le-ltb, le-leb, lt-leb, leb-true, ne_eqb}
 use Rattle.events.specs.Events.{lowest}
 use Rattle.junior.specs.Program.{size}
-use Rattle.table.specs.declared.Checked.TheVariants.{BadNode, TooDeep, EndlessLoop, TooHeavy, Accepted}
+use Rattle.std.specs.Prelude.{Err}
+use Rattle.table.specs.declared.TableRefusal.TheVariants.{BadNode, TooDeep, EndlessLoop, TooHeavy}
 use Rattle.table.specs.declared.weights.Weight.{Weight}
 use Rattle.table.specs.Records.{nodes, kind_at, size_at}
 use Rattle.table.specs.Good.{children, good_node}
 use Rattle.table.specs.Spells.{tree_of}
-use Rattle.table.specs.Verdict.{preorder, first_such, deep, endless, endless_loop, light, program_verdict}
+use Rattle.table.specs.Verdict.{accepted_with, preorder, first_such, deep, endless, endless_loop, light, program_verdict}
 use Rattle.table.specs.Verdict.{nodes_verdict}
 use Rattle.table.specs.Inside.{NodesGood}
 use Rattle.table.specs.Inside.Weighing.{tree_at, height, Weighs, SizedWhole, AllGood, Row}
@@ -26,11 +27,11 @@ use Rattle.table.proofs.Tree.{Tree}
 use Rattle.table.proofs.Rows.{row_within}
 
 pub bad_answer : (t : List ℕ) (r : ℕ) → r ≡ lowest (nodes t) (λ i. not (good_node t i)) → r < nodes t
-    → BadNode r ≡ nodes_verdict t
+    → Err (BadNode r) ≡ nodes_verdict t
 unfolding nodes_verdict
 bad_answer t r e l = rw (← e, lt-ltb _ _ l)
 
-pub root_answer : (t : List ℕ) (n : ℕ) → n ≡ nodes t → 1 ≤ n → (size_at t 0 ≡ n → ⊥) → BadNode 0 ≡ nodes_verdict t
+pub root_answer : (t : List ℕ) (n : ℕ) → n ≡ nodes t → 1 ≤ n → (size_at t 0 ≡ n → ⊥) → Err (BadNode 0) ≡ nodes_verdict t
 unfolding good_node
 root_answer t n e l z =
     let r : (ltb 0 0 || eqb (size_at t 0) (nodes t)) ≡ false = rw (ne_eqb (size_at t 0) (nodes t) (λ f. z (f ∙ sym e))) in
@@ -59,7 +60,7 @@ within_limit x f m l e h = let k = leb-true f m h in omega arith
 
 accepted : {w x y z w' x' y' z' : ℕ} (a b c d : Bool) → (a ≡ true → w ≡ w') → (b ≡ true → x ≡ x') → (c ≡ true → y ≡ y')
     → (d ≡ true → z ≡ z')
-    → cond (a && (b && (c && d))) (Accepted w x y z) TooHeavy ≡ cond (a && (b && (c && d))) (Accepted w' x' y' z') TooHeavy
+    → cond (a && (b && (c && d))) (accepted_with w x y z) (Err TooHeavy) ≡ cond (a && (b && (c && d))) (accepted_with w' x' y' z') (Err TooHeavy)
 accepted true true true true e f g h = rw (e refl, f refl, g refl, h refl)
 accepted true true true false e f g h = refl
 accepted true true false d e f g h = refl
@@ -90,7 +91,7 @@ module _ {t : List ℕ} {n m v : ℕ} (P : SizedWhole t n m v) (g : AllGood t) w
   row_deep i h r = row_within the_tree the_size 65 i h r
 
   pub deep_answer : 64 < height (tree_at t 0) → (r : ℕ) → r ≡ 0 + first_such deep (preorder 1 (tree_at t 0))
-      → TooDeep r ≡ nodes_verdict t
+      → Err (TooDeep r) ≡ nodes_verdict t
   unfolding program_verdict
   deep_answer h r e =
       let n : r ≡ first_such deep (preorder 1 (tree_at t 0)) = omega arith in
@@ -119,7 +120,7 @@ module _ {t : List ℕ} {n m v : ℕ} (P : SizedWhole t n m v) (g : AllGood t) w
         let e = none_too_deep (tree_at t 0) h in
         le-ltb (first_such deep (preorder 1 (tree_at t 0))) (size (tree_at t 0)) (omega arith)
 
-    pub endless_answer : r < nodes t → EndlessLoop r ≡ nodes_verdict t
+    pub endless_answer : r < nodes t → Err (EndlessLoop r) ≡ nodes_verdict t
     unfolding program_verdict
     endless_answer m =
         rw (
@@ -133,8 +134,8 @@ module _ {t : List ℕ} {n m v : ℕ} (P : SizedWhole t n m v) (g : AllGood t) w
     pub weight_answer : nodes t ≤ r → (x : Weight) → Weighs x (tree_at t 0)
         → cond
         (leb x.generations 4094 && (leb x.atoms 4096 && (leb x.nodes 65535 && leb x.parked 16384)))
-        (Accepted x.generations x.atoms x.nodes x.parked)
-        TooHeavy
+        (accepted_with x.generations x.atoms x.nodes x.parked)
+        (Err TooHeavy)
         ≡ nodes_verdict t
     unfolding program_verdict light
     weight_answer m x w =

@@ -14,7 +14,7 @@ use Rattle.junior.proofs.Verdicts.{not₃, and₃, or₃, test_event}
 use Rattle.table.specs.Records.{part_kind, part_event, part_size, second_part}
 use Rattle.table.specs.Spells.{Configured, weight}
 use Rattle.table.specs.Reading.{ConfigurationAt, event_words, environment, ReadAs}
-use Rattle.table.specs.Inside.Ranks.{rank, unranked, absent_rank, RanksAs, IsAbsentRank}
+use Rattle.table.specs.Inside.Ranks.{rank, unranked, absent_rank, RanksAs}
 
 -- the written size is the number of records
 pub written : (t : List ℕ) (c : ℕ) (d : Config) → Configured t c d → part_size t c ≡ weight d
@@ -99,14 +99,9 @@ unfolding marks
 mark_in_words numbers e l = let h : e / 64 < event_words = omega arith in rw (get_or-take event_words numbers (e / 64) 0 h)
 
 module _ (t : List ℕ) (c : ℕ) (numbers : List ℕ) (absent : ℕ) where
-  -- a rank is at most 2
-  pub ranks_most : (r : ℕ) → ConfigurationAt t c → IsAbsentRank absent → RanksAs t c numbers absent r → r ≤ 2
-  ranks_most r (d, h, l, k) (ended, a) f = rw (f d ended false h a) (rank_most (test d (environment numbers ended false)))
-
-  pub ranks_read : (r : ℕ) (v : Verdict) (ended : Bool) → RanksAs t c numbers absent r → absent ≡ absent_rank ended
-      → v ≡ unranked r → ReadAs t c numbers ended v
-  ranks_read r v ended f a e d moved h =
-      e ∙ (ap unranked (f d ended moved h a) ∙ ranked (test d (environment numbers ended moved)))
+  pub ranks_read : (v : Verdict) (ended : Bool) → RanksAs t c numbers absent (rank v) → absent ≡ absent_rank ended → ReadAs t c numbers ended v
+  ranks_read v ended f a d moved h =
+      sym (ranked v) ∙ (ap unranked (f d ended moved h a) ∙ ranked (test d (environment numbers ended moved)))
 
   pub ranks_event : (event r : ℕ) → part_kind t c ≡ 0 → event ≡ part_event t c → r ≡ cond (marks (take event_words numbers) event) 2 absent
       → RanksAs t c numbers absent r

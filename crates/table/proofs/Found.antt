@@ -21,7 +21,7 @@ use Rattle.table.specs.Inside.{Loaded}
 use Rattle.table.specs.Part.{above, never_runs}
 use Rattle.table.proofs.Little.{below_or}
 use Rattle.table.proofs.Parts.{of_none, of_one, of_two}
-use Rattle.table.proofs.Tree.{Tree, leaf, one, two, tree, kind_is, written, argued, spelled, sized, spells_one, spells_two, second}
+use Rattle.table.proofs.Tree.{Tree, leaf, one, two, tree, kind_is, written, argued, sized, spells_one, spells_two, second}
 use Rattle.table.proofs.Loaded.{whole_placed}
 use Rattle.table.proofs.PartAccepted.{Runs}
 

@@ -1,7 +1,7 @@
 -- Refusals 1 to 4: the tests of 1 to 3 over N, M and V in hand, what a table has past each, and what is left of the verdict.
 use Prim.Native.Nat.{ℕ, ◌+◌, ◌*◌, ◌≤◌, ◌<◌}
 use mathlib.Core.Bool.{Bool, true, false, cond, not, ◌&&◌}
-use mathlib.Core.Path.{◌≡◌, refl, sym, ap, subst₃, ◌∙◌}
+use mathlib.Core.Path.{◌≡◌, refl, sym, ap, subst, ◌∙◌}
 use mathlib.Core.List.{List}
 use native.Mathlib.Omega.{arith}
 use lib.ListN.{length}
@@ -9,15 +9,16 @@ use lib.Dec.{eqb, leb}
 use borrow.Author.Tests.{eqb-true, leb-true, le-leb, lt-ltb, le-ltb}
 use Rattle.events.specs.Events.{lowest}
 use Rattle.events.specs.Members.{places}
-use Rattle.table.specs.declared.Checked.{Checked}
-use Rattle.table.specs.declared.Checked.TheVariants.{BadLength, BadCounts, BadDistances, BadConfiguration}
-use Rattle.table.specs.declared.frame.Frame.{Frame}
-use Rattle.table.specs.declared.frame.Frame.TheVariants.{Refused, Counts}
+use Rattle.std.specs.Prelude.{Result, Ok, Err}
+use Rattle.table.specs.declared.TableRefusal.{TableRefusal}
+use Rattle.table.specs.declared.TableRefusal.TheVariants.{BadLength, BadCounts, BadDistances, BadConfiguration}
+use Rattle.table.specs.declared.frame.Counts.{Counts}
 use Rattle.table.specs.Records.{nodes, configurations, events, back_to_nodes, back_to_configurations}
 use Rattle.table.specs.Good.{good_configuration}
-use Rattle.table.specs.Verdict.{length_good, counts_good, distances_good, nodes_verdict, records_verdict, verdict_of}
-use Rattle.table.specs.Inside.{Framed}
-use Rattle.table.specs.Inside.Framing.{frame_of}
+use Rattle.table.specs.Verdict.{Verdict, length_good, counts_good, distances_good, nodes_verdict, records_verdict, verdict_of}
+use Rattle.table.specs.Inside.{Framed, ConfigurationsGood}
+use Rattle.table.proofs.Lowest.{lowest_bad}
+use Rattle.table.specs.Inside.Framing.{counts_of, frame_of}
 use Rattle.table.proofs.Laid.{both}
 
 pub length_is : (t : List ℕ) → 16 ≤ length t → length t ≤ 32778 → length_good t ≡ true
@@ -36,32 +37,32 @@ unfolding distances_good
 distances t n m e f = rw (e, f)
 
 -- a frame's verdict, given what the records' is
-abbrev pub framed : Frame → Checked → Checked
-framed (Refused why) records = why
-framed (Counts n m v) records = records
+abbrev pub framed : Result Counts TableRefusal → Verdict → Verdict
+framed (Err why) records = Err why
+framed (Ok c) records = records
 
 verdict_framed : (t : List ℕ) → verdict_of t ≡ framed (frame_of t) (records_verdict t)
 unfolding verdict_of frame_of
 verdict_framed t = go (length_good t) (counts_good t) (distances_good t)
   where
-    good : Frame
-    good = Counts (nodes t) (configurations t) (events t)
+    good : Result Counts TableRefusal
+    good = Ok (counts_of t)
 
     go : (l c d : Bool)
-        → cond l (cond c (cond d (records_verdict t) BadDistances) BadCounts) BadLength
-        ≡ framed (cond l (cond c (cond d good (Refused BadDistances)) (Refused BadCounts)) (Refused BadLength)) (records_verdict t)
+        → cond l (cond c (cond d (records_verdict t) (Err BadDistances)) (Err BadCounts)) (Err BadLength)
+        ≡ framed (cond l (cond c (cond d good (Err BadDistances)) (Err BadCounts)) (Err BadLength)) (records_verdict t)
     go true true true = refl
     go true true false = refl
     go true false d = refl
     go false c d = refl
 
-pub verdict_refused : (t : List ℕ) {why : Checked} → frame_of t ≡ Refused why → why ≡ verdict_of t
+pub verdict_refused : (t : List ℕ) {why : TableRefusal} → frame_of t ≡ Err why → Err why ≡ verdict_of t
 verdict_refused t e = sym (verdict_framed t ∙ ap (λ f. framed f (records_verdict t)) e)
 
-pub verdict_records : (t : List ℕ) {n m v : ℕ} → frame_of t ≡ Counts n m v → records_verdict t ≡ verdict_of t
+pub verdict_records : (t : List ℕ) {c : Counts} → frame_of t ≡ Ok c → records_verdict t ≡ verdict_of t
 verdict_records t e = sym (verdict_framed t ∙ ap (λ f. framed f (records_verdict t)) e)
 
-refused : {A : Type 0} {why : Checked} {n m v : ℕ} → Refused why ≡ Counts n m v → A
+refused : {A : Type 0} {why : TableRefusal} {c : Counts} → ◌≡◌ {A = Result Counts TableRefusal} (Err why) (Ok c) → A
 refused e = let z : ◌≡◌ {A = ℕ} 0 1 = cc in absurd (omega arith)
 
 framed_good : (t : List ℕ) → counts_good t ≡ true → distances_good t ≡ true → Framed t (nodes t) (configurations t) (events t)
@@ -84,26 +85,26 @@ framed_good t g h =
       v_most = leb-true _ _ vs.1;
     }
 
-pub frame_counts : (t : List ℕ) (n m v : ℕ) → frame_of t ≡ Counts n m v → Framed t n m v
+pub frame_counts : (t : List ℕ) (c : Counts) → frame_of t ≡ Ok c → Framed t c.n c.m c.v
 unfolding frame_of
-frame_counts t n m v e = go (length_good t) refl (counts_good t) refl (distances_good t) refl
+frame_counts t x e = go (length_good t) refl (counts_good t) refl (distances_good t) refl
   where
-    go : (l : Bool) → length_good t ≡ l → (c : Bool) → counts_good t ≡ c → (d : Bool) → distances_good t ≡ d → Framed t n m v
+    go : (l : Bool) → length_good t ≡ l → (c : Bool) → counts_good t ≡ c → (d : Bool) → distances_good t ≡ d → Framed t x.n x.m x.v
     go true f true g true h =
-        let n_is : nodes t ≡ n = cc in
-        let m_is : configurations t ≡ m = cc in
-        let v_is : events t ≡ v = cc in
-        subst₃ (Framed t) n_is m_is v_is (framed_good t g h)
+        let counts_are : counts_of t ≡ x = cc in
+        subst (λ (c : Counts). Framed t c.n c.m c.v) counts_are (framed_good t g h)
     go true f true g false h = refused (rw (f, g, h) at e)
     go true f false g d h = refused (rw (f, g) at e)
     go false f c g d h = refused (rw f at e)
 
--- the lowest configuration that isn't good is r
-module _ (t : List ℕ) (r : ℕ) (e : r ≡ lowest (configurations t) (λ j. not (good_configuration t j))) where
-  pub records_bad : r < configurations t → BadConfiguration r ≡ records_verdict t
-  unfolding records_verdict
-  records_bad l = rw (← e, lt-ltb r (configurations t) l)
+pub records_bad : (t : List ℕ) (r : ℕ) → r ≡ lowest (configurations t) (λ j. not (good_configuration t j))
+    → r < configurations t → Err (BadConfiguration r) ≡ records_verdict t
+unfolding records_verdict
+records_bad t r e l = rw (← e, lt-ltb r (configurations t) l)
 
-  pub records_good : configurations t ≤ r → nodes_verdict t ≡ records_verdict t
-  unfolding records_verdict
-  records_good l = rw (← e, le-ltb r (configurations t) l)
+pub records_good : (t : List ℕ) → ConfigurationsGood t → nodes_verdict t ≡ records_verdict t
+unfolding records_verdict
+records_good t g =
+    let m = configurations t in
+    let none = lowest_bad (good_configuration t) m m (omega arith) g (λ h. absurd (omega arith)) in
+    rw (← none, le-ltb m m (omega arith))

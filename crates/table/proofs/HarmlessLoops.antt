@@ -21,11 +21,12 @@ use Rattle.junior.specs.StoppedBefore.{stopped_before, figure_before, G_before, 
 use Rattle.junior.proofs.Held.{stops_right}
 use Rattle.junior.proofs.StoppedBefore.{still_stops, no_larger}
 use Rattle.junior.proofs.Verdicts.{test_event, present, known_at_end, sat_early, unsat_early}
-use Rattle.table.specs.declared.Checked.{Checked}
-use Rattle.table.specs.declared.Checked.TheVariants.{TooDeep, EndlessLoop, TooHeavy, Accepted}
+use Rattle.std.specs.Prelude.{Err}
+use Rattle.table.specs.declared.Figures.{Figures}
+use Rattle.table.specs.declared.TableRefusal.TheVariants.{TooDeep, EndlessLoop, TooHeavy}
 use Rattle.table.specs.Good.{is_laid_out, children, argument_limit, good_node, parts as part_count, good_but_height, height_at_most, good_configuration}
 use Rattle.table.specs.Spells.{configuration_of, form, program_of, tree_of}
-use Rattle.table.specs.Verdict.{number_of, Node, preorder, first_such, deep, endless, endless_parts, light, program_verdict, nodes_verdict}
+use Rattle.table.specs.Verdict.{Verdict, accepted_with, number_of, Node, preorder, first_such, deep, endless, endless_parts, light, program_verdict, nodes_verdict}
 use Rattle.table.specs.Verdict.{records_verdict, verdict_of, length_good, counts_good, distances_good}
 use Rattle.table.specs.HarmlessLoops.{endless_parts_before, endless_before, light_before, program_before, verdict_before}
 use Rattle.table.specs.HarmlessLoops.{F_before, StillAccepted, HarmlessLoops}
@@ -77,7 +78,7 @@ first_earlier f g h (x ∷ l) = go (f x) (g x) (h x) (first_earlier f g h l)
     go false false k e = omega arith
 
 -- a refused answer isn't an accepted one
-not_accepted : {g a w f : ℕ} (c : Checked) (n : ℕ) → number_of c ≡ suc n → c ≡ Accepted g a w f → ⊥
+not_accepted : {g a w f : ℕ} (c : Verdict) (n : ℕ) → number_of c ≡ suc n → c ≡ accepted_with g a w f → ⊥
 unfolding number_of
 not_accepted c n h e = let z = ap number_of e in omega arith
 
@@ -88,20 +89,22 @@ record AllowedBefore (p : Program) (g a w f : ℕ) : Type 0 where
   figures_are : (g ≡ G_before p) × (a ≡ A_before p) × (w ≡ W_before p) × (f ≡ F_before p)
   few : (G_before p ≤ 4094) × (A_before p ≤ 4096) × (W_before p ≤ 65535) × (F_before p ≤ 16384)
 
-allowed_before : (p : Program) {g a w f : ℕ} → program_before p ≡ Accepted g a w f → AllowedBefore p g a w f
+allowed_before : (p : Program) {g a w f : ℕ} → program_before p ≡ accepted_with g a w f → AllowedBefore p g a w f
 unfolding program_before light_before number_of
 allowed_before p {g} {a} {w} {f} h =
-    let Is : Checked → Type 0 = λ c. c ≡ Accepted g a w f in
-    let deep_one = passed Is (ltb (first_such deep (preorder 1 p)) (size p)) h (not_accepted (TooDeep _) 5 refl) in
-    let loop_one = passed Is (ltb (first_such endless_before (preorder 1 p)) (size p)) deep_one.1 (not_accepted (EndlessLoop _) 6 refl) in
-    let (light_one, same) = chosen Is (light_before p) loop_one.1 (not_accepted TooHeavy 7 refl) in
+    let Is : Verdict → Type 0 = λ c. c ≡ accepted_with g a w f in
+    let deep_one = passed Is (ltb (first_such deep (preorder 1 p)) (size p)) h (not_accepted (Err (TooDeep _)) 5 refl) in
+    let loop_one = passed Is (ltb (first_such endless_before (preorder 1 p)) (size p)) deep_one.1 (not_accepted (Err (EndlessLoop _)) 6 refl) in
+    let (light_one, same) = chosen Is (light_before p) loop_one.1 (not_accepted (Err TooHeavy) 7 refl) in
+    let figures : ◌≡◌ {A = Figures} (record { generations = g; atoms = a; nodes = w; parked = f })
+    (record { generations = G_before p; atoms = A_before p; nodes = W_before p; parked = F_before p }) = cc in
     let few-G = both {a = leb (G_before p) 4094} light_one in
     let few-A = both {a = leb (A_before p) 4096} few-G.1 in
     let few-W = both {a = leb (W_before p) 65535} few-A.1 in
     record {
       shallow = deep_one.0;
       loops = ltb-false (first_such endless_before (preorder 1 p)) (size p) loop_one.0;
-      figures_are = (cc, cc, cc, cc);
+      figures_are = (ap (λ x. x.generations) figures, ap (λ x. x.atoms) figures, ap (λ x. x.nodes) figures, ap (λ x. x.parked) figures);
       few = (
         leb-true (G_before p) 4094 few-G.0,
         leb-true (A_before p) 4096 few-A.0,
@@ -111,7 +114,7 @@ allowed_before p {g} {a} {w} {f} h =
     }
 
 -- it is allowed now
-still_allowed : (p : Program) {g a w f : ℕ} → AllowedBefore p g a w f → program_verdict p ≡ Accepted (G p) (A p) (W p) (F p)
+still_allowed : (p : Program) {g a w f : ℕ} → AllowedBefore p g a w f → program_verdict p ≡ accepted_with (G p) (A p) (W p) (F p)
 unfolding program_verdict light
 still_allowed p b =
     let later = first_earlier endless endless_before (λ x. endless_both (parts x.part)) (preorder 1 p) in
@@ -125,21 +128,21 @@ still_allowed p b =
     )
 
 -- its verdict before was its program's, and none of 1 to 5
-past_before : (t : List ℕ) {g a w f : ℕ} → verdict_before t ≡ Accepted g a w f
-    → Past5 (verdict_of t) × (program_before (tree_of t) ≡ Accepted g a w f)
+past_before : (t : List ℕ) {g a w f : ℕ} → verdict_before t ≡ accepted_with g a w f
+    → Past5 (verdict_of t) × (program_before (tree_of t) ≡ accepted_with g a w f)
 unfolding verdict_before number_of
 past_before t {g} {a} {w} {f} h = go (leb 1 n) refl (leb n 5) refl h
   where
     n : ℕ
     n = number_of (verdict_of t)
 
-    go : (x : Bool) → leb 1 n ≡ x → (y : Bool) → leb n 5 ≡ y → cond (x && y) (verdict_of t) (program_before (tree_of t)) ≡ Accepted g a w f
-        → Past5 (verdict_of t) × (program_before (tree_of t) ≡ Accepted g a w f)
+    go : (x : Bool) → leb 1 n ≡ x → (y : Bool) → leb n 5 ≡ y → cond (x && y) (verdict_of t) (program_before (tree_of t)) ≡ accepted_with g a w f
+        → Past5 (verdict_of t) × (program_before (tree_of t) ≡ accepted_with g a w f)
     go true e true f h = let z = ap number_of h in absurd (omega (arith, leb-true 1 n e))
     go true e false f h = (λ l. leb-false n 5 f, h)
     go false e y f h = (λ l. absurd (omega (arith, leb-false 1 n e)), h)
 
-accepts_still : (t : List ℕ) {g a w f : ℕ} → verdict_before t ≡ Accepted g a w f → StillAccepted t g a w f
+accepts_still : (t : List ℕ) {g a w f : ℕ} → verdict_before t ≡ accepted_with g a w f → StillAccepted t g a w f
 accepts_still t h =
     let (past, before) = past_before t h in
     let table = past_5 t past in

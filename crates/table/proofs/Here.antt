@@ -14,7 +14,6 @@ use Rattle.table.proofs.Laid.{Laid, none, one, two}
 use Rattle.table.proofs.Grown.{fine, spells_from}
 use Rattle.table.proofs.OneTree.{one_tree}
 use Rattle.table.proofs.Tree.{Tree, tree, spelled, kind_is, argued}
-use Rattle.table.proofs.Tree
 
 -- node i has that many children, and these are their programs
 pub data Here (t : List ℕ) (i : ℕ) : ℕ → Type 0 where

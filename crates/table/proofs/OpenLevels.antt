@@ -1,11 +1,14 @@
 -- Reading a configuration by its records one after another: one word holds the levels open, and closing and opening them keeps the rank of the whole.
-use Prim.Native.Nat.{ℕ, zero, suc, ◌+◌, ◌-◌, ◌*◌, ◌/◌, ◌%◌, ◌^◌, ◌≤◌, ◌<◌}
-use mathlib.Core.Bool.{Bool, true, false, false≢true}
+use Prim.Native.Nat.{ℕ, zero, suc, ◌+◌, ◌*◌, ◌/◌, ◌%◌, ◌^◌, ◌≤◌, ◌<◌}
+use mathlib.Core.Bool.{Bool, true, false, not, beq, false≢true}
 use mathlib.Core.Path.{◌≡◌, refl, sym, ap, ◌∙◌}
 use mathlib.Core.List.{List, [], ◌∷◌}
 use native.Mathlib.Omega.{arith}
 use native.Mathlib.Nat.{pow-suc}
+use lib.Dec.{eqb}
 use lib.ListN.{length}
+use Rattle.std.proofs.Common.{ControlFlow, Continue, Break}
+use Rattle.junior.specs.declared.Verdict.{Verdict}
 use Rattle.junior.specs.Configuration.{Config, Event, Not, And, Or, Env, test}
 use Rattle.junior.proofs.Verdicts.{test_not, test_and, test_or}
 use Rattle.table.specs.declared.reading.Place.{Place}
@@ -14,7 +17,7 @@ use Rattle.table.specs.Spells.{weight, Configured}
 use Rattle.table.specs.Reading.{height}
 use Rattle.table.specs.Inside.Ranks.{rank}
 use Rattle.table.specs.Inside.Levels.{Level, denied, and_first, or_first, and_second, or_second, digit, levelled, closing}
-use Rattle.table.specs.Inside.Levels.{Standing, ToCome, Open, Left, Next, Decided, unsat, sat, ClosesOne, ClosesDecided, Closes, unsettled}
+use Rattle.table.specs.Inside.Levels.{Standing, ToCome, Open, Left, Next, sat_rank, Closes, unsettled}
 use Rattle.table.proofs.ByParts.{written, some_record, rank_not, rank_and, rank_or, rank_most}
 
 -- ONE WORD SUFFICES
@@ -184,132 +187,86 @@ second_inside t c (half_and o) n l p = absurd (omega arith)
 second_inside t c (half_or o) n l p = absurd (omega arith)
 
 -- A LEVEL IS CLOSED BY A DECIDED PART
-pub decided : (r : ℕ) → r ≤ 2 → (r ≡ 1 → ⊥) → Decided r
-decided zero h n = unsat
-decided (suc zero) h n = absurd (n refl)
-decided (suc (suc zero)) h n = sat
-decided (suc (suc (suc r))) h n = absurd (omega arith)
-
-pub decided_not_3 : {r : ℕ} → Decided r → r ≡ 3 → ⊥
-decided_not_3 unsat e = omega arith
-decided_not_3 sat e = omega arith
-
-pub decided_not_1 : {r : ℕ} → Decided r → r ≡ 1 → ⊥
-decided_not_1 unsat e = omega arith
-decided_not_1 sat e = omega arith
-
-pub decided_most : {r : ℕ} → Decided r → r ≤ 2
-decided_most unsat = omega arith
-decided_most sat = omega arith
-
-mirrored : {r : ℕ} → Decided r → Decided (2 - r)
-mirrored unsat = sat
-mirrored sat = unsat
-
-abbrev place : ℕ → ℕ → ℕ → Bool → Place
-place c n r b = record { at = c; levels = n; rank = r; decided = b }
-
 module _ {t : List ℕ} {c : ℕ} where
-  -- the rank is decided again, r', and the levels o' are left
-  decided_left : {o : List Level} {r : ℕ} (o' : List Level) {c' r' : ℕ} → Decided r' → ToCome t c' o' → c ≤ c'
-      → ((E : Env) → closing E o r ≡ closing E o' r') → ClosesOne t c o r (place c' (levelled o') r' true)
-  decided_left o' d p l s =
-      record {
-        decided = λ e. d;
-        else = λ e. absurd (false≢true (sym e));
-        left = λ e. record { still = o'; opened = record { number = refl; to_come = p }; same = s; onward = l };
-        next = λ e. absurd (decided_not_3 d e);
-      }
+  -- the levels o' are left
+  left_open : {o : List Level} {r r' : ℕ} (o' : List Level) {c' : ℕ} → ToCome t c' o' → c ≤ c'
+      → ((E : Env) → closing E o r ≡ closing E o' r') → Left t c o r c' (levelled o') r'
+  left_open o' p l s = record { still = o'; opened = record { number = refl; to_come = p }; same = s; onward = l }
 
-  pub closes_not : {o : List Level} {r k m : ℕ} → Top k m o → k ≡ 1 → ToCome t c o → Decided r → ClosesOne t c o r (place c m (2 - r) true)
+  pub closes_not : {o : List Level} {k m : ℕ} (b : Bool) → Top k m o → k ≡ 1 → ToCome t c o
+      → Left t c o (sat_rank b) c m (sat_rank (not b))
   unfolding closing ToCome
-  closes_not v e p d = go (rw e at v) p d
+  closes_not b v e p = go b (rw e at v) p
     where
-      go : {o : List Level} {r m : ℕ} → Top 1 m o → ToCome t c o → Decided r → ClosesOne t c o r (place c m (2 - r) true)
-      go (a_not o) p d = decided_left o (mirrored d) p (omega arith) (λ E. refl)
+      go : {o : List Level} {m : ℕ} (b : Bool) → Top 1 m o → ToCome t c o → Left t c o (sat_rank b) c m (sat_rank (not b))
+      go true (a_not o) p = left_open o p (omega arith) (λ E. refl)
+      go false (a_not o) p = left_open o p (omega arith) (λ E. refl)
 
   -- the first part decides: the second is passed over
-  pub closes_decided : {o : List Level} {r k m : ℕ} → Top k m o → (k ≡ 1 → ⊥) → k < 4 → r ≡ 2 * (k - 2) → ToCome t c o → Decided r
-      → ClosesOne t c o r (place (c + 4 * part_size t c) m r true)
+  pub closes_decided : {o : List Level} {k m : ℕ} (b : Bool) → Top k m o → (k ≡ 1 → ⊥) → k < 4 → beq b (eqb k 3) ≡ true → ToCome t c o
+      → Left t c o (sat_rank b) (c + 4 * part_size t c) m (sat_rank b)
   unfolding closing ToCome
-  closes_decided (a_not o) n l e p d = absurd (n refl)
-  closes_decided {r = r} (an_and f o) n l e p d =
+  closes_decided b (a_not o) n l e p = absurd (n refl)
+  closes_decided true (an_and f o) n l e p = absurd (false≢true e)
+  closes_decided false (an_and f o) n l e p =
       let w = written t c f p.0.configured in
       let next : c + 4 * part_size t c ≡ c + 4 * weight f = omega arith in
-      let zero_is : r ≡ 0 = omega arith in
-      rw next (decided_left o d p.1 (omega arith) (λ E. ap (closing E o) (omega (arith, zero_is))))
-  closes_decided {r = r} (an_or f o) n l e p d =
+      rw next (left_open o p.1 (omega arith) (λ E. ap (closing E o) (omega arith)))
+  closes_decided true (an_or f o) n l e p =
       let w = written t c f p.0.configured in
       let next : c + 4 * part_size t c ≡ c + 4 * weight f = omega arith in
-      let two_is : r ≡ 2 = omega arith in
-      rw next (decided_left o d p.1 (omega arith) (λ E. ap (closing E o) (omega (arith, two_is, rank_most (test f E)))))
-  closes_decided (half_and o) n l e p d = absurd (omega arith)
-  closes_decided (half_or o) n l e p d = absurd (omega arith)
+      rw next (left_open o p.1 (omega arith) (λ E. ap (closing E o) (omega (arith, rank_most (test f E)))))
+  closes_decided false (an_or f o) n l e p = absurd (false≢true e)
+  closes_decided b (half_and o) n l e p = absurd (omega arith)
+  closes_decided b (half_or o) n l e p = absurd (omega arith)
 
   -- what stands there is to be read next, and it alone decides
   alone_next : {o : List Level} {r : ℕ} (f : Config) {l : Level} (o' : List Level) → Standing t c f (l ∷ o') → ToCome t (c + 4 * weight f) o'
-      → ((E : Env) → closing E o r ≡ closing E o' (rank (test f E))) → ClosesOne t c o r (place c (levelled o') 3 false)
+      → ((E : Env) → closing E o r ≡ closing E o' (rank (test f E))) → Next t c o r c (levelled o')
   alone_next f o' h p s =
       let low = h.low in
       record {
-        decided = λ e. absurd (false≢true e);
-        else = λ e n. absurd (n refl);
-        left = λ n. absurd (n refl);
-        next = λ e.
-            record {
-              part = f;
-              still = o';
-              stands = record { configured = h.configured; inside = h.inside; low = omega arith };
-              opened = record { number = refl; to_come = p };
-              same = s;
-              onward = omega arith;
-            };
+        part = f;
+        still = o';
+        stands = record { configured = h.configured; inside = h.inside; low = omega arith };
+        opened = record { number = refl; to_come = p };
+        same = s;
+        onward = omega arith;
       }
 
-  pub closes_to_second : {o : List Level} {r k m : ℕ} → Top k m o → (k ≡ 1 → ⊥) → k < 4 → (r ≡ 2 * (k - 2) → ⊥) → ToCome t c o → Decided r
-      → ClosesOne t c o r (place c m 3 false)
+  pub closes_to_second : {o : List Level} {k m : ℕ} (b : Bool) → Top k m o → (k ≡ 1 → ⊥) → k < 4 → beq b (eqb k 3) ≡ false → ToCome t c o
+      → Next t c o (sat_rank b) c m
   unfolding closing ToCome
-  closes_to_second (a_not o) n l e p d = absurd (n refl)
-  closes_to_second (an_and f o) n l e p unsat = absurd (e refl)
-  closes_to_second (an_and f o) n l e p sat = alone_next f o p.0 p.1 (λ E. ap (closing E o) (omega (arith, rank_most (test f E))))
-  closes_to_second (an_or f o) n l e p unsat = alone_next f o p.0 p.1 (λ E. ap (closing E o) (omega arith))
-  closes_to_second (an_or f o) n l e p sat = absurd (e refl)
-  closes_to_second (half_and o) n l e p d = absurd (omega arith)
-  closes_to_second (half_or o) n l e p d = absurd (omega arith)
+  closes_to_second b (a_not o) n l e p = absurd (n refl)
+  closes_to_second false (an_and f o) n l e p = absurd (false≢true (sym e))
+  closes_to_second true (an_and f o) n l e p = alone_next f o p.0 p.1 (λ E. ap (closing E o) (omega (arith, rank_most (test f E))))
+  closes_to_second false (an_or f o) n l e p = alone_next f o p.0 p.1 (λ E. ap (closing E o) (omega arith))
+  closes_to_second true (an_or f o) n l e p = absurd (false≢true (sym e))
+  closes_to_second b (half_and o) n l e p = absurd (omega arith)
+  closes_to_second b (half_or o) n l e p = absurd (omega arith)
 
   -- the second part doesn't decide: unknown, as the first was
-  pub closes_unknown : {o : List Level} {r k m : ℕ} → Top k m o → 4 ≤ k → r ≡ 2 * (5 - k) → ToCome t c o
-      → ClosesOne t c o r (place c m 1 false)
+  pub closes_unknown : {o : List Level} {k m : ℕ} (b : Bool) → Top k m o → 4 ≤ k → beq b (eqb k 4) ≡ true → ToCome t c o
+      → Left t c o (sat_rank b) c m 1
   unfolding closing ToCome
-  closes_unknown {r = r} v n e p = go v n e p
-    where
-      unknown : {o : List Level} (o' : List Level) → ToCome t c o' → ((E : Env) → closing E o r ≡ closing E o' 1)
-          → ClosesOne t c o r (place c (levelled o') 1 false)
-      unknown o' p s =
-          record {
-            decided = λ z. absurd (false≢true z);
-            else = λ z w. refl;
-            left = λ z. record { still = o'; opened = record { number = refl; to_come = p }; same = s; onward = omega arith };
-            next = λ z. absurd (omega arith);
-          }
+  closes_unknown b (a_not o) n e p = absurd (omega arith)
+  closes_unknown b (an_and f o) n e p = absurd (omega arith)
+  closes_unknown b (an_or f o) n e p = absurd (omega arith)
+  closes_unknown true (half_and o) n e p = left_open o p (omega arith) (λ E. refl)
+  closes_unknown false (half_and o) n e p = absurd (false≢true e)
+  closes_unknown true (half_or o) n e p = absurd (false≢true e)
+  closes_unknown false (half_or o) n e p = left_open o p (omega arith) (λ E. refl)
 
-      go : {o : List Level} {k m : ℕ} → Top k m o → 4 ≤ k → r ≡ 2 * (5 - k) → ToCome t c o → ClosesOne t c o r (place c m 1 false)
-      go (a_not o) n e p = absurd (omega arith)
-      go (an_and f o) n e p = absurd (omega arith)
-      go (an_or f o) n e p = absurd (omega arith)
-      go (half_and o) n e p = unknown o p (λ E. ap (closing E o) (omega (arith, e)))
-      go (half_or o) n e p = unknown o p (λ E. ap (closing E o) (omega (arith, e)))
-
-  pub closes_second : {o : List Level} {r k m : ℕ} → Top k m o → 4 ≤ k → (r ≡ 2 * (5 - k) → ⊥) → ToCome t c o → Decided r
-      → ClosesOne t c o r (place c m r true)
+  pub closes_second : {o : List Level} {k m : ℕ} (b : Bool) → Top k m o → 4 ≤ k → beq b (eqb k 4) ≡ false → ToCome t c o
+      → Left t c o (sat_rank b) c m (sat_rank b)
   unfolding closing ToCome
-  closes_second (a_not o) n e p d = absurd (omega arith)
-  closes_second (an_and f o) n e p d = absurd (omega arith)
-  closes_second (an_or f o) n e p d = absurd (omega arith)
-  closes_second (half_and o) n e p unsat = decided_left o unsat p (omega arith) (λ E. refl)
-  closes_second (half_and o) n e p sat = absurd (e refl)
-  closes_second (half_or o) n e p unsat = absurd (e refl)
-  closes_second (half_or o) n e p sat = decided_left o sat p (omega arith) (λ E. refl)
+  closes_second b (a_not o) n e p = absurd (omega arith)
+  closes_second b (an_and f o) n e p = absurd (omega arith)
+  closes_second b (an_or f o) n e p = absurd (omega arith)
+  closes_second true (half_and o) n e p = absurd (false≢true (sym e))
+  closes_second false (half_and o) n e p = left_open o p (omega arith) (λ E. refl)
+  closes_second true (half_or o) n e p = left_open o p (omega arith) (λ E. refl)
+  closes_second false (half_or o) n e p = absurd (false≢true (sym e))
 
 -- SEVERAL LEVELS
 module _ {t : List ℕ} {c c' n' r r' : ℕ} {o : List Level} (a : Left t c o r c' n' r') where
@@ -340,29 +297,9 @@ module _ {t : List ℕ} {c c' n' r r' : ℕ} {o : List Level} (a : Left t c o r 
       let none = none_open a.still (omega (arith, a.opened.number)) in
       a.same E ∙ ap (λ (x : List Level). closing E x r') none
 
-  pub then_closes : {p : Place} → Closes t c' a.still r' p → Closes t c o r p
-  then_closes k = record { whole = λ z E. a.same E ∙ k.whole z E; next = λ z. left_next (k.next z) }
-
-  -- one more is closed, and the rank is not decided
-  pub then_not_decided : {p : Place} → ClosesOne t c' a.still r' p → p.decided ≡ false → ClosesDecided t c o r p
-  then_not_decided {p} k e =
-      record {
-        whole = λ z w. absurd (w (k.else e z));
-        left = λ z. rw z at (left_left (k.left (λ y. omega (arith, z, y))));
-        next = λ z. left_next (k.next z);
-      }
-
-  -- no level is left, and the rank is decided
-  pub all_closed : n' ≤ 2 → Decided r' → (b : Bool) → ClosesDecided t c o r (place c' n' r' b)
-  all_closed h d b =
-      record {
-        whole = λ z w E. left_none h E;
-        left = λ z. absurd (decided_not_1 d z);
-        next = λ z. absurd (decided_not_3 d z);
-      }
-
-pub as_closed : {t : List ℕ} {c r : ℕ} {o : List Level} {p : Place} → ClosesDecided t c o r p → (p.rank ≡ 1 → ⊥) → Closes t c o r p
-as_closed k n = record { whole = λ z. k.whole z n; next = k.next }
+  pub then_closes : (x : ControlFlow Verdict Place) → Closes t c' a.still r' x → Closes t c o r x
+  then_closes (Break v) k = λ E. a.same E ∙ k E
+  then_closes (Continue p) k = left_next k
 
 pub none_closed : {t : List ℕ} {c n : ℕ} {o : List Level} (r : ℕ) → Open t c n o → Left t c o r c n r
 none_closed {o = o} r h = record { still = o; opened = h; same = λ E. refl; onward = omega arith }
@@ -429,15 +366,12 @@ leaves_last {n} {u} a h = go a.still a.number a.leaves
     go (or_second ∷ o) e f = absurd (omega arith)
 
 -- the levels left are none, or a second part is next
-pub unknown_all : {t : List ℕ} {c n m : ℕ} {o : List Level} {p : Place} → Open t c n o → m ≡ levelled (unsettled o) → m ≡ 2
-    → p.rank ≡ 1 → Closes t c o 1 p
+pub unknown_all : {t : List ℕ} {c n m : ℕ} {o : List Level} → Open t c n o → m ≡ levelled (unsettled o) → m ≡ 2 → (E : Env)
+    → closing E o 1 ≡ 1
 unfolding closing
-unknown_all {o = o} h e z w =
+unknown_all {o = o} h e z E =
     let none = none_open (unsettled o) (omega arith) in
-    record {
-      whole = λ y E. unsettled_same E o ∙ (ap (λ (x : List Level). closing E x 1) none ∙ sym w);
-      next = λ y. absurd (omega (arith, w, y));
-    }
+    unsettled_same E o ∙ ap (λ (x : List Level). closing E x 1) none
 
 -- the innermost level left, if there is one, waits for its second part
 data Waiting : List Level → Type 0 where
@@ -455,13 +389,9 @@ waiting (and_second ∷ o) = waiting o
 waiting (or_second ∷ o) = waiting o
 
 pub unknown_next : {t : List ℕ} {c n m : ℕ} {o : List Level} → Open t c n o → m ≡ levelled (unsettled o) → (m ≡ 2 → ⊥)
-    → Closes t c o 1 (place c (m + 2) 3 false)
+    → Next t c o 1 c (m + 2)
 unfolding closing ToCome levelled
-unknown_next {t} {c} {n} {m} {o} h e z =
-    record {
-      whole = λ y. absurd (y refl);
-      next = λ y. go (waiting o) e (unsettled_to_come t c o h.to_come) (λ E. unsettled_same E o);
-    }
+unknown_next {t} {c} {n} {m} {o} h e z = go (waiting o) e (unsettled_to_come t c o h.to_come) (λ E. unsettled_same E o)
   where
     go : {u : List Level} → Waiting u → m ≡ levelled u → ToCome t c u → ((E : Env) → closing E o 1 ≡ closing E u 1) → Next t c o 1 c (m + 2)
     go for_none e p s = absurd (z e)

@@ -11,12 +11,10 @@ use borrow.Author.Tests.{leb-true, le-leb, ltb-false, le-ltb}
 use Rattle.junior.specs.Program.{Program, Nothing, kind, One, Two, size}
 use Rattle.junior.specs.Figures.{stops, figure, times, per, every, parking, G, A, W, F}
 use Rattle.junior.proofs.Little.{neither}
-use Rattle.table.specs.declared.Checked.{Checked}
-use Rattle.table.specs.declared.Checked.TheVariants.{Accepted}
 use Rattle.table.specs.Records.{nodes, kind_at, argument_at, size_at, second_child}
 use Rattle.table.specs.Good.{children}
 use Rattle.table.specs.Spells.{cap_in, Spells, tree_of}
-use Rattle.table.specs.Verdict.{Node, preorder, first_such, deep, endless_loop, endless, light, program_verdict, verdict_of, number_of}
+use Rattle.table.specs.Verdict.{Verdict, accepted_with, Node, preorder, first_such, deep, endless_loop, endless, light, program_verdict, verdict_of, number_of}
 use Rattle.table.specs.Inside.{Loaded}
 use Rattle.table.specs.Inside.Weighing.{tree_at, Counts, height}
 use Rattle.table.specs.Part.{part_table, never_runs}
@@ -24,7 +22,7 @@ use Rattle.table.proofs.Little.{below_or}
 use Rattle.table.proofs.Laid.{both}
 use Rattle.table.proofs.Parts.{often, chooses, of_none, of_one, of_two, figures_of_one, figures_of_two}
 use Rattle.table.proofs.OneTree.{one_tree}
-use Rattle.table.proofs.Tree.{Tree, leaf, one, two, tree, kind_is, written, argued, spelled, sized}
+use Rattle.table.proofs.Tree.{Tree, leaf, one, two, tree, kind_is, written, argued, sized}
 use Rattle.table.proofs.Order.{Lowest, first_lowest, length_preorder, none_too_deep, some_too_deep, first_in_table}
 use Rattle.table.proofs.Loaded.{node_placed, whole_placed, root_size, size_stands}
 use Rattle.table.proofs.Accepted.{accepted, chosen, passed}
@@ -116,7 +114,7 @@ record Passes (p : Program) : Type 0 where
   endings : first_such endless (preorder 1 p) ≡ size p
   light_so : light p ≡ true
 
-passing : (p : Program) → Passes p → program_verdict p ≡ Accepted (G p) (A p) (W p) (F p)
+passing : (p : Program) → Passes p → program_verdict p ≡ accepted_with (G p) (A p) (W p) (F p)
 unfolding program_verdict
 passing p h = rw (h.shallow, h.endings, le-ltb (size p) (size p) (omega arith), h.light_so)
 
@@ -126,7 +124,7 @@ such_within so l = (first_lowest so (record { depth = 0; part = Nothing }) l).wi
 passed_so : (p : Program) → number_of (program_verdict p) ≡ 0 → Passes p
 unfolding program_verdict number_of
 passed_so p h =
-    let Is : Checked → Type 0 = λ c. number_of c ≡ 0 in
+    let Is : Verdict → Type 0 = λ c. number_of c ≡ 0 in
     let too_deep = first_such deep (preorder 1 p) in
     let never = first_such endless (preorder 1 p) in
     let (shallow, h') = passed Is (ltb too_deep (size p)) h (λ e. omega arith) in
@@ -206,7 +204,7 @@ module _ {t : List ℕ} (l : Loaded t) (whole : Passes (tree_of t)) (j : ℕ) (h
 
 -- a part that no repetition of count or cap 0 stands above
 pub part_accepted : (t : List ℕ) → number_of (verdict_of t) ≡ 0 → (j : ℕ) → j < nodes t → Runs t 0 j
-    → verdict_of (part_table t j) ≡ Accepted (G (tree_at t j)) (A (tree_at t j)) (W (tree_at t j)) (F (tree_at t j))
+    → verdict_of (part_table t j) ≡ accepted_with (G (tree_at t j)) (A (tree_at t j)) (W (tree_at t j)) (F (tree_at t j))
 part_accepted t ok j h runs =
     let a = accepted t ok in
     let whole = passed_so (tree_of t) (rw a.verdict_is at ok) in

@@ -2,7 +2,7 @@
 -- is above 16.
 use Prim.Native.Nat.{ℕ, zero, suc, ◌+◌, ◌-◌, ◌*◌, ◌≤◌, ◌<◌}
 use mathlib.Core.Bool.{Bool, true, false, cond, ◌&&◌}
-use mathlib.Core.Path.{◌≡◌, refl, sym, ap, ◌∙◌}
+use mathlib.Core.Path.{◌≡◌, refl, sym, ap}
 use mathlib.Core.List.{List, [], ◌∷◌}
 use native.Mathlib.Omega.{arith}
 use lib.ListN.{length}
@@ -120,9 +120,9 @@ module _ {t : List ℕ} {n m v : ℕ} (f : Framed t n m v) where
         record { at = d; among = omega arith; long = omega arith }
 
     -- the record has p parts
-    reach : (p u : ℕ) → good_but_height t j ≡ true → parts (kind_of t j) ≡ p → u ≡ numbered (onward p w) → u < 65536
-        → Reached t (c + 4) u (j + 1) (onward p w)
-    reach p u g e h s =
+    reach : (c' p u : ℕ) → c' ≡ c + 4 → good_but_height t j ≡ true → parts (kind_of t j) ≡ p → u ≡ numbered (onward p w) → u < 65536
+        → Reached t c' u (j + 1) (onward p w)
+    reach c' p u next g e h s =
         let steps = numbered_short 16 w (rw r.number at r.short) in
         let b = begins.among in
         record {
@@ -133,18 +133,18 @@ module _ {t : List ℕ} {n m v : ℕ} (f : Framed t n m v) where
           passed = rw e at (one_more t j w r.passed b steps g);
         }
 
-    pub reach_lone : (u : ℕ) → (eqb (part_kind t c) 0 && good_but_height t j) ≡ true → u ≡ numbered (outward w)
-        → Reached t (c + 4) u (j + 1) (outward w)
+    pub reach_lone : (c' u : ℕ) → c' ≡ c + 4 → (eqb (part_kind t c) 0 && good_but_height t j) ≡ true → u ≡ numbered (outward w)
+        → Reached t c' u (j + 1) (outward w)
     unfolding parts
-    reach_lone u g h =
+    reach_lone c' u next g h =
         let k = both {a = eqb (part_kind t c) 0} g in
         let lone : parts (kind_of t j) ≡ 0 = ap parts (rw r.at at (eqb-true (part_kind t c) 0 k.0)) in
-        reach 0 u k.1 lone h (omega (arith, outward_less w))
+        reach c' 0 u next k.1 lone h (omega (arith, outward_less w))
 
-    pub reach_parts : (p : ℕ) → p ≡ cond (good_but_height t j) (parts (part_kind t c)) 0 → (p ≡ 0 → ⊥)
-        → 2 * way + (p - 1) < 65536 → Reached t (c + 4) (2 * way + (p - 1)) (j + 1) (onward p w)
+    pub reach_parts : (c' p : ℕ) → c' ≡ c + 4 → p ≡ cond (good_but_height t j) (parts (part_kind t c)) 0 → (p ≡ 0 → ⊥)
+        → 2 * way + (p - 1) < 65536 → Reached t c' (2 * way + (p - 1)) (j + 1) (onward p w)
     unfolding numbered
-    reach_parts p e h s = go (good_but_height t j) refl
+    reach_parts c' p next e h s = go (good_but_height t j) refl
       where
         number : (p : ℕ) → (p ≡ 0 → ⊥) → p ≤ 2 → 2 * way + (p - 1) ≡ numbered (onward p w)
         number zero h k = absurd (h refl)
@@ -152,8 +152,8 @@ module _ {t : List ℕ} {n m v : ℕ} (f : Framed t n m v) where
         number (suc (suc zero)) h k = omega arith
         number (suc (suc (suc p))) h k = absurd (omega arith)
 
-        go : (g : Bool) → good_but_height t j ≡ g → Reached t (c + 4) (2 * way + (p - 1)) (j + 1) (onward p w)
+        go : (g : Bool) → good_but_height t j ≡ g → Reached t c' (2 * way + (p - 1)) (j + 1) (onward p w)
         go true g =
             let same = rw (g, r.at) at e in
-            reach p _ g (sym same) (number p h (few_parts begins e)) s
+            reach c' p _ next g (sym same) (number p h (few_parts begins e)) s
         go false g = absurd (h (rw g at e))

@@ -5,14 +5,14 @@ use mathlib.Core.Path.{◌≡◌, refl, sym, ap, ◌∙◌}
 use mathlib.Core.List.{List, []}
 use native.Mathlib.Omega.{arith}
 use lib.ListN.{length}
-use Rattle.junior.specs.Configuration.{Config, test}
-use Rattle.table.specs.declared.reading.Place.{Place}
+use Rattle.junior.specs.declared.Verdict.{Verdict}
+use Rattle.junior.specs.Configuration.{Config, Env, test}
 use Rattle.table.specs.Records.{part_kind}
 use Rattle.table.specs.Spells.{weight, Configured}
 use Rattle.table.specs.Reading.{ConfigurationAt, environment}
-use Rattle.table.specs.Inside.Ranks.{rank, absent_rank, RanksAs, IsAbsentRank}
-use Rattle.table.specs.Inside.Levels.{Level, levelled, closing, Standing, ToCome, Open, Closes}
-use Rattle.table.proofs.ByParts.{some_record, ranks_most}
+use Rattle.table.specs.Inside.Ranks.{rank, absent_rank, RanksAs}
+use Rattle.table.specs.Inside.Levels.{Level, levelled, closing, Standing, ToCome, Open, Next}
+use Rattle.table.proofs.ByParts.{some_record}
 use Rattle.table.proofs.Spelled.{one_configuration}
 use Rattle.table.proofs.OpenLevels.{one_word, down, behind_event}
 
@@ -63,26 +63,20 @@ module _ {t : List ℕ} {c : ℕ} {numbers : List ℕ} {absent : ℕ} where
       open_behind = behind_event h.part h.stands h.opened event
 
     module _ {r : ℕ} (ranks : RanksAs t at numbers absent r) where
-      pub rank_most_2 : IsAbsentRank absent → r ≤ 2
-      rank_most_2 a = ranks_most t at numbers absent r (h.part, h.stands.configured, h.stands.inside, omega (arith, h.stands.low)) a ranks
+      pub read_out : (v : Verdict) → ((E : Env) → closing E h.still r ≡ rank v) → RanksAs t c numbers absent (rank v)
+      read_out v k d ended moved g a =
+          let E = environment numbers ended moved in
+          sym (k E) ∙ (ap (closing E h.still) (ranks h.part ended moved h.stands.configured a) ∙ h.whole d ended moved g a)
 
-      module _ {p : Place} (k : Closes t (at + 4) h.still r p) where
-        pub read_out : (p.rank ≡ 3 → ⊥) → RanksAs t c numbers absent p.rank
-        read_out n d ended moved g a =
-            let E = environment numbers ended moved in
-            sym (k.whole n E)
-            ∙ (ap (closing E h.still) (ranks h.part ended moved h.stands.configured a) ∙ h.whole d ended moved g a)
-
-        pub second_read : p.rank ≡ 3 → Reading t c numbers absent p.at p.levels
-        second_read z =
-            let x = k.next z in
-            record {
-              part = x.part;
-              still = x.still;
-              stands = x.stands;
-              opened = x.opened;
-              whole = λ d ended moved g a.
-                  let E = environment numbers ended moved in
-                  sym (x.same E)
-                  ∙ (ap (closing E h.still) (ranks h.part ended moved h.stands.configured a) ∙ h.whole d ended moved g a);
-            }
+      pub second_read : {at' n' : ℕ} → Next t (at + 4) h.still r at' n' → Reading t c numbers absent at' n'
+      second_read x =
+          record {
+            part = x.part;
+            still = x.still;
+            stands = x.stands;
+            opened = x.opened;
+            whole = λ d ended moved g a.
+                let E = environment numbers ended moved in
+                sym (x.same E)
+                ∙ (ap (closing E h.still) (ranks h.part ended moved h.stands.configured a) ∙ h.whole d ended moved g a);
+          }

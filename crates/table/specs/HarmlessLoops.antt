@@ -1,5 +1,5 @@
 -- Request L2, "Harmless loops are turned away", sentence by sentence.
-use Rattle.std.specs.Prelude.{ℕ, ◌+◌, ◌*◌, ◌≤◌, min, Bool, true, false, cond, not, ◌&&◌, ◌||◌, ◌≡◌, ◌≢◌, List, ◌++◌, eqb, leb, ltb}
+use Rattle.std.specs.Prelude.{Err, ℕ, ◌+◌, ◌*◌, ◌≤◌, min, Bool, true, false, cond, not, ◌&&◌, ◌||◌, ◌≡◌, ◌≢◌, List, ◌++◌, eqb, leb, ltb}
 use Rattle.events.specs.Events.{Events}
 use Rattle.junior.specs.declared.Flag.TheVariants.{STOP, TERM}
 use Rattle.junior.specs.Configuration.{Env, handed_in, Config, Event, Not, And, Or, sat, unsat, unknown, early_true, early_false}
@@ -11,11 +11,10 @@ use Rattle.junior.specs.Instant.{Instant}
 use Rattle.junior.specs.Values.{Values, exactly}
 use Rattle.junior.specs.Figures.{stops, figure, parking, G, A, W, F}
 use Rattle.junior.specs.StoppedBefore.{stopped_before, figure_before, G_before, A_before, W_before}
-use Rattle.table.specs.declared.Checked.{Checked}
-use Rattle.table.specs.declared.Checked.TheVariants.{TooDeep, EndlessLoop, TooHeavy, Accepted}
+use Rattle.table.specs.declared.TableRefusal.TheVariants.{TooDeep, EndlessLoop, TooHeavy}
 use Rattle.table.specs.Bytes.{node, configuration, trailer}
 use Rattle.table.specs.Spells.{Spells, tree_of}
-use Rattle.table.specs.Verdict.{number_of, Node, preorder, first_such, deep, endless_loop, verdict_of}
+use Rattle.table.specs.Verdict.{Verdict, accepted_with, number_of, Node, preorder, first_such, deep, endless_loop, verdict_of}
 
 -- Refusals 6 to 8 as they were before: a Loop whose body didn't stop, and the figures, by 01's rule; L8's figure by that rule too.
 abbrev pub F_before : Program → ℕ
@@ -32,20 +31,20 @@ endless_before x = endless_parts_before (parts x.part)
 unfoldable pub light_before : Program → Bool
 light_before p = leb (G_before p) 4094 && (leb (A_before p) 4096 && (leb (W_before p) 65535 && leb (F_before p) 16384))
 
-unfoldable pub program_before : Program → Checked
+unfoldable pub program_before : Program → Verdict
 program_before p =
     let tooDeep = first_such deep (preorder 1 p) in
     let never = first_such endless_before (preorder 1 p) in
     cond
     (ltb tooDeep (size p))
-    (TooDeep tooDeep)
+    (Err (TooDeep tooDeep))
     (cond
     (ltb never (size p))
-    (EndlessLoop never)
-    (cond (light_before p) (Accepted (G_before p) (A_before p) (W_before p) (F_before p)) TooHeavy))
+    (Err (EndlessLoop never))
+    (cond (light_before p) (accepted_with (G_before p) (A_before p) (W_before p) (F_before p)) (Err TooHeavy)))
 
 -- what checking a table answered before: refusals 1 to 5 ask nothing of what stops, and are what they were
-unfoldable pub verdict_before : List ℕ → Checked
+unfoldable pub verdict_before : List ℕ → Verdict
 verdict_before t =
     let number = number_of (verdict_of t) in
     let program = program_before (tree_of t) in
@@ -64,12 +63,12 @@ pub record StillAccepted (t : List ℕ) (g a w f : ℕ) : Type 0 where
   pub tree : Program
   pub spelled : Spells t 0 tree
   pub before : (g ≡ G_before tree) × (a ≡ A_before tree) × (w ≡ W_before tree) × (f ≡ F_before tree)
-  pub now : verdict_of t ≡ Accepted (G tree) (A tree) (W tree) (F tree)
+  pub now : verdict_of t ≡ accepted_with (G tree) (A tree) (W tree) (F tree)
   pub no_larger : (G tree ≤ g) × (A tree ≤ a) × (W tree ≤ w) × (F tree ≤ f)
 
 pub record HarmlessLoops : Type 0 where
   -- "The bouquet team writes Loop(When(0, Stop, Nothing)) and gets 7,"
-  pub turned_away : verdict_before bouquet ≡ EndlessLoop 0
+  pub turned_away : verdict_before bouquet ≡ Err (EndlessLoop 0)
   -- "though an absent event is only decided at the end"
   pub absent : (s : ℕ) (E : Env) → E.now s ≡ false → E.eoi ≡ false → unknown (Event s) E
   -- "and then stops the loop."
@@ -78,7 +77,7 @@ pub record HarmlessLoops : Type 0 where
       → E.now s ≡ false
       → E.eoi ≡ true
       → r.flag ≡ STOP
-  pub accepted_now : verdict_of bouquet ≡ Accepted 0 0 5 0
+  pub accepted_now : verdict_of bouquet ≡ accepted_with 0 0 5 0
   -- "Document 01's stopping rule is mistaken.": a program is none that stops by it, and yet can't end in its instant
   pub mistaken : (p : Program) × (stopped_before p ≡ false) × Unending p
   -- "Say whether a configuration can be true early or false early:"
@@ -119,4 +118,4 @@ pub record HarmlessLoops : Type 0 where
   pub figures : (k : Program → ℕ) (n : ℕ) (p : Program)
       → figure k (Repeat (exactly n) p) ≡ k (Repeat (exactly n) p) + cond (stops p) (min n 2) n * figure k p
   -- "every table accepted before is still accepted."
-  pub still_accepted : (t : List ℕ) {g a w f : ℕ} → verdict_before t ≡ Accepted g a w f → StillAccepted t g a w f
+  pub still_accepted : (t : List ℕ) {g a w f : ℕ} → verdict_before t ≡ accepted_with g a w f → StillAccepted t g a w f

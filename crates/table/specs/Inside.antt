@@ -1,9 +1,10 @@
 -- What a table has once some refusals are past. No contract of a customer's call cites this file or those below it.
-use Rattle.std.specs.Prelude.{ℕ, ◌+◌, ◌*◌, ◌≤◌, ◌<◌, true, ◌&&◌, ◌≡◌, List, length}
+use Rattle.std.specs.Prelude.{ℕ, ◌+◌, ◌*◌, ◌≤◌, ◌<◌, Bool, true, not, cond, ◌&&◌, ◌≡◌, List, Option, MatchOption, length}
+use Rattle.events.specs.Events.{lowest}
 use Rattle.events.specs.Members.{places}
 use Rattle.junior.specs.Program.{Program, size}
-use Rattle.table.specs.Records.{nodes, configurations, events, kind_at, size_at, configuration_at}
-use Rattle.table.specs.Good.{is_laid_out, known, children, good_configuration, good_node}
+use Rattle.table.specs.Records.{nodes, configurations, events, kind_at, size_at, configuration_at, part_kind}
+use Rattle.table.specs.Good.{is_laid_out, known, children, parts, good_but_height, good_configuration, good_node}
 use Rattle.table.specs.Spells.{Spells}
 pub mod Early
 pub mod Framing
@@ -32,6 +33,10 @@ ConfigurationsGood t = (j : ℕ) → j < configurations t → good_configuration
 abbrev pub NodesGood : List ℕ → Type 0
 NodesGood t = (i : ℕ) → i < nodes t → good_node t i ≡ true
 
+-- r is the lowest of n records that isn't good; none if all are
+abbrev pub LowestBad : (ℕ → Bool) → ℕ → Option ℕ → Type 0
+LowestBad good n r = MatchOption r ((k : ℕ) → k < n → good k ≡ true) (λ bad. (bad < n) × (bad ≡ lowest n (λ k. not (good k))))
+
 -- past 1 to 5
 pub record Loaded (t : List ℕ) : Type 0 where
   pub framed : Framed t (nodes t) (configurations t) (events t)
@@ -58,3 +63,9 @@ pub record Begins (t : List ℕ) (c j : ℕ) : Type 0 where
 
 abbrev pub SomeBegins : List ℕ → ℕ → Type 0
 SomeBegins t c = (j : ℕ) × Begins t c j
+
+-- r is how many parts configuration j, at byte c, has, if it is good but for its height, and no event
+abbrev pub PartsGood : List ℕ → ℕ → ℕ → Option ℕ → Type 0
+PartsGood t c j r =
+    let p = cond (good_but_height t j) (parts (part_kind t c)) 0 in
+    MatchOption r (0 ≡ p) (λ some. (some ≡ p) × (some ≡ 0 → ⊥))

@@ -1,5 +1,6 @@
 -- The table's bytes and what they are worth (01, "The table", "Loading figures", "Refusal numbers"), in reading order.
 pub mod Records
+pub mod Kinds
 pub mod Good
 pub mod Spells
 pub mod Reading

@@ -1,59 +1,76 @@
 -- What checking a table answers: refusals 1 to 8 in the order of checking, or the figures (01, "Refusal numbers").
-use Rattle.std.specs.Prelude.{ℕ, suc, ◌+◌, ◌*◌, Bool, false, cond, not, ◌&&◌, List, [], ◌∷◌, ◌++◌, length, eqb, leb, ltb}
+use Rattle.std.specs.Prelude.{Result, Ok, Err, ◌≡◌, ℕ, suc, ◌+◌, ◌*◌, Bool, false, cond, not, ◌&&◌, List, [], ◌∷◌, ◌++◌, length, eqb, leb, ltb}
 use Rattle.events.specs.Events.{lowest}
 use Rattle.events.specs.Members.{places}
 use Rattle.junior.specs.Program.{Program, kind, Parts, no_part, one_part, two_parts, parts, size}
 use Rattle.junior.specs.Figures.{stops, G, A, W, F}
-use Rattle.table.specs.declared.Checked.{Checked}
-use Rattle.table.specs.declared.Checked.TheVariants.{BadLength, BadCounts, BadDistances, BadConfiguration}
-use Rattle.table.specs.declared.Checked.TheVariants.{BadNode, TooDeep, EndlessLoop, TooHeavy, Accepted}
+use Rattle.table.specs.declared.Figures.{Figures}
+use Rattle.table.specs.declared.TableRefusal.{TableRefusal}
+use Rattle.table.specs.declared.TableRefusal.TheVariants.{BadLength, BadCounts, BadDistances, BadConfiguration}
+use Rattle.table.specs.declared.TableRefusal.TheVariants.{BadNode, TooDeep, EndlessLoop, TooHeavy}
+use Rattle.table.specs.declared.numbers.Numbered.{Numbered}
 use Rattle.table.specs.Records.{nodes, configurations, events, back_to_nodes, back_to_configurations}
 use Rattle.table.specs.Good.{good_configuration, good_node}
 use Rattle.table.specs.Spells.{tree_of}
 
--- this paper's number, index and figures of each answer
-unfoldable pub number_of : Checked → ℕ
-number_of BadLength = 1
-number_of BadCounts = 2
-number_of BadDistances = 3
-number_of (BadConfiguration j) = 4
-number_of (BadNode i) = 5
-number_of (TooDeep i) = 6
-number_of (EndlessLoop i) = 7
-number_of TooHeavy = 8
-number_of (Accepted g a w f) = 0
+-- this paper's number and index of each refusal
+abbrev pub refusal_number : TableRefusal → ℕ
+refusal_number BadLength = 1
+refusal_number BadCounts = 2
+refusal_number BadDistances = 3
+refusal_number (BadConfiguration j) = 4
+refusal_number (BadNode i) = 5
+refusal_number (TooDeep i) = 6
+refusal_number (EndlessLoop i) = 7
+refusal_number TooHeavy = 8
 
-unfoldable pub index_of : Checked → ℕ
-index_of BadLength = 0
-index_of BadCounts = 0
-index_of BadDistances = 0
-index_of (BadConfiguration j) = j
-index_of (BadNode i) = i
-index_of (TooDeep i) = i
-index_of (EndlessLoop i) = i
-index_of TooHeavy = 0
-index_of (Accepted g a w f) = 0
+abbrev pub refusal_index : TableRefusal → ℕ
+refusal_index BadLength = 0
+refusal_index BadCounts = 0
+refusal_index BadDistances = 0
+refusal_index (BadConfiguration j) = j
+refusal_index (BadNode i) = i
+refusal_index (TooDeep i) = i
+refusal_index (EndlessLoop i) = i
+refusal_index TooHeavy = 0
+
+-- what checking a table answers: G, A, W and F, or why it is refused
+abbrev pub Verdict : Type 0
+Verdict = Result Figures TableRefusal
+
+abbrev pub accepted_with : ℕ → ℕ → ℕ → ℕ → Verdict
+accepted_with g a w f = Ok (record { generations = g; atoms = a; nodes = w; parked = f })
+
+-- its number and index: "Success is number 0, index 0"
+unfoldable pub number_of : Verdict → ℕ
+number_of (Ok figures) = 0
+number_of (Err why) = refusal_number why
+
+unfoldable pub index_of : Verdict → ℕ
+index_of (Ok figures) = 0
+index_of (Err why) = refusal_index why
+
+-- how a call ended, whatever it answers, and the number or the index of that, by those of its refusals
+abbrev pub ending : {T E : Type 0} → Result T E → Result (Unit {0}) E
+ending (Ok x) = Ok tt
+ending (Err why) = Err why
+
+abbrev pub numbered_by : {T E : Type 0} → (E → ℕ) → Result T E → ℕ
+numbered_by by (Ok x) = 0
+numbered_by by (Err why) = by why
+
+-- n numbers the answer of a call, whose refusals are numbered as `gives` says
+abbrev pub Numbers : {T E : Type 0} → (E → Numbered → Type 0) → Result T E → Numbered → Type 0
+Numbers gives (Ok x) n = (n.number ≡ 0) × (n.index ≡ 0)
+Numbers gives (Err why) n = gives why n
 
 -- G, A, W and F; 0 where the table is refused
-pub record Figures : Type 0 where
-  pub generations : ℕ
-  pub atoms : ℕ
-  pub nodes : ℕ
-  pub parked : ℕ
-
 abbrev pub no_figures : Figures
 no_figures = record { generations = 0; atoms = 0; nodes = 0; parked = 0 }
 
-unfoldable pub figures_of : Checked → Figures
-figures_of BadLength = no_figures
-figures_of BadCounts = no_figures
-figures_of BadDistances = no_figures
-figures_of (BadConfiguration j) = no_figures
-figures_of (BadNode i) = no_figures
-figures_of (TooDeep i) = no_figures
-figures_of (EndlessLoop i) = no_figures
-figures_of TooHeavy = no_figures
-figures_of (Accepted g a w f) = record { generations = g; atoms = a; nodes = w; parked = f }
+unfoldable pub figures_of : Verdict → Figures
+figures_of (Ok figures) = figures
+figures_of (Err why) = no_figures
 
 -- 1: the length
 unfoldable pub length_good : List ℕ → Bool
@@ -115,31 +132,34 @@ unfoldable pub light : Program → Bool
 light p = leb (G p) 4094 && (leb (A p) 4096 && (leb (W p) 65535 && leb (F p) 16384))
 
 -- refusals 6 to 8, of the program that good records spell
-unfoldable pub program_verdict : Program → Checked
+unfoldable pub program_verdict : Program → Verdict
 program_verdict p =
     let tooDeep = first_such deep (preorder 1 p) in
     let never = first_such endless (preorder 1 p) in
     cond
     (ltb tooDeep (size p))
-    (TooDeep tooDeep)
-    (cond (ltb never (size p)) (EndlessLoop never) (cond (light p) (Accepted (G p) (A p) (W p) (F p)) TooHeavy))
+    (Err (TooDeep tooDeep))
+    (cond (ltb never (size p)) (Err (EndlessLoop never)) (cond (light p) (accepted_with (G p) (A p) (W p) (F p)) (Err TooHeavy)))
 
 -- refusals 5 to 8: all configurations are good
-unfoldable pub nodes_verdict : List ℕ → Checked
+unfoldable pub nodes_verdict : List ℕ → Verdict
 nodes_verdict t =
     let bad = lowest (nodes t) (λ i. not (good_node t i)) in
     let program = program_verdict (tree_of t) in
-    cond (ltb bad (nodes t)) (BadNode bad) program
+    cond (ltb bad (nodes t)) (Err (BadNode bad)) program
 
 -- refusals 4 to 8: N, M, V and the layout are good
-unfoldable pub records_verdict : List ℕ → Checked
+unfoldable pub records_verdict : List ℕ → Verdict
 records_verdict t =
     let bad = lowest (configurations t) (λ j. not (good_configuration t j)) in
     let nodesToo = nodes_verdict t in
-    cond (ltb bad (configurations t)) (BadConfiguration bad) nodesToo
+    cond (ltb bad (configurations t)) (Err (BadConfiguration bad)) nodesToo
 
 -- refusals 1 to 8
-unfoldable pub verdict_of : List ℕ → Checked
+unfoldable pub verdict_of : List ℕ → Verdict
 verdict_of t =
     let records = records_verdict t in
-    cond (length_good t) (cond (counts_good t) (cond (distances_good t) records BadDistances) BadCounts) BadLength
+    cond
+    (length_good t)
+    (cond (counts_good t) (cond (distances_good t) records (Err BadDistances)) (Err BadCounts))
+    (Err BadLength)

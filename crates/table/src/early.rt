@@ -1,5 +1,6 @@
 // When each configuration can be decided before the end of an instant is declared (L2): 0 false only, 1 either way, 2 true only. Found
-// once for each, from the last to the first, so that its parts' are found before it; a row lent by the caller keeps them.
+// once for each, from the last to the first, so that its parts' are found before it; a row lent by the caller keeps them. Numbers, since the
+// row has a byte for each: the smaller wins an and, the larger an or, and a not mirrors.
 ghost use Rattle.std.specs.Prelude.{◌≡◌, ◌+◌, ◌*◌, ◌≤◌, ◌<◌, length, get_or};
 ghost use Rattle.table.specs.Records.{argument_at};
 ghost use Rattle.table.specs.Inside.Early.{SomeFramed, KnownFrom, Behind, EarlyAt};
@@ -9,12 +10,10 @@ use super::records::{argument_at, part_kind, part_size, wide};
 
 pub fn find_early(table: &[u8], n: usize, m: usize, early: &mut [u8])
     requires some_framed { SomeFramed table.now n m }
-    requires m_in_bounds { m ≤ length early.old }
+    requires early_long { m ≤ length early.old }
     ensures { KnownFrom table.now early.new 0 }
 {
-    let mut j = m;
-    while j > 0 {
-        j -= 1;
+    for j in (0..m).rev() {
         let e = early_at(table, 6 * n + 4 * j, j, early);
         early[j] = e as u8;
     }

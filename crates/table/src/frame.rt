@@ -5,37 +5,39 @@ ghost use Rattle.table.specs.Verdict.{distances_good};
 ghost use Rattle.table.specs.Records.{nodes, configurations};
 ghost use Rattle.table.specs.Inside.Framing.{frame_of};
 
-use super::Checked;
+use super::TableRefusal;
 use super::records::word_at;
 use events::EventSet;
 
-// The refusal, or N, M and V.
+// How many nodes, configurations and events a table has.
 #[derive(Clone, Copy)]
-pub enum Frame {
-    Refused(Checked),
-    Counts { n: usize, m: usize, v: usize },
+pub struct Counts {
+    pub n: usize,
+    pub m: usize,
+    pub v: usize,
 }
 
-pub fn frame_of(table: &[u8]) -> Frame
+// N, M and V of a table that passes the three.
+pub fn frame_of(table: &[u8]) -> Result<Counts, TableRefusal>
     ensures { result ≡ frame_of table.now }
 {
     let length = table.len();
     if length < 16 {
-        return Frame::Refused(Checked::BadLength);
+        return Err(TableRefusal::BadLength);
     }
     if length > 32778 {
-        return Frame::Refused(Checked::BadLength);
+        return Err(TableRefusal::BadLength);
     }
     let n = word_at(table, length - 10);
     let m = word_at(table, length - 8);
     let v = word_at(table, length - 6);
     if counts_good(n, m, v) {
         if distances_good(table, n, m) {
-            return Frame::Counts { n, m, v };
+            return Ok(Counts { n, m, v });
         }
-        return Frame::Refused(Checked::BadDistances);
+        return Err(TableRefusal::BadDistances);
     }
-    Frame::Refused(Checked::BadCounts)
+    Err(TableRefusal::BadCounts)
 }
 
 fn counts_good(n: usize, m: usize, v: usize) -> bool
@@ -57,8 +59,8 @@ fn counts_good(n: usize, m: usize, v: usize) -> bool
 }
 
 fn distances_good(table: &[u8], n: usize, m: usize) -> bool
-    requires in_bounds { 16 ≤ length table.now }
-    requires n_value { (n ≡ nodes table.now) × (m ≡ configurations table.now) × (n < 65536) × (m < 65536) }
+    requires table_long { 16 ≤ length table.now }
+    requires counts { (n ≡ nodes table.now) × (m ≡ configurations table.now) × (n < 65536) × (m < 65536) }
     ensures { result ≡ distances_good table.now }
 {
     let length = table.len();

@@ -5,20 +5,30 @@ ghost use Rattle.std.specs.Prelude.{◌≡◌};
 ghost use Rattle.table.specs.Verdict.{verdict_of};
 
 use configurations::first_bad;
-use frame::Frame;
+use frame::Counts;
 
 mod configurations;
 mod early;
 mod frame;
+pub mod kinds;
 pub mod nodes;
 pub mod numbers;
 pub mod reading;
 pub mod records;
 mod weights;
 
-// What checking a table answers (01, "Refusal numbers"); specs/Verdict.antt has each case's number, index and figures.
-#[derive(Clone, Copy)]
-pub enum Checked {
+// What every instant of an accepted table is bounded by (01, "Loading figures"; L8 for the bytes of parked pieces).
+#[derive(Clone, Copy, Debug, Default, PartialEq, Eq)]
+pub struct Figures {
+    pub generations: usize,
+    pub atoms: usize,
+    pub nodes: usize,
+    pub parked: usize,
+}
+
+// Why a table is refused (01, "Refusal numbers"); specs/Verdict.antt has each one's number and index.
+#[derive(Clone, Copy, PartialEq, Eq, Debug)]
+pub enum TableRefusal {
     BadLength,
     BadCounts,
     BadDistances,
@@ -27,27 +37,15 @@ pub enum Checked {
     TooDeep(usize),
     EndlessLoop(usize),
     TooHeavy,
-    Accepted {
-        generations: usize,
-        atoms: usize,
-        nodes: usize,
-        parked: usize,
-    },
 }
 
 // Checks a table.
-pub fn check(table: &[u8]) -> Checked
+pub fn check(table: &[u8]) -> Result<Figures, TableRefusal>
     ensures { result ≡ verdict_of table.now }
 {
-    let found = frame::frame_of(table);
-    match found {
-        Frame::Refused(why) => why,
-        Frame::Counts { n, m, v } => {
-            let bad = first_bad(table, n, m, v);
-            if bad < m {
-                return Checked::BadConfiguration(bad);
-            }
-            nodes::check_nodes(table, n, m, v)
-        }
+    let Counts { n, m, v } = frame::frame_of(table)?;
+    if let Some(bad) = first_bad(table, n, m, v) {
+        return Err(TableRefusal::BadConfiguration(bad));
     }
+    nodes::check_nodes(table, n, m, v)
 }

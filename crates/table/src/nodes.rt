@@ -1,22 +1,23 @@
 // Refusals 5 to 8. One loop from the last node to the first judges each record and weighs the program that stands there. What a
 // program weighs waits in a row until its parent, which comes later, takes it up: at most 64 places, and the program that begins first on
 // top, so a node finds its parts there. A table that is refused is looked at again from its first node on.
-ghost use Rattle.std.specs.Prelude.{◌≡◌, cond, not, ◌&&◌, List, ℕ, ◌+◌, ◌≤◌, ◌<◌, eqb, leb, length, set};
+ghost use Rattle.std.specs.Prelude.{Err, ◌≡◌, cond, not, ◌&&◌, List, ℕ, ◌+◌, ◌≤◌, ◌<◌, eqb, leb, length, set};
 ghost use Rattle.events.specs.Events.{lowest};
+ghost use Rattle.table.specs.declared.TableRefusal.TheVariants.{TooHeavy};
 ghost use Rattle.table.specs.Records.{nodes, configurations, events, kind_at, size_at};
 ghost use Rattle.table.specs.Good.{children, argument_limit, is_laid_out, good_node};
-ghost use Rattle.table.specs.Verdict.{nodes_verdict, preorder, first_such, deep};
+ghost use Rattle.table.specs.Verdict.{nodes_verdict, accepted_with, preorder, first_such, deep};
 ghost use Rattle.table.specs.Inside.{Framed, ConfigurationsGood};
 ghost use Rattle.table.specs.Inside.Early.{AllKnown, TestsAt};
 ghost use Rattle.table.specs.Inside.Weighing.{tree_at, height, SizedWhole, Within, OfKind, Headed, AllGood};
 ghost use Rattle.table.specs.Inside.Weighing.{Row, Roomy, ToPlace, Places};
 
-use super::Checked;
 use super::early::{early_of, find_early};
 use super::records::{argument_at, head_at, kind_at, second_at, size_at, zero_at};
 use super::weights::{Weight, joined, put_weight, single, weight_at, wrapped};
+use super::{Figures, TableRefusal};
 
-pub fn check_nodes(table: &[u8], n: usize, m: usize, v: usize) -> Checked
+pub fn check_nodes(table: &[u8], n: usize, m: usize, v: usize) -> Result<Figures, TableRefusal>
     requires framed { Framed table.now n m v }
     requires configurations_good { ConfigurationsGood table.now }
     ensures { result ≡ nodes_verdict table.now }
@@ -24,11 +25,11 @@ pub fn check_nodes(table: &[u8], n: usize, m: usize, v: usize) -> Checked
     if size_at(table, 0) == n {
         return check_whole(table, n, m, v);
     }
-    Checked::BadNode(0)
+    Err(TableRefusal::BadNode(0))
 }
 
 // Record 0 has size N. Rows for few configurations and few nodes are cleared in less time than those for all that a table can have.
-fn check_whole(table: &[u8], n: usize, m: usize, v: usize) -> Checked
+fn check_whole(table: &[u8], n: usize, m: usize, v: usize) -> Result<Figures, TableRefusal>
     requires { SizedWhole table.now n m v }
     ensures { result ≡ nodes_verdict table.now }
 {
@@ -56,7 +57,7 @@ fn check_tests_known(
     v: usize,
     early: &[u8],
     waiting: &mut [u32],
-) -> Checked
+) -> Result<Figures, TableRefusal>
     requires sized_whole { SizedWhole table.now n m v }
     requires all_known { AllKnown table.now early.now }
     requires roomy { Roomy waiting.old n }
@@ -69,45 +70,47 @@ fn check_tests_known(
         i -= 1;
         top = place(table, m, v, i, early, waiting, top);
         if top == 0 {
-            return refused(table, n, m, v);
+            return Err(refused(table, n, m, v));
         }
     }
     let x = weight_at(waiting, 0);
     if x.height > 64 {
-        return refused(table, n, m, v);
+        return Err(refused(table, n, m, v));
     }
     let endless = waiting[0] as usize;
     if endless < n {
-        return Checked::EndlessLoop(endless);
+        return Err(TableRefusal::EndlessLoop(endless));
     }
     weighed(x)
 }
 
 // Refusal 8, or none.
-fn weighed(x: Weight) -> Checked
+fn weighed(x: Weight) -> Result<Figures, TableRefusal>
     ensures { result ≡ cond (leb x.generations 4094 && (leb x.atoms 4096 && (leb x.nodes 65535 && leb x.parked 16384)))
-        (Checked.Accepted x.generations x.atoms x.nodes x.parked) Checked.TooHeavy }
+        (accepted_with x.generations x.atoms x.nodes x.parked) (Err TooHeavy) }
 {
     if x.generations > 4094 {
-        return Checked::TooHeavy;
+        return Err(TableRefusal::TooHeavy);
     }
     if x.atoms > 4096 {
-        return Checked::TooHeavy;
+        return Err(TableRefusal::TooHeavy);
     }
     if x.nodes > 65535 {
-        return Checked::TooHeavy;
+        return Err(TableRefusal::TooHeavy);
     }
     if x.parked > 16384 {
-        return Checked::TooHeavy;
+        return Err(TableRefusal::TooHeavy);
     }
-    Checked::Accepted {
+    Ok(Figures {
         generations: x.generations as usize,
         atoms: x.atoms as usize,
         nodes: x.nodes as usize,
         parked: x.parked as usize,
-    }
+    })
 }
 
+// By numbers and not by Kind, with a test for each count of children, and the row in numbers too: one jump decides all that a kind asks. Over Kind,
+// with one judgement of a node and a row of Weights, loading took half as many instructions more.
 // Node i takes up its parts and waits. The answer is how many wait now; 0 if the record isn't good, or all places are taken. A zero byte that
 // isn't zero makes its head none of these.
 fn place(
@@ -310,16 +313,16 @@ fn laid_out(table: &[u8], n: usize, i: usize, count: usize) -> bool
 }
 
 // Why a table is refused that has a record that isn't good, or a node that is too deep.
-fn refused(table: &[u8], n: usize, m: usize, v: usize) -> Checked
+fn refused(table: &[u8], n: usize, m: usize, v: usize) -> TableRefusal
     requires sized_whole { SizedWhole table.now n m v }
-    requires bound { AllGood table.now → 64 < height (tree_at table.now 0) }
-    ensures { result ≡ nodes_verdict table.now }
+    requires too_deep { AllGood table.now → 64 < height (tree_at table.now 0) }
+    ensures { Err result ≡ nodes_verdict table.now }
 {
     let bad = first_bad(table, n, m, v);
     if bad < n {
-        return Checked::BadNode(bad);
+        return TableRefusal::BadNode(bad);
     }
-    Checked::TooDeep(first_deep(table, 0, 1))
+    TableRefusal::TooDeep(first_deep(table, 0, 1))
 }
 
 fn first_bad(table: &[u8], n: usize, m: usize, v: usize) -> usize
@@ -363,7 +366,7 @@ fn limit_of(k: usize, m: usize, v: usize) -> usize
 // The first node deeper than 64 of the program at node i, which stands at depth d; the node behind that program if none is.
 fn first_deep(table: &[u8], i: usize, d: usize) -> usize
     requires all_good { AllGood table.now }
-    requires i_bound { (i < nodes table.now) × (d ≤ 65) }
+    requires shallow { (i < nodes table.now) × (d ≤ 65) }
     ensures { result ≡ i + first_such deep (preorder d (tree_at table.now i)) }
 {
     if d > 64 {

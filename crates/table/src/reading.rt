@@ -1,71 +1,76 @@
-// Reading a configuration where it stands, by the definitions fixed and eval (000, 4.1). Inside, a verdict is its rank: 0 unsat,
+// Reading a configuration where it stands, by the definitions fixed and eval (000, 4.1). In clauses a verdict is its rank: 0 unsat,
 // 1 unknown, 2 sat.
-ghost use Rattle.std.specs.Prelude.{◌≡◌, cond, List, ℕ, ◌/◌, ◌≤◌, ◌<◌, length, take};
+ghost use Rattle.std.specs.Prelude.{◌≡◌, cond, eqb, List, ℕ, ◌/◌, ◌<◌, length, take};
 ghost use Rattle.events.specs.Members.{places, marks};
 ghost use Rattle.table.specs.Reading.{ConfigurationAt, ReadAs, event_words};
-ghost use Rattle.table.specs.Inside.Levels.{Level, levelled, SomeLevels, Open, SomeOpen, Decided, ClosesOne, ClosesDecided, Closes, unsettled};
-ghost use Rattle.table.specs.Inside.Ranks.{unranked, joined_rank, RanksAs, IsAbsentRank};
+ghost use Rattle.table.specs.Inside.Levels.{Level, levelled, SomeLevels, Open, SomeOpen, sat_rank, ClosesOne, Falls, Closes, unsettled};
+ghost use Rattle.table.specs.Inside.Ranks.{rank, joined_rank, RanksAs, IsAbsentRank};
 
 use super::records::{part_event, part_kind, part_size};
 use events::{WORDS, marked};
 use junior::Verdict;
+use std::ops::ControlFlow;
 
 // How long the row of numbers is that a pass carries: the event words first, then what else it needs.
 pub const ROW: usize = WORDS + 7;
 
 // What the configuration at byte c is read as, the events being those of the row's first words. Before the end is declared a lone event costs
 // no call.
-pub fn read_configuration(table: &&[u8], c: usize, numbers: &[u64; ROW], ended: bool) -> Verdict
-    requires configuration_at { ConfigurationAt table.now.now c }
-    requires table_len_bound { length table.now.now < 65536 }
-    ensures { ReadAs table.now.now c numbers.now ended result }
+pub fn read_configuration(table: &[u8], c: usize, numbers: &[u64; ROW], ended: bool) -> Verdict
+    requires configuration_at { ConfigurationAt table.now c }
+    requires table_short { length table.now < 65536 }
+    ensures { ReadAs table.now c numbers.now ended result }
 {
     if ended {
-        return verdict_of(rank_at(table, c, numbers, 0));
+        return verdict_at(table, c, numbers, Verdict::Unsat);
     }
-    if part_kind(*table, c) == 0 {
-        return verdict_of(event_rank(numbers, part_event(*table, c), 1));
+    if part_kind(table, c) == 0 {
+        return event_verdict(numbers, part_event(table, c), Verdict::Unknown);
     }
-    verdict_of(rank_at(table, c, numbers, 1))
+    verdict_at(table, c, numbers, Verdict::Unknown)
 }
 
 // Where reading has come to: the next record's byte; the levels open there, as digits to base 16 behind a leading 2 (1 a not, 2 an and, 3 an
-// or, 4 and 5 these in their second part, the first being unknown); the rank of the part just read, 3 where another is to be read next.
+// or, 4 and 5 these in their second part, the first being unknown).
 #[derive(Clone, Copy)]
 pub struct Place {
     pub at: usize,
     pub levels: u64,
-    pub rank: usize,
-    pub decided: bool,
 }
 
-// The rank of the configuration at byte c, by its records one after another. Levels open are kept in one word: a height of 16 leaves at most 15.
-fn rank_at(table: &&[u8], c: usize, numbers: &[u64; ROW], absent: usize) -> usize
-    requires configuration_at { ConfigurationAt table.now.now c }
-    requires absent_rank { IsAbsentRank absent }
-    requires table_len_bound { length table.now.now < 65536 }
-    ensures { RanksAs table.now.now c numbers.now absent result }
+// What is left where a level has been closed: the part within is sat or unsat, or it is unknown, or the level's second part is to be read.
+#[derive(Clone, Copy)]
+pub enum Closed {
+    Decided(Place, bool),
+    Undecided(Place),
+    Second(Place),
+}
+
+// Of the configuration at byte c, by its records one after another; an event that isn't present is what `absent` says. Levels open are kept in
+// one word: a height of 16 leaves at most 15.
+fn verdict_at(table: &[u8], c: usize, numbers: &[u64; ROW], absent: Verdict) -> Verdict
+    requires configuration_at { ConfigurationAt table.now c }
+    requires absent_rank { IsAbsentRank (rank absent) }
+    requires table_short { length table.now < 65536 }
+    ensures { RanksAs table.now c numbers.now (rank absent) (rank result) }
 {
-    let top = part_kind(*table, c);
+    let top = part_kind(table, c);
     if top == 0 {
-        return event_rank(numbers, part_event(*table, c), absent);
+        return event_verdict(numbers, part_event(table, c), absent);
     }
     let mut levels: u64 = 32 + top as u64;
     let mut at = c + 4;
     loop {
-        let kind = part_kind(*table, at);
+        let kind = part_kind(table, at);
         if kind == 0 {
-            let next = after_part(
-                *table,
-                at + 4,
-                levels,
-                event_rank(numbers, part_event(*table, at), absent),
-            );
-            if next.rank != 3 {
-                return next.rank;
+            let event = event_verdict(numbers, part_event(table, at), absent);
+            match after_part(table, at + 4, levels, event) {
+                ControlFlow::Break(verdict) => return verdict,
+                ControlFlow::Continue(next) => {
+                    at = next.at;
+                    levels = next.levels;
+                }
             }
-            at = next.at;
-            levels = next.levels;
         } else {
             levels = 16 * levels + kind as u64;
             at += 4;
@@ -73,42 +78,32 @@ fn rank_at(table: &&[u8], c: usize, numbers: &[u64; ROW], absent: usize) -> usiz
     }
 }
 
-// Behind a part of this rank: the levels that it closes.
-fn after_part(table: &[u8], at: usize, levels: u64, rank: usize) -> Place
-    requires some_open { SomeOpen table.now at levels }
-    requires rank_bound { rank ≤ 2 }
-    ensures { (o : List Level) → Open table.now at levels o → Closes table.now at o rank result }
+// Behind a part of this verdict: the levels that it closes. All are closed with a verdict, or another part is to be read next.
+fn after_part(table: &[u8], at: usize, levels: u64, verdict: Verdict) -> ControlFlow<Verdict, Place>
+    requires { SomeOpen table.now at levels }
+    ensures { (o : List Level) → Open table.now at levels o → Closes table.now at o (rank verdict) result }
 {
-    if rank == 1 {
-        return after_unknown(at, levels);
-    }
-    let up = after_decided(table, at, levels, rank);
-    if up.rank == 1 {
-        return after_unknown(up.at, up.levels);
-    }
-    up
+    let sat = match verdict {
+        Verdict::Sat => true,
+        Verdict::Unsat => false,
+        Verdict::Unknown => return after_unknown(at, levels),
+    };
+    after_decided(table, at, levels, sat)
 }
 
 // Behind an unknown part: a second part is next, or all is unknown.
-fn after_unknown(at: usize, levels: u64) -> Place
+fn after_unknown(at: usize, levels: u64) -> ControlFlow<Verdict, Place>
     requires { SomeLevels levels }
     ensures { (t : List ℕ) (o : List Level) → Open t at levels o → Closes t at o 1 result }
 {
     let left = leave_unknown(levels);
     if left == 2 {
-        return Place {
-            at: at,
-            levels: left,
-            rank: 1,
-            decided: false,
-        };
+        return ControlFlow::Break(Verdict::Unknown);
     }
-    Place {
-        at: at,
+    ControlFlow::Continue(Place {
+        at,
         levels: left + 2,
-        rank: 3,
-        decided: false,
-    }
+    })
 }
 
 // The levels that an unknown part doesn't close: a not, and a second part, the first being unknown, are unknown too.
@@ -118,122 +113,89 @@ fn leave_unknown(before: u64) -> u64
 {
     let mut levels = before;
     while levels % 4 < 2 {
-        levels = levels / 16;
+        levels /= 16;
     }
     levels
 }
 
-// Behind a part of rank 0 or 2: it closes levels as long as it decides them.
-fn after_decided(table: &[u8], from: usize, before: u64, first: usize) -> Place
-    requires some_open { SomeOpen table.now from before }
-    requires decided { Decided first }
-    ensures { (o : List Level) → Open table.now from before o → ClosesDecided table.now from o first result }
+// Behind a part that is sat or unsat: it closes levels as long as it decides them.
+fn after_decided(table: &[u8], from: usize, before: u64, first: bool) -> ControlFlow<Verdict, Place>
+    requires { SomeOpen table.now from before }
+    ensures { (o : List Level) → Open table.now from before o → Closes table.now from o (sat_rank first) result }
 {
     let mut levels = before;
     let mut at = from;
-    let mut rank = first;
+    let mut sat = first;
     while levels > 2 {
-        let next = close(table, at, levels, rank);
-        if next.decided {
-            at = next.at;
-            levels = next.levels;
-            rank = next.rank;
-        } else {
-            return next;
+        match close(table, at, levels, sat) {
+            Closed::Decided(place, still) => {
+                at = place.at;
+                levels = place.levels;
+                sat = still;
+            }
+            Closed::Undecided(place) => return after_unknown(place.at, place.levels),
+            Closed::Second(place) => return ControlFlow::Continue(place),
         }
     }
-    Place {
-        at: at,
-        levels: levels,
-        rank: rank,
-        decided: true,
-    }
+    ControlFlow::Break(decided(sat))
 }
 
-// Closes the innermost level behind a part of rank 0 or 2. What the first part decides (0 an and, 2 an or), the second isn't asked: it is
-// passed over by its size. What it leaves to the second, the second alone decides. A second part that doesn't decide leaves the level unknown.
-fn close(table: &[u8], at: usize, levels: u64, rank: usize) -> Place
+// Closes the innermost level behind a part that is sat or unsat. What the first part decides (unsat an and, sat an or), the second isn't asked:
+// it is passed over by its size. What it leaves to the second, the second alone decides. A second part that doesn't decide leaves the level
+// unknown.
+fn close(table: &[u8], at: usize, levels: u64, sat: bool) -> Closed
     requires some_open { SomeOpen table.now at levels }
-    requires lt_levels { (2 < levels) × Decided rank }
-    ensures levels_value { result.levels ≡ levels / 16 }
-    ensures closes_one { (o : List Level) → Open table.now at levels o → ClosesOne table.now at o rank result }
+    requires inside_a_level { 2 < levels }
+    ensures falls { Falls levels result }
+    ensures closes_one { (o : List Level) → Open table.now at levels o → ClosesOne table.now at o (sat_rank sat) result }
 {
     let level = levels % 16;
     let rest = levels / 16;
+    let here = Place { at, levels: rest };
     if level == 1 {
-        return Place {
-            at: at,
-            levels: rest,
-            rank: 2 - rank,
-            decided: true,
-        };
+        return Closed::Decided(here, !sat);
     }
     if level < 4 {
-        if rank as u64 == 2 * (level - 2) {
-            return Place {
+        if sat == (level == 3) {
+            let behind = Place {
                 at: at + 4 * part_size(table, at),
                 levels: rest,
-                rank: rank,
-                decided: true,
             };
+            return Closed::Decided(behind, sat);
         }
-        return Place {
-            at: at,
-            levels: rest,
-            rank: 3,
-            decided: false,
-        };
+        return Closed::Second(here);
     }
-    if rank as u64 == 2 * (5 - level) {
-        return Place {
-            at: at,
-            levels: rest,
-            rank: 1,
-            decided: false,
-        };
+    if sat == (level == 4) {
+        return Closed::Undecided(here);
     }
-    Place {
-        at: at,
-        levels: rest,
-        rank: rank,
-        decided: true,
-    }
+    Closed::Decided(here, sat)
 }
 
-fn event_rank(numbers: &[u64; ROW], event: usize, absent: usize) -> usize
+fn event_verdict(numbers: &[u64; ROW], event: usize, absent: Verdict) -> Verdict
     requires { event < places }
-    ensures { result ≡ cond (marks (take event_words numbers.now) event) 2 absent }
+    ensures { rank result ≡ cond (marks (take event_words numbers.now) event) 2 (rank absent) }
 {
     if marked(numbers, event) {
-        return 2;
+        return Verdict::Sat;
     }
     absent
 }
 
-// Of an and (kind 2) or an or (3), by its parts' ranks.
+fn decided(sat: bool) -> Verdict
+    ensures { rank result ≡ sat_rank sat }
+{
+    if sat {
+        return Verdict::Sat;
+    }
+    Verdict::Unsat
+}
+
+// Of an and (kind 2) or an or (3), by its parts' ranks: early.rt's, which are no verdicts.
 pub fn joined_rank(kind: usize, first: usize, second: usize) -> usize
     ensures { result ≡ joined_rank kind first second }
 {
     if kind == 2 {
-        if first < second {
-            return first;
-        }
-        return second;
+        return first.min(second);
     }
-    if first < second {
-        return second;
-    }
-    first
-}
-
-fn verdict_of(rank: usize) -> Verdict
-    ensures { result ≡ unranked rank }
-{
-    if rank == 0 {
-        return Verdict::Unsat;
-    }
-    if rank == 1 {
-        return Verdict::Unknown;
-    }
-    Verdict::Sat
+    first.max(second)
 }

@@ -7,7 +7,7 @@ ghost use Rattle.table.specs.Records.{word, kind_at, zero_at, argument_at, size_
 pub fn wide(x: u8) -> usize
     ensures { (result ≡ x) × (result < 256) }
 {
-    x as usize
+    usize::from(x)
 }
 
 // The number of 16 bits at byte i.
@@ -15,7 +15,7 @@ pub fn word_at(t: &[u8], i: usize) -> usize
     requires { i + 1 < length t.now }
     ensures { (result ≡ word t.now i) × (result < 65536) }
 {
-    wide(t[i]) * 256 + wide(t[i + 1])
+    usize::from(u16::from_be_bytes([t[i], t[i + 1]]))
 }
 
 // Node i's kind.

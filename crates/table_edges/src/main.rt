@@ -1,9 +1,9 @@
 // The edges of refusals 1 to 8: each line is a point's name, then number, index, G, A, W and F of a table that stands on it.
 #![tactic(auto)]
 
-use console::{print_decimal, write_out};
+use console::write_out;
 use std::io::Write;
-use table::Checked;
+use table::numbers::Numbered;
 
 fn main(rt: HostRuntime) {
     let mut out = rt.stdout();
@@ -406,44 +406,15 @@ fn parked(out: &mut impl Write) {
 
 fn show(out: &mut impl Write, point: &[u8], bytes: &[u8]) {
     write_out(out, point);
-    let checked = table::check(bytes);
-    match checked {
-        Checked::BadLength => fields(out, 1, 0, 0, 0, 0, 0),
-        Checked::BadCounts => fields(out, 2, 0, 0, 0, 0, 0),
-        Checked::BadDistances => fields(out, 3, 0, 0, 0, 0, 0),
-        Checked::BadConfiguration(index) => fields(out, 4, index, 0, 0, 0, 0),
-        Checked::BadNode(index) => fields(out, 5, index, 0, 0, 0, 0),
-        Checked::TooDeep(index) => fields(out, 6, index, 0, 0, 0, 0),
-        Checked::EndlessLoop(index) => fields(out, 7, index, 0, 0, 0, 0),
-        Checked::TooHeavy => fields(out, 8, 0, 0, 0, 0, 0),
-        Checked::Accepted {
-            generations,
-            atoms,
-            nodes,
-            parked,
-        } => fields(out, 0, 0, generations, atoms, nodes, parked),
-    }
-}
-
-fn fields(
-    out: &mut impl Write,
-    number: usize,
-    index: usize,
-    g: usize,
-    a: usize,
-    w: usize,
-    f: usize,
-) {
-    field(out, number);
-    field(out, index);
-    field(out, g);
-    field(out, a);
-    field(out, w);
-    field(out, f);
-    write_out(out, b"\n");
-}
-
-fn field(out: &mut impl Write, n: usize) {
-    write_out(out, b" ");
-    print_decimal(out, n as u64);
+    let verdict = table::check(bytes);
+    let refusal = Numbered::of(verdict);
+    let figures = verdict.unwrap_or_default();
+    let number = refusal.number;
+    let index = refusal.index;
+    let g = figures.generations;
+    let a = figures.atoms;
+    let w = figures.nodes;
+    let f = figures.parked;
+    // A line that can't be written is passed over.
+    let _ = writeln!(out, " {number} {index} {g} {a} {w} {f}");
 }

@@ -14,17 +14,19 @@ use Rattle.junior.specs.Trace.{Piece}
 use Rattle.junior.specs.Parked.{All}
 use Rattle.table.specs.Records.{configurations, size_at}
 use Rattle.table.specs.Part.{part_length}
-use Rattle.table.specs.Verdict.{verdict_of, number_of, index_of}
-use Rattle.table.proofs.Accepted.{accepted}
+use Rattle.table.specs.Verdict.{Verdict, verdict_of, refusal_number, refusal_index, number_of, index_of, numbered_by, ending}
+use Rattle.table.proofs.Accepted.{accepted, some_number}
 use Rattle.table.proofs.Laid.{both}
 use Rattle.store.specs.Store.{node_of, store_good, newest}
 use Rattle.store.specs.Stored.{Stored}
 use Rattle.store.proofs.OneStore.{one_store}
 use Rattle.store.proofs.GoodStore.{good_store, stored}
 use Rattle.store.proofs.Closed.{parts_of}
-use Rattle.taking.specs.declared.Taking.{Taking}
-use Rattle.taking.specs.declared.Taking.TheVariants.{Taken as was_taken, Table, BadStore, NoPiece, NoRoom}
-use Rattle.taking.specs.Taking.{taking_number, taking_index, has_rooms, take_outcome}
+use Rattle.std.specs.Prelude.{Result, Ok, Err}
+use Rattle.taking.specs.declared.TakeRefusal.{TakeRefusal}
+use Rattle.taking.specs.declared.TakeRefusal.TheVariants.{BadStore, NoPiece, NoRoom}
+use Rattle.taking.specs.declared.Taken.{Taken}
+use Rattle.taking.specs.Taking.{taking_number, taking_index, on_accepted, has_rooms, take_outcome, Took}
 use Rattle.taking.specs.TakenWell.{Bytes}
 use Rattle.taking.specs.Demand1.{Handed, handed, TooLong, Check, its_table, its_store, its_piece, its_rooms}
 use Rattle.taking.specs.Demand1.{Fails, Passes, FirstFailure, AllPassed, checks, ByFirstCheck, Demand1}
@@ -92,8 +94,8 @@ module _ (t s : List ℕ) (e : ℕ) (tableRoom stateRoom : List ℕ) (small : By
   abbrev at : ℕ
   at = newest t s e
 
-  abbrev By : Taking → Type 0
-  By o = ByFirstCheck given (taking_number o) (taking_index o)
+  abbrev By : Result (Unit {0}) TakeRefusal → Type 0
+  By o = ByFirstCheck given (numbered_by taking_number o) (numbered_by taking_index o)
 
   -- the newest piece and a room too short for it
   short_for : (l : List Piece) → Stored t s l → at ≢ 0 → has_rooms t (node_of s at) tableRoom stateRoom ≡ false → TooLong given
@@ -148,8 +150,8 @@ module _ (t s : List ℕ) (e : ℕ) (tableRoom stateRoom : List ℕ) (small : By
     passes_rooms : at ≢ 0 → has_rooms t (node_of s at) tableRoom stateRoom ≡ true → Passes its_rooms given
     passes_rooms some h n i (z, x, y) = long_enough l a some h z
 
-    by_rooms : at ≢ 0 → (b : Bool) → has_rooms t (node_of s at) tableRoom stateRoom ≡ b → By (cond b was_taken NoRoom)
-    unfolding taking_number taking_index FirstFailure AllPassed
+    by_rooms : at ≢ 0 → (b : Bool) → has_rooms t (node_of s at) tableRoom stateRoom ≡ b → By (cond b (Ok tt) (Err NoRoom))
+    unfolding FirstFailure AllPassed
     by_rooms some true h =
         passed_by given (passes_table ok, (passes_store, (passes_piece some, (passes_rooms some h, tt))))
     by_rooms some false h =
@@ -157,8 +159,8 @@ module _ (t s : List ℕ) (e : ℕ) (tableRoom stateRoom : List ℕ) (small : By
         (inr (passes_table ok, inr (passes_store, inr (passes_piece some, inl (short_for l a some h, refl, refl)))))
         (λ z. omega arith)
 
-    by_piece : (b : Bool) → eqb at 0 ≡ b → By (cond b NoPiece (cond (has_rooms t (node_of s at) tableRoom stateRoom) was_taken NoRoom))
-    unfolding taking_number taking_index FirstFailure
+    by_piece : (b : Bool) → eqb at 0 ≡ b → By (cond b (Err NoPiece) (cond (has_rooms t (node_of s at) tableRoom stateRoom) (Ok tt) (Err NoRoom)))
+    unfolding FirstFailure
     by_piece true h =
         refused_by given 14 0
         (inr (passes_table ok, inr (passes_store, inl (none_there, refl, refl))))
@@ -169,8 +171,8 @@ module _ (t s : List ℕ) (e : ℕ) (tableRoom stateRoom : List ℕ) (small : By
     by_piece false h = by_rooms (eqb-false _ _ h) (has_rooms t (node_of s at) tableRoom stateRoom) refl
 
   by_store : number_of (verdict_of t) ≡ 0 → (b : Bool) → store_good t s ≡ b
-      → By (cond b (cond (eqb at 0) NoPiece (cond (has_rooms t (node_of s at) tableRoom stateRoom) was_taken NoRoom)) BadStore)
-  unfolding taking_number taking_index FirstFailure
+      → By (cond b (cond (eqb at 0) (Err NoPiece) (cond (has_rooms t (node_of s at) tableRoom stateRoom) (Ok tt) (Err NoRoom))) (Err BadStore))
+  unfolding FirstFailure
   by_store ok true h = let (l, a) = stored (accepted t ok).loaded small h in by_piece ok l a (eqb at 0) refl
   by_store ok false h =
       refused_by given 25 0
@@ -178,20 +180,32 @@ module _ (t s : List ℕ) (e : ℕ) (tableRoom stateRoom : List ℕ) (small : By
       (λ z. omega arith)
 
   pub by_checks : By (take_outcome t s e tableRoom stateRoom)
-  unfolding take_outcome taking_number taking_index FirstFailure
-  by_checks = go (eqb (number_of (verdict_of t)) 0) refl
+  unfolding take_outcome number_of index_of FirstFailure
+  by_checks = go (verdict_of t) refl
     where
-      go : (b : Bool) → eqb (number_of (verdict_of t)) 0 ≡ b
-          → By (cond b (cond (store_good t s) (cond (eqb at 0) NoPiece (cond (has_rooms t (node_of s at) tableRoom stateRoom) was_taken NoRoom)) BadStore)
-          (Table (verdict_of t)))
-      go true h = by_store (eqb-true _ _ h) (store_good t s) refl
-      go false h = refused_by given (number_of (verdict_of t)) (index_of (verdict_of t)) (inl (eqb-false _ _ h, refl, refl)) (eqb-false _ _ h)
+      go : (c : Verdict) → verdict_of t ≡ c
+          → By (on_accepted c (cond (store_good t s) (cond (eqb at 0) (Err NoPiece) (cond (has_rooms t (node_of s at) tableRoom stateRoom) (Ok tt) (Err NoRoom))) (Err BadStore)))
+      go (Ok x) h = by_store (ap number_of h) (store_good t s) refl
+      go (Err why) h =
+          let some : refusal_number why ≢ 0 = λ z. omega (arith, some_number why) in
+          refused_by given (refusal_number why) (refusal_index why)
+          (inl (rw h some, sym (ap number_of h), sym (ap index_of h))) some
+
+-- what is numbered so is the ending
+ended : {T : Type 0} (by : TakeRefusal → ℕ) (r : Result T TakeRefusal) → numbered_by by (ending r) ≡ numbered_by by r
+ended by (Ok x) = refl
+ended by (Err why) = refl
+
+nothing_written : {t s : List ℕ} {e : ℕ} {tableRoom stateRoom s' tableRoom' stateRoom' : List ℕ} (r : Result Taken TakeRefusal)
+    → Took t s e tableRoom stateRoom s' tableRoom' stateRoom' r → numbered_by taking_number r ≢ 0
+    → (s' ≡ s) × (tableRoom' ≡ tableRoom) × (stateRoom' ≡ stateRoom)
+nothing_written (Ok x) o n = absurd (n refl)
+nothing_written (Err why) o n = let k = o.leaves in (k.store_is, k.table_is, k.state_is)
 
 pub demand_1 : Demand1
-unfolding taking_number
 demand_1 =
     record {
-      answered = λ {t} {s} {e} {tableRoom} {stateRoom} small o.
-          rw o.outcome_is (by_checks t s e tableRoom stateRoom small);
-      writes_nothing = λ o n. let k = o.refused (λ z. n (ap taking_number z)) in (k.store_is, k.table_is, k.state_is);
+      answered = λ {t} {s} {e} {tableRoom} {stateRoom} {r = r} small o.
+          rw (ended taking_number r, ended taking_index r) at (rw (← o.outcome_is) at (by_checks t s e tableRoom stateRoom small));
+      writes_nothing = λ {r = r} o n. nothing_written r o n;
     }

@@ -116,13 +116,13 @@ module _ {t : List ℕ} (ok : number_of (verdict_of t) ≡ 0) {x : Piece} (b : B
 pub takes_well : TakesWell
 takes_well =
     record {
-      well = λ {t} {s} {e} {tableRoom} {stateRoom} {s'} {tableRoom'} {stateRoom'} {r} small o taken.
-          let p = all_passed t s e tableRoom stateRoom (sym o.outcome_is ∙ taken) in
+      well = λ {t} {s} {e} {tableRoom} {stateRoom} {s'} {tableRoom'} {stateRoom'} {r} small o.
+          let p = all_passed t s e tableRoom stateRoom (sym o.outcome_is) in
           let l = (accepted t p.table_good).loaded in
           let f = found_in e l small p.store_passes p.some in
           let x = f.piece in
           let there = found_there f in
-          let left = o.taken taken in
+          let left = o.leaves in
           let b = belongs f in
           let stood = f.is_newest.stood in
           let bytes : length (piece_bytes x) ≡ piece_length t s (newest t s e) = sym there.long in

@@ -1,22 +1,23 @@
 -- Examples of takings (L8), one list and one statement over it, of the very definition that is the contract.
-use Rattle.std.specs.Prelude.{ℕ, ◌+◌, ◌/◌, ◌≡◌, List, [], ◌∷◌, ◌++◌, length, replicate}
+use Rattle.std.specs.Prelude.{ℕ, ◌+◌, ◌/◌, ◌≡◌, Result, Ok, Err, List, [], ◌∷◌, ◌++◌, length, replicate}
 use Rattle.junior.specs.Parked.{All}
-use Rattle.table.specs.declared.Checked.TheVariants.{EndlessLoop}
+use Rattle.table.specs.declared.TableRefusal.TheVariants.{EndlessLoop}
 use Rattle.table.specs.Bytes.{node, configuration, trailer}
+use Rattle.table.specs.Verdict.{numbered_by}
 use Rattle.store.specs.Store.{two}
-use Rattle.taking.specs.declared.Taking.{Taking}
-use Rattle.taking.specs.declared.Taking.TheVariants.{Taken as was_taken, Table, BadStore, NoPiece, NoRoom}
+use Rattle.taking.specs.declared.TakeRefusal.{TakeRefusal}
+use Rattle.taking.specs.declared.TakeRefusal.TheVariants.{Table, BadStore, NoPiece, NoRoom}
 use Rattle.taking.specs.declared.Taken.{Taken}
 use Rattle.taking.specs.Taking.{taking_number, taking_index, Took}
 
--- a taking: what is handed in, the answer with its outcome's number and index, the store and the rooms after it
+-- a taking: what is handed in, the answer with its number and index, the store and the rooms after it
 pub record Line : Type 0 where
   pub table : List ℕ
   pub store : List ℕ
   pub event : ℕ
   pub table_room : List ℕ
   pub state_room : List ℕ
-  pub answer : Taken
+  pub answer : Result Taken TakeRefusal
   pub number : ℕ
   pub index : ℕ
   pub store_after : List ℕ
@@ -26,10 +27,10 @@ pub record Line : Type 0 where
 -- take answers exactly this: its contract allows this and nothing else
 pub record Answers (x : Line) : Type 0 where
   pub took : Took x.table x.store x.event x.table_room x.state_room x.store_after x.table_after x.state_after x.answer
-  pub only : {s a b : List ℕ} {q : Taken} → Took x.table x.store x.event x.table_room x.state_room s a b q
+  pub only : {s a b : List ℕ} {q : Result Taken TakeRefusal} → Took x.table x.store x.event x.table_room x.state_room s a b q
       → (q ≡ x.answer) × (s ≡ x.store_after) × (a ≡ x.table_after) × (b ≡ x.state_after)
-  pub number_is : taking_number x.answer.outcome ≡ x.number
-  pub index_is : taking_index x.answer.outcome ≡ x.index
+  pub number_is : numbered_by taking_number x.answer ≡ x.number
+  pub index_is : numbered_by taking_index x.answer ≡ x.index
 
 -- Programs as their records, and the table of one with these configurations and V events
 abbrev pub form : ℕ → ℕ → List ℕ → List ℕ
@@ -82,7 +83,7 @@ takes k t s e u x s' =
       event = e;
       table_room = replicate (length u + k) 255;
       state_room = replicate (length x + k) 255;
-      answer = record { outcome = was_taken; table = length u; state = length x };
+      answer = Ok (record { table = length u; state = length x });
       number = 0;
       index = 0;
       store_after = s';
@@ -91,7 +92,7 @@ takes k t s e u x s' =
     }
 
 -- refused, in rooms of a and b bytes
-abbrev pub refused_in : ℕ → ℕ → List ℕ → List ℕ → ℕ → Taking → ℕ → ℕ → Line
+abbrev pub refused_in : ℕ → ℕ → List ℕ → List ℕ → ℕ → TakeRefusal → ℕ → ℕ → Line
 refused_in a b t s e o n i =
     record {
       table = t;
@@ -99,7 +100,7 @@ refused_in a b t s e o n i =
       event = e;
       table_room = replicate a 255;
       state_room = replicate b 255;
-      answer = record { outcome = o; table = 0; state = 0 };
+      answer = Err o;
       number = n;
       index = i;
       store_after = s;

@@ -1,13 +1,14 @@
 -- Demand 1 of taking: "Every call takes its table, state, events and rooms as they come, and returns. Something bad gets the number of the first
 -- check it fails, and then nothing lent has been written." The first sentence is in the contract: `take` has no `requires`.
-use Rattle.std.specs.Prelude.{ℕ, ◌+◌, ◌*◌, ◌<◌, ◌≡◌, ◌≢◌, ◌⊎◌, List, [], ◌∷◌, ◌++◌, length}
+use Rattle.std.specs.Prelude.{ℕ, ◌+◌, ◌*◌, ◌<◌, ◌≡◌, ◌≢◌, ◌⊎◌, Result, List, [], ◌∷◌, ◌++◌, length}
 use Rattle.junior.specs.Program.{size}
 use Rattle.junior.specs.Term.{prog}
 use Rattle.junior.specs.Trace.{Piece}
 use Rattle.table.specs.Records.{configurations}
-use Rattle.table.specs.Verdict.{verdict_of, number_of, index_of}
+use Rattle.table.specs.Verdict.{verdict_of, number_of, index_of, numbered_by}
 use Rattle.store.specs.Stored.{Stored}
 use Rattle.taking.specs.declared.Taken.{Taken}
+use Rattle.taking.specs.declared.TakeRefusal.{TakeRefusal}
 use Rattle.taking.specs.Taking.{taking_number, taking_index, Took}
 use Rattle.taking.specs.TakenWell.{Bytes, Newest}
 
@@ -74,12 +75,12 @@ pub record ByFirstCheck (h : Handed) (n i : ℕ) : Type 0 where
 
 -- of every answer that the contract allows
 pub record Demand1 : Type 0 where
-  pub answered : {t s : List ℕ} {e : ℕ} {tableRoom stateRoom s' tableRoom' stateRoom' : List ℕ} {r : Taken}
+  pub answered : {t s : List ℕ} {e : ℕ} {tableRoom stateRoom s' tableRoom' stateRoom' : List ℕ} {r : Result Taken TakeRefusal}
       → Bytes s
       → Took t s e tableRoom stateRoom s' tableRoom' stateRoom' r
-      → ByFirstCheck (handed t s e tableRoom stateRoom) (taking_number r.outcome) (taking_index r.outcome)
+      → ByFirstCheck (handed t s e tableRoom stateRoom) (numbered_by taking_number r) (numbered_by taking_index r)
   -- "and then nothing lent has been written"
-  pub writes_nothing : {t s : List ℕ} {e : ℕ} {tableRoom stateRoom s' tableRoom' stateRoom' : List ℕ} {r : Taken}
+  pub writes_nothing : {t s : List ℕ} {e : ℕ} {tableRoom stateRoom s' tableRoom' stateRoom' : List ℕ} {r : Result Taken TakeRefusal}
       → Took t s e tableRoom stateRoom s' tableRoom' stateRoom' r
-      → taking_number r.outcome ≢ 0
+      → numbered_by taking_number r ≢ 0
       → (s' ≡ s) × (tableRoom' ≡ tableRoom) × (stateRoom' ≡ stateRoom)

@@ -1,10 +1,12 @@
 -- What the steps of a taking know. Private contracts alone cite this file; no public one does.
-use Rattle.std.specs.Prelude.{ℕ, ◌+◌, ◌*◌, ◌≤◌, ◌<◌, cond, ◌≡◌, ◌≢◌, List, ◌++◌, length, take, drop}
+use Rattle.std.specs.Prelude.{ℕ, ◌+◌, ◌*◌, ◌≤◌, ◌<◌, cond, ◌≡◌, Result, Ok, Err, MatchResult, List, ◌++◌, length, take, drop}
 use Rattle.table.specs.Records.{nodes, configurations, events}
 use Rattle.table.specs.Bytes.{trailer}
 use Rattle.table.specs.Inside.{Loaded}
+use Rattle.table.specs.Verdict.{ending}
 use Rattle.store.specs.Store.{in_use, node_of, piece_length}
-use Rattle.taking.specs.declared.Taking.TheVariants.{Taken as was_taken, NoRoom}
+use Rattle.taking.specs.declared.TakeRefusal.{TakeRefusal}
+use Rattle.taking.specs.declared.TakeRefusal.TheVariants.{NoRoom}
 use Rattle.taking.specs.declared.Taken.{Taken}
 use Rattle.taking.specs.Taking.{has_rooms, Left, Kept}
 
@@ -17,10 +19,11 @@ pub record Holding (t s : List ℕ) (at : ℕ) : Type 0 where
   pub all : 2 + in_use s ≤ length s
 
 -- it was taken, or there was no room
-pub record TookAt (t s : List ℕ) (at : ℕ) (tableRoom stateRoom s' tableRoom' stateRoom' : List ℕ) (r : Taken) : Type 0 where
-  pub outcome_is : r.outcome ≡ cond (has_rooms t (node_of s at) tableRoom stateRoom) was_taken NoRoom
-  pub taken : r.outcome ≡ was_taken → Left t s at tableRoom stateRoom s' tableRoom' stateRoom' r
-  pub refused : r.outcome ≢ was_taken → Kept s tableRoom stateRoom s' tableRoom' stateRoom' r
+pub record TookAt (t s : List ℕ) (at : ℕ) (tableRoom stateRoom s' tableRoom' stateRoom' : List ℕ) (r : Result Taken TakeRefusal) : Type 0 where
+  pub outcome_is : ending r ≡ cond (has_rooms t (node_of s at) tableRoom stateRoom) (Ok tt) (Err NoRoom)
+  pub leaves : MatchResult r
+      (λ x. Left t s at tableRoom stateRoom s' tableRoom' stateRoom' x)
+      (λ why. Kept s tableRoom stateRoom s' tableRoom' stateRoom')
 
 -- what stands in a part of a table behind its n nodes
 abbrev pub behind_nodes : List ℕ → ℕ → List ℕ

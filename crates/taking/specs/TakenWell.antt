@@ -1,21 +1,19 @@
 -- What is taken is the newest piece of its event; it "leaves as a table .. and a state that document 01 accepts"; the other pieces stay in their
 -- order, "and that room serves again".
-use Rattle.std.specs.Prelude.{ℕ, ◌+◌, ◌≤◌, ◌<◌, true, ◌≡◌, ◌≢◌, List, ◌∷◌, ◌++◌, take}
+use Rattle.std.specs.Prelude.{ℕ, ◌+◌, ◌≤◌, ◌<◌, true, ◌≡◌, ◌≢◌, Ok, List, ◌∷◌, ◌++◌, take}
 use Rattle.junior.specs.Program.{Program}
 use Rattle.junior.specs.Term.{Term, prog}
 use Rattle.junior.specs.Trace.{Piece}
 use Rattle.junior.specs.AtRest.{AtRest}
 use Rattle.junior.specs.Parked.{All, stored_length}
 use Rattle.junior.specs.Figures.{figure, G, A, W, F}
-use Rattle.table.specs.declared.Checked.TheVariants.{Accepted}
 use Rattle.table.specs.Records.{byte, nodes, events}
 use Rattle.table.specs.Spells.{tree_of}
-use Rattle.table.specs.Verdict.{verdict_of}
+use Rattle.table.specs.Verdict.{accepted_with, verdict_of}
 use Rattle.state.specs.StateBytes.{state_bytes}
 use Rattle.state.specs.Resting.{blamed}
 use Rattle.store.specs.Store.{store_good, store_room}
 use Rattle.store.specs.Stored.{Stored}
-use Rattle.taking.specs.declared.Taking.TheVariants.{Taken as was_taken}
 use Rattle.taking.specs.declared.Taken.{Taken}
 use Rattle.taking.specs.Taking.{Took}
 
@@ -32,7 +30,7 @@ pub record Newest (t s : List ℕ) (e : ℕ) (older : List Piece) (x : Piece) (n
 -- "a table .. and a state that document 01 accepts": that of the term x, which an instant goes on with by x's own rules, since no other stands there
 pub record Accepts (table state : List ℕ) (x : Term) : Type 0 where
   pub tree : tree_of table ≡ prog x
-  pub accepted : verdict_of table ≡ Accepted (G (prog x)) (A (prog x)) (W (prog x)) (F (prog x))
+  pub accepted : verdict_of table ≡ accepted_with (G (prog x)) (A (prog x)) (W (prog x)) (F (prog x))
   pub state_is : state ≡ state_bytes x
   pub at_rest : AtRest x
   pub none_blamed : blamed table state ≡ nodes table
@@ -57,6 +55,5 @@ pub record TakenWell (t s : List ℕ) (e : ℕ) (s' table state : List ℕ) : Ty
 pub record TakesWell : Type 0 where
   pub well : {t s : List ℕ} {e : ℕ} {tableRoom stateRoom s' tableRoom' stateRoom' : List ℕ} {r : Taken}
       → Bytes s
-      → Took t s e tableRoom stateRoom s' tableRoom' stateRoom' r
-      → r.outcome ≡ was_taken
+      → Took t s e tableRoom stateRoom s' tableRoom' stateRoom' (Ok r)
       → TakenWell t s e s' (take r.table tableRoom') (take r.state stateRoom')

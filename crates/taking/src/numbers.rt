@@ -1,30 +1,28 @@
-// The requirements' number and index of a taking's outcome; a table's verdict has its own in crate table.
+// The requirements' number and index of each refusal of a taking; a table's has its own in crate table.
 ghost use Rattle.std.specs.Prelude.{◌≡◌};
 ghost use Rattle.taking.specs.Taking.{taking_number, taking_index};
 
-use crate::Taking;
-use table::numbers::{Refusal, refusal_of_table};
+use crate::TakeRefusal;
+use table::numbers::Numbered;
 
-pub fn refusal_of_taking(outcome: Taking) -> Refusal
-    ensures { (result.number ≡ taking_number outcome) × (result.index ≡ taking_index outcome) }
-{
-    match outcome {
-        Taking::Taken => Refusal {
-            number: 0,
-            index: 0,
-        },
-        Taking::Table(verdict) => refusal_of_table(verdict),
-        Taking::BadStore => Refusal {
-            number: 25,
-            index: 0,
-        },
-        Taking::NoPiece => Refusal {
-            number: 14,
-            index: 0,
-        },
-        Taking::NoRoom => Refusal {
-            number: 15,
-            index: 0,
-        },
+impl From<TakeRefusal> for Numbered {
+    ghost from_gives = { λ why n. (n.number ≡ taking_number why) × (n.index ≡ taking_index why) };
+
+    fn from(why: TakeRefusal) -> Numbered {
+        match why {
+            TakeRefusal::Table(refusal) => Numbered::from(refusal),
+            TakeRefusal::BadStore => Numbered {
+                number: 25,
+                index: 0,
+            },
+            TakeRefusal::NoPiece => Numbered {
+                number: 14,
+                index: 0,
+            },
+            TakeRefusal::NoRoom => Numbered {
+                number: 15,
+                index: 0,
+            },
+        }
     }
 }

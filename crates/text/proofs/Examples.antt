@@ -6,6 +6,7 @@ use mathlib.Core.Logic.{◌≢◌}
 use mathlib.Core.List.{List, [], ◌∷◌}
 use native.Mathlib.Omega.{arith}
 use lib.ListN.{length, length-replicate}
+use Rattle.std.specs.Prelude.{Result, Ok, Err}
 use Rattle.events.specs.Events.{lowest}
 use Rattle.junior.specs.Figures.{stops, figure}
 use Rattle.letters.specs.Decimal.{decimal}
@@ -14,15 +15,15 @@ use Rattle.junior.specs.Configuration.{Event, Not, And, early_true, early_false}
 use Rattle.junior.specs.Program.{Program, Nothing, Stop, Atom, Seq, Par, Loop, Repeat, Generate, Await, When, Local, Freezable, If, size}
 use Rattle.junior.specs.Program.{kind}
 use Rattle.junior.specs.Values.{asked}
-use Rattle.table.specs.declared.Checked.{Checked}
-use Rattle.table.specs.declared.Checked.TheVariants.{BadLength, BadCounts, EndlessLoop}
+use Rattle.table.specs.declared.TableRefusal.{TableRefusal}
+use Rattle.table.specs.declared.TableRefusal.TheVariants.{BadLength, BadCounts, EndlessLoop}
 use Rattle.table.specs.Good.{is_laid_out, children, argument_limit, good_node, parts, good_but_height, height_at_most}
 use Rattle.table.specs.Good.{good_configuration}
 use Rattle.table.specs.Spells.{weight, configuration_of, form, program_of, tree_of}
 use Rattle.table.specs.Verdict.{length_good, counts_good, distances_good, preorder, first_such, light}
 use Rattle.table.specs.Verdict.{program_verdict, nodes_verdict, records_verdict, verdict_of, number_of}
-use Rattle.text.specs.declared.TextRead.TheVariants as answered
-use Rattle.text.specs.declared.TextPrinted.TheVariants as told
+use Rattle.text.specs.declared.ReadRefusal.TheVariants as answered
+use Rattle.text.specs.declared.PrintRefusal.TheVariants as told
 use Rattle.form.specs.Form.{says_event, Says, whole, says_nothing, says_atom, says_seq, last_of_seq}
 use Rattle.form.specs.Form.{more_of_seq}
 use Rattle.form.specs.Form.{says_par, last_of_par, says_generate, says_await}
@@ -44,7 +45,7 @@ read_whole dead = false
 read_whole (on []) = true
 read_whole (on (s ∷ σ)) = false
 
-fails_here : (w room : List ℕ) → read_whole (run start w) ≡ false → Reads w room room (answered.Fails (reach start w))
+fails_here : (w room : List ℕ) → read_whole (run start w) ≡ false → Reads w room room (Err (answered.Fails (reach start w)))
 fails_here w room h =
     Reads.fails (reach start w) (fails_there w _ (stops_there w start) (λ e. false≢true (sym h ∙ ap read_whole e)))
 
@@ -65,25 +66,23 @@ controls_form zero = tt
 controls_form (suc n) = (omega arith, controls_form n)
 
 too_large : (n : ℕ) → 4096 ≤ n → n ≤ 5460 → (room : List ℕ) → 6 * n + 16 ≤ length room
-    → Reads (spell (controls n)) room room (answered.Refused BadCounts)
-unfolding number_of
+    → Reads (spell (controls n)) room room (Err (answered.Table BadCounts))
 too_large n a b room l =
     let p = controls n in
     let f = controls_form n in
     let e = made_too_large p f (omega (arith, controls_size n, controls_tests n)) (omega (arith, controls_size n)) in
-    rw (← e)
-    (Reads.refused p (says_spell p f)
+    Reads.refused p (says_spell p f)
     (omega (arith, controls_size n, controls_tests n), omega (arith, controls_size n, controls_tests n))
-    (λ z. let two = ap number_of e in omega arith))
+    e
 
 module _ {p : Program} {w : List ℕ} (d : Says (whole p) w) (room : List ℕ) where
-  refuses : Fits (needed p) room → (c : Checked) → verdict_of (table_of p) ≡ c → number_of c ≢ 0 → Reads w room room (answered.Refused c)
-  refuses f c e n = rw (← e) (Reads.refused p d f (rw e n))
+  refuses : Fits (needed p) room → (why : TableRefusal) → verdict_of (table_of p) ≡ Err why → Reads w room room (Err (answered.Table why))
+  refuses f why e = Reads.refused p d f e
 
-  short : length room < needed p → Reads w room room answered.NoRoom
+  short : length room < needed p → Reads w room room (Err answered.NoRoom)
   short l = Reads.no_room p d (λ f. omega arith)
 
-  reads : Fits (needed p) room → number_of (verdict_of (table_of p)) ≡ 0 → Reads w room (beginning (table_of p) room) (answered.Read (needed p))
+  reads : Fits (needed p) room → number_of (verdict_of (table_of p)) ≡ 0 → Reads w room (beginning (table_of p) room) (Ok (needed p))
   reads f e = Reads.read p d f e
 
 -- P, its Seq with three parts
@@ -99,14 +98,14 @@ says_p =
 
 module _ (t room : List ℕ) where
   prints : number_of (verdict_of t) ≡ 0 → length (spell (tree_of t)) ≤ length room
-      → Prints t room (beginning (spell (tree_of t)) room) (told.Printed (length (spell (tree_of t))))
+      → Prints t room (beginning (spell (tree_of t)) room) (Ok (length (spell (tree_of t))))
   prints e l = Prints.printed e l
 
-  no_paper : number_of (verdict_of t) ≡ 0 → length room < length (spell (tree_of t)) → Prints t room room told.NoRoom
+  no_paper : number_of (verdict_of t) ≡ 0 → length room < length (spell (tree_of t)) → Prints t room room (Err told.NoRoom)
   no_paper e l = Prints.no_room e l
 
-  not_printed : (c : Checked) → verdict_of t ≡ c → number_of c ≢ 0 → Prints t room room (told.Refused c)
-  not_printed c e n = rw (← e) (Prints.refused (rw e n))
+  not_printed : (why : TableRefusal) → verdict_of t ≡ Err why → Prints t room room (Err (told.Table why))
+  not_printed why e = Prints.refused e
 
 pub examples : All examples_list
 unfolding run reach decimal spell spell_test table_of trailer nodes_from tests_of test_records named named_in tests size kind weight
@@ -119,7 +118,7 @@ examples =
     (more (fails_here _ [] refl)
     (more (fails_here _ [] refl)
     (more (too_large 4096 (omega arith) (omega arith) (blank 24592) (omega (arith, length-replicate {A = ℕ} 24592 255)))
-    (more (refuses (says_spell (Loop (Await (Event 0))) (tt, omega arith)) (blank 26) (omega arith, omega arith) (EndlessLoop 0) refl (λ e. omega arith))
+    (more (refuses (says_spell (Loop (Await (Event 0))) (tt, omega arith)) (blank 26) (omega arith, omega arith) (EndlessLoop 0) refl)
     (more (short says_nothing (blank 15) (omega arith))
     (more (fails_here _ (blank 15) refl)
     (more (fails_here _ [] refl)
@@ -146,5 +145,5 @@ examples =
     (more (prints if_3 (blank 32) refl (omega arith))
     (more (reads says_p (blank 60) (omega arith, omega arith) refl)
     (more (no_paper shared (blank 31) refl (omega arith))
-    (more (not_printed [] (blank 1) BadLength refl (λ e. omega arith))
+    (more (not_printed [] (blank 1) BadLength refl)
     none)))))))))))))))))))))))))))))))

@@ -3,19 +3,22 @@ use Prim.Native.Nat.{ℕ}
 use mathlib.Core.Path.{◌≡◌, refl, ap, sym, ◌∙◌}
 use mathlib.Core.List.{List}
 use native.Mathlib.Omega.{arith}
-use Rattle.text.specs.declared.TextPrinted.{TextPrinted}
+use Rattle.std.specs.Prelude.{Result, Ok, Err}
+use Rattle.text.specs.declared.PrintRefusal.{PrintRefusal}
+use Rattle.table.proofs.Accepted.{one_refusal, not_both}
+use Rattle.text.specs.declared.PrintRefusal.TheVariants as told
 use Rattle.text.specs.Answers.{Prints, refused, no_room, printed}
 use Rattle.text.specs.Exports.{PrintedInPlaces, print_places}
 
-pub one_print : {t room r₁ r₂ : List ℕ} {a₁ a₂ : TextPrinted} → Prints t room r₁ a₁ → Prints t room r₂ a₂
+pub one_print : {t room r₁ r₂ : List ℕ} {a₁ a₂ : Result ℕ PrintRefusal} → Prints t room r₁ a₁ → Prints t room r₂ a₂
     → (r₁ ≡ r₂) × (a₁ ≡ a₂)
-one_print (refused n) (refused m) = (refl, refl)
-one_print (refused n) (no_room e l) = absurd (n e)
-one_print (refused n) (printed e l) = absurd (n e)
-one_print (no_room e l) (refused n) = absurd (n e)
+one_print (refused n) (refused m) = (refl, ap (λ w. Err (told.Table w)) (one_refusal n m))
+one_print (refused n) (no_room e l) = absurd (not_both e n)
+one_print (refused n) (printed e l) = absurd (not_both e n)
+one_print (no_room e l) (refused n) = absurd (not_both e n)
 one_print (no_room e l) (no_room f m) = (refl, refl)
 one_print (no_room e l) (printed f m) = absurd (omega arith)
-one_print (printed e l) (refused n) = absurd (n e)
+one_print (printed e l) (refused n) = absurd (not_both e n)
 one_print (printed e l) (no_room f m) = absurd (omega arith)
 one_print (printed e l) (printed f m) = (refl, refl)
 

@@ -4,12 +4,13 @@ use mathlib.Core.Path.{◌≡◌, ◌∙◌}
 use mathlib.Core.List.{List, []}
 use native.Mathlib.Omega.{arith}
 use lib.ListN.{length}
+use Rattle.std.specs.Prelude.{Result, Ok, Err}
 use Rattle.table.specs.Spells.{tree_of}
 use Rattle.table.specs.Verdict.{verdict_of, number_of}
 use Rattle.table.specs.Inside.{Placed}
 use Rattle.table.proofs.Loaded.{whole_placed}
 use Rattle.table.proofs.Accepted.{accepted}
-use Rattle.text.specs.declared.TextPrinted.TheVariants as told
+use Rattle.text.specs.declared.PrintRefusal.TheVariants as told
 use Rattle.form.specs.Spelling.{spell}
 use Rattle.text.specs.Answers.{Prints, no_room, printed}
 use Rattle.letters.specs.Rooms.{Puts}
@@ -36,10 +37,10 @@ module _ (t : List ℕ) (e : number_of (verdict_of t) ≡ 0) where
       (p.room ∙ sets_none 0 (spell (tree_of t)), omega (arith, p.next))
 
   module _ {room : List ℕ} {n : ℕ} (long : n ≡ length (spell (tree_of t))) where
-    pub prints_no_room : length room < n → Prints t room room told.NoRoom
+    pub prints_no_room : length room < n → Prints t room room (Err told.NoRoom)
     prints_no_room l = no_room e (omega arith)
 
-    pub prints_all : {new : List ℕ} {r : ℕ} → n ≤ length room → Shows spell t 0 room new 0 r → Prints t room new (told.Printed n)
+    pub prints_all : {new : List ℕ} {r : ℕ} → n ≤ length room → Shows spell t 0 room new 0 r → Prints t room new (Ok n)
     prints_all l s =
         let fits : length (spell (tree_of t)) ≤ length room = omega arith in
         rw (long, (put_whole s).room ∙ sets_front room (spell (tree_of t)) fits) (printed e fits)

@@ -7,14 +7,16 @@ use mathlib.Core.List.{List}
 use native.Mathlib.Omega.{arith}
 use lib.ListN.{take, length}
 use lib.Seq.{take_at}
+use Rattle.std.specs.Prelude.{Result, Ok, Err}
 use Rattle.junior.specs.Program.{Program}
+use Rattle.table.specs.declared.TableRefusal.{TableRefusal}
 use Rattle.table.specs.Spells.{tree_of}
 use Rattle.table.specs.Verdict.{verdict_of, number_of}
 use Rattle.table.proofs.Little.{below_or}
-use Rattle.table.proofs.Accepted.{accepted}
-use Rattle.text.specs.declared.TextRead.{TextRead}
-use Rattle.text.specs.declared.TextRead.TheVariants as answered
-use Rattle.text.specs.declared.TextPrinted.TheVariants as told
+use Rattle.table.proofs.Accepted.{accepted, one_refusal, not_both}
+use Rattle.text.specs.declared.ReadRefusal.{ReadRefusal}
+use Rattle.text.specs.declared.ReadRefusal.TheVariants as answered
+use Rattle.text.specs.declared.PrintRefusal.TheVariants as told
 use Rattle.form.specs.Form.{Says, whole}
 use Rattle.form.specs.Spelling.{spell}
 use Rattle.form.specs.Made.{tests, table_of, needed}
@@ -27,17 +29,17 @@ use Rattle.form.proofs.AcceptedForm.{accepted_form}
 use Rattle.form.proofs.RoundTrip.{round_trip, round_trip_refused}
 
 module _ (t : List ℕ) (a : number_of (verdict_of t) ≡ 0) (room : List ℕ) where
-  back_refused : Fits (needed (tree_of t)) room → number_of (verdict_of (table_of (tree_of t))) ≢ 0
-      → Back t room room (answered.Refused (verdict_of (table_of (tree_of t))))
+  back_refused : Fits (needed (tree_of t)) room → {why : TableRefusal} → verdict_of (table_of (tree_of t)) ≡ Err why
+      → Back t room room (Err (answered.Table why))
   back_refused f n =
       below_or
       2048
       (tests (tree_of t))
-      (λ m. rw (round_trip_refused t a f.1 m) (too_many f m))
-      (λ m. absurd (n (ap number_of (round_trip t a f.1 m).0 ∙ a)))
+      (λ m. rw (one_refusal n (round_trip_refused t a f.1 m)) (too_many f m))
+      (λ m. absurd (not_both (ap number_of (round_trip t a f.1 m).0 ∙ a) n))
 
   back_read : Fits (needed (tree_of t)) room → number_of (verdict_of (table_of (tree_of t))) ≡ 0
-      → Back t room (beginning (table_of (tree_of t)) room) (answered.Read (needed (tree_of t)))
+      → Back t room (beginning (table_of (tree_of t)) room) (Ok (needed (tree_of t)))
   unfolding number_of
   back_read f e =
       below_or
@@ -52,13 +54,13 @@ module _ (t : List ℕ) (a : number_of (verdict_of t) ≡ 0) (room : List ℕ) w
   only : (p : Program) → Says (whole p) (spell (tree_of t)) → p ≡ tree_of t
   only p d = one_reading p (tree_of t) (spell (tree_of t)) d says
 
-  spelling_back : {after : List ℕ} {r : TextRead} → Reads (spell (tree_of t)) room after r → Back t room after r
+  spelling_back : {after : List ℕ} {r : Result ℕ ReadRefusal} → Reads (spell (tree_of t)) room after r → Back t room after r
   spelling_back (fails k f) = absurd (f.unread (tree_of t) says)
   spelling_back (no_room p s n) = too_long (rw (only p s) at n)
-  spelling_back (refused p s f n) = rw (only p s) (back_refused (rw (only p s) at f) (rw (only p s) at n))
+  spelling_back (refused p s f n) = back_refused (rw (only p s) at f) (rw (only p s) at n)
   spelling_back (read p s f e) = rw (only p s) (back_read (rw (only p s) at f) (rw (only p s) at e))
 
-pub read_back : {t paper text room after : List ℕ} {n : ℕ} {r : TextRead} → Prints t paper text (told.Printed n)
+pub read_back : {t paper text room after : List ℕ} {n : ℕ} {r : Result ℕ ReadRefusal} → Prints t paper text (Ok n)
     → Reads (take n text) room after r
     → Back t room after r
 read_back {t} {paper} {text} {room} {after} {n} {r} (printed a l) d =

@@ -1,25 +1,45 @@
-// Programs in written form: reading a text into a table, and printing a table as a text.
+// Programs in written form: reading a text into a table, and printing a table as a text. Both answer the length of what they wrote.
 #![tactic(auto)]
 
-use table::Checked;
+ghost use Rattle.std.specs.Prelude.{◌≡◌};
+ghost use Rattle.text.specs.declared.ReadRefusal.TheVariants as answered;
+ghost use Rattle.text.specs.declared.PrintRefusal.TheVariants as told;
+
+use table::TableRefusal;
 
 pub mod numbers;
 pub mod print;
 pub mod read;
 
-// What reading a text answers; specs/Answers.antt has each case's number, index and length.
-#[derive(Clone, Copy)]
-pub enum TextRead {
+// Why no text was read; specs/Answers.antt has each one's number and index.
+#[derive(Clone, Copy, PartialEq, Eq, Debug)]
+pub enum ReadRefusal {
     Fails(usize),
     NoRoom,
-    Refused(Checked),
-    Read(usize),
+    // The table that the text spells is refused, and so.
+    Table(TableRefusal),
 }
 
-// What printing a table answers.
-#[derive(Clone, Copy)]
-pub enum TextPrinted {
-    Refused(Checked),
+impl From<TableRefusal> for ReadRefusal {
+    ghost from_gives = { λ why r. r ≡ answered.Table why };
+
+    fn from(why: TableRefusal) -> ReadRefusal {
+        ReadRefusal::Table(why)
+    }
+}
+
+// Why no table was printed.
+#[derive(Clone, Copy, PartialEq, Eq, Debug)]
+pub enum PrintRefusal {
+    // The table was refused, and so.
+    Table(TableRefusal),
     NoRoom,
-    Printed(usize),
+}
+
+impl From<TableRefusal> for PrintRefusal {
+    ghost from_gives = { λ why r. r ≡ told.Table why };
+
+    fn from(why: TableRefusal) -> PrintRefusal {
+        PrintRefusal::Table(why)
+    }
 }

@@ -1,44 +1,38 @@
-// The requirements' number and index of each answer (02, L3).
+// The requirements' number and index of each refusal (02, L3); a table's has its own in crate table.
 ghost use Rattle.std.specs.Prelude.{◌≡◌};
 ghost use Rattle.text.specs.Answers.{read_number, read_index, print_number, print_index};
 
-use crate::{TextPrinted, TextRead};
-use table::numbers::{Refusal, refusal_of_table};
+use crate::{PrintRefusal, ReadRefusal};
+use table::numbers::Numbered;
 
-// Of reading.
-pub fn refusal_of_read(answer: TextRead) -> Refusal
-    ensures { (result.number ≡ read_number answer) × (result.index ≡ read_index answer) }
-{
-    match answer {
-        TextRead::Fails(k) => Refusal {
-            number: 21,
-            index: k,
-        },
-        TextRead::NoRoom => Refusal {
-            number: 22,
-            index: 0,
-        },
-        TextRead::Refused(why) => refusal_of_table(why),
-        TextRead::Read(_) => Refusal {
-            number: 0,
-            index: 0,
-        },
+impl From<ReadRefusal> for Numbered {
+    ghost from_gives = { λ why n. (n.number ≡ read_number why) × (n.index ≡ read_index why) };
+
+    fn from(why: ReadRefusal) -> Numbered {
+        match why {
+            ReadRefusal::Fails(k) => Numbered {
+                number: 21,
+                index: k,
+            },
+            ReadRefusal::NoRoom => Numbered {
+                number: 22,
+                index: 0,
+            },
+            ReadRefusal::Table(refusal) => Numbered::from(refusal),
+        }
     }
 }
 
-// Of printing.
-pub fn refusal_of_print(answer: TextPrinted) -> Refusal
-    ensures { (result.number ≡ print_number answer) × (result.index ≡ print_index answer) }
-{
-    match answer {
-        TextPrinted::Refused(why) => refusal_of_table(why),
-        TextPrinted::NoRoom => Refusal {
-            number: 24,
-            index: 0,
-        },
-        TextPrinted::Printed(_) => Refusal {
-            number: 0,
-            index: 0,
-        },
+impl From<PrintRefusal> for Numbered {
+    ghost from_gives = { λ why n. (n.number ≡ print_number why) × (n.index ≡ print_index why) };
+
+    fn from(why: PrintRefusal) -> Numbered {
+        match why {
+            PrintRefusal::Table(refusal) => Numbered::from(refusal),
+            PrintRefusal::NoRoom => Numbered {
+                number: 24,
+                index: 0,
+            },
+        }
     }
 }

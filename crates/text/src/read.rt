@@ -3,30 +3,31 @@ ghost use Rattle.std.specs.Prelude.{◌≡◌, ◌+◌, ◌*◌, ◌≤◌, min,
 ghost use Rattle.text.specs.Answers.{Reads};
 ghost use Rattle.builder.specs.Building.{Buildable};
 
-use crate::TextRead;
+use crate::ReadRefusal;
 use builder::build::build;
-use scanner::scan::{Scanned, scan};
-use table::{Checked, check};
+use form::Sizes;
+use scanner::scan::scan;
+use table::check;
 
 // The longest table that the requirements know.
 const LONGEST: usize = 32778;
 
 // Reads a text into a table at the start of the room. A refusal writes nothing.
-pub fn read(text: &[u8], table: &mut [u8]) -> TextRead
+pub fn read(text: &[u8], table: &mut [u8]) -> Result<usize, ReadRefusal>
     ensures { Reads text.now table.old table.new result }
 {
     let found = scan(text);
     match found {
-        Scanned::Fails(k) => TextRead::Fails(k),
-        Scanned::Counts { n, m, v } => {
-            let long = table_length(n, m);
+        Err(k) => Err(ReadRefusal::Fails(k)),
+        Ok(sizes) => {
+            let long = table_length(sizes.nodes, sizes.tests);
             if LONGEST < long {
-                return TextRead::NoRoom;
+                return Err(ReadRefusal::NoRoom);
             }
             if table.len() < long {
-                return TextRead::NoRoom;
+                return Err(ReadRefusal::NoRoom);
             }
-            read_counted(text, n, m, v, long, table)
+            read_counted(text, sizes, long, table)
         }
     }
 }
@@ -51,18 +52,16 @@ fn table_length(n: usize, m: usize) -> usize
 // Reads a text whose table is so long and fits the room.
 fn read_counted(
     text: &[u8],
-    n: usize,
-    m: usize,
-    v: usize,
+    sizes: Sizes,
     long: usize,
     table: &mut [u8],
-) -> TextRead
-    requires buildable { Buildable text.now n m v long }
+) -> Result<usize, ReadRefusal>
+    requires buildable { Buildable text.now sizes long }
     requires long_in_bounds { long ≤ length table.old }
     ensures { Reads text.now table.old table.new result }
 {
     let mut made = longest();
-    read_through(text, n, m, v, &mut made[..long], table)
+    read_through(text, sizes, &mut made[..long], table)
 }
 
 // A room for the longest table. The `ensures` gives only the length, which lending a part of it needs.
@@ -75,29 +74,17 @@ fn longest() -> [u8; LONGEST]
 // The same with a room of that length, in which the table is made and checked first.
 fn read_through(
     text: &[u8],
-    n: usize,
-    m: usize,
-    v: usize,
+    sizes: Sizes,
     made: &mut [u8],
     table: &mut [u8],
-) -> TextRead
-    requires buildable { Buildable text.now n m v (length made.old) }
+) -> Result<usize, ReadRefusal>
+    requires buildable { Buildable text.now sizes (length made.old) }
     requires made_in_bounds { length made.old ≤ length table.old }
     ensures { Reads text.now table.old table.new result }
 {
-    build(text, n, m, v, made);
-    let verdict = check(made);
-    match verdict {
-        Checked::Accepted {
-            generations: _,
-            atoms: _,
-            nodes: _,
-            parked: _,
-        } => {
-            let long = made.len();
-            table[..long].copy_from_slice(made);
-            TextRead::Read(long)
-        }
-        _ => TextRead::Refused(verdict),
-    }
+    build(text, sizes, made);
+    check(made)?;
+    let long = made.len();
+    table[..long].copy_from_slice(made);
+    Ok(long)
 }

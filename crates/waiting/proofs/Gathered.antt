@@ -8,6 +8,7 @@ use native.Mathlib.Omega.{arith}
 use lib.Dec.{leb}
 use lib.ListN.{get_or}
 use borrow.Author.Tests.{leb-true, leb-false, ne_eqb}
+use Rattle.std.specs.Prelude.{Option as Answer, Some, None}
 use Rattle.events.specs.Events.{Events}
 use Rattle.events.specs.Members.{places, marks}
 use Rattle.junior.specs.Configuration.{Config, Event, Not, And, Or}
@@ -122,19 +123,22 @@ under t b X (Not d) c h = under t b X d _ h.2
 under t b X (And d e) c h = under_lower (lacks d X) (lacks e X) (under t b X d _ h.2) (under t b X e _ h.3)
 under t b X (Or d e) c h = under_lower (lacks d X) (lacks e X) (under t b X d _ h.2) (under t b X e _ h.3)
 
-lowered_places : (o : Option ℕ) → Under o → Tells o (lowered places o)
-lowered_places none h = refl
-lowered_places (some e) h = (omega arith, omega arith)
+-- the lowest of all, if it is below `places`
+lowest_told : (o : Option ℕ) → Under o → {low : ℕ} → low ≡ lowered places o → {r : Answer ℕ}
+    → (low < places → r ≡ Some low) → (places ≤ low → r ≡ None) → Tells o r
+lowest_told none h e there not = not (omega arith)
+lowest_told (some s) h e there not = let is = there (omega arith) in is ∙ ap Some (omega arith)
 
 -- so that is what the code gathers
-pub lacks_as : (t words : List ℕ) (c r : ℕ) → ((i : ℕ) → get_or t i 0 < 256)
-    → r ≡ gathered t words (part_size t c) c places
+pub lacks_as : (t words : List ℕ) (c : ℕ) {low : ℕ} → ((i : ℕ) → get_or t i 0 < 256)
+    → low ≡ gathered t words (part_size t c) c places
+    → {r : Answer ℕ} → (low < places → r ≡ Some low) → (places ≤ low → r ≡ None)
     → LacksAs t c words r
 unfolding gathered
-lacks_as t words c r b e d h =
+lacks_as t words c b e there not d h =
     let n : part_size t c ≡ weight d + 0 = written t c d h ∙ omega arith in
     let all = e ∙ (ap (λ k. gathered t words k c places) n ∙ gathers t words d c 0 places h) in
-    subst (Tells (lacks d (marks words))) (sym all) (lowered_places (lacks d (marks words)) (under t b (marks words) d c h))
+    lowest_told (lacks d (marks words)) (under t b (marks words) d c h) all there not
 
 -- a record more
 pub one_more : (t words : List ℕ) (k c low : ℕ) → 0 < k

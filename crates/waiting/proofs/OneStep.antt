@@ -8,6 +8,8 @@ use native.Mathlib.Omega.{arith}
 use lib.Dec.{eqb}
 use lib.ListN.{length, get_or, length-replicate}
 use borrow.Author.Tests.{lt-ltb, eqb-true}
+use borrow.Author.Rules.{rules}
+use Rattle.std.specs.Prelude.{Option as Answer, Some, None}
 use Rattle.events.specs.Events.{Events}
 use Rattle.events.specs.Members.{places}
 use Rattle.junior.specs.declared.Flag.{Flag}
@@ -43,16 +45,19 @@ use Rattle.waiting.proofs.Standing.{one_standing}
 nothing_there : {A : Type 0} {B : Type 0} {b : B} → none ≡ some b → A
 nothing_there e = let z : ◌≡◌ {A = ℕ} 0 1 = cc in absurd (omega arith)
 
--- a number that tells of an event below `places` is that event; any other tells that there is none
-pub tells_some : (o : Option ℕ) (r : ℕ) → Tells o r → r < places → o ≡ some r
-tells_some none r h l = absurd (omega arith)
-tells_some (some e) r h l = ap some (sym h.0)
+-- an event that is told is that event; where none is, there is none
+pub tells_some : (o : Option ℕ) {r : ℕ} → Tells o (Some r) → o ≡ some r
+tells_some none h = search rules
+tells_some (some e) {r} h = go h
+  where
+    go : Some r ≡ Some e → some e ≡ some r
+    go h = search rules
 
-pub tells_none : (o : Option ℕ) (r : ℕ) → Tells o r → places ≤ r → o ≡ none
-tells_none none r h l = refl
-tells_none (some e) r h l = absurd (omega arith)
+pub tells_none : (o : Option ℕ) → Tells o None → o ≡ none
+tells_none none h = refl
+tells_none (some e) h = search rules
 
-pub tells_not : {o : Option ℕ} → o ≡ none → Tells o places
+pub tells_not : {o : Option ℕ} → o ≡ none → Tells o None
 tells_not e = rw e
 
 -- what x waits for by itself, by whether it is a test and whether it waits for its own event
@@ -104,7 +109,7 @@ module _ {t s : List ℕ} {i : ℕ} where
     view = rw (kind_read ∙ kind_is h, phase_read ∙ phase_is h) (own_view_of x h X e)
 
     -- by the code's tests
-    pub test_waits : is_test k ph ≡ true → (r : ℕ) → ((c : Config) → Configured t (tested t i) c → Tells (lacks c X) r) → Tells (own_wait x X) r
+    pub test_waits : is_test k ph ≡ true → (r : Answer ℕ) → ((c : Config) → Configured t (tested t i) c → Tells (lacks c X) r) → Tells (own_wait x X) r
     test_waits y r l = go (subst (λ b. OwnView t i b (waits_itself k ph) x) y view)
       where
         go : {b : Bool} → OwnView t i true b x → Tells (own_wait x X) r
@@ -146,16 +151,11 @@ event_below {t} {s} {i} {k} h e z =
     omega (arith, h.placed.loaded.framed.v_most, ap (argument_limit t) (e ∙ kind_is h))
 
 -- a node that waits for its own event, which is present, or isn't
-pub event_holds : (X : Events) {s : ℕ} {o : Option ℕ} → o ≡ cond (X s) none (some s) → X s ≡ true → Tells o places
+pub event_holds : (X : Events) {s : ℕ} {o : Option ℕ} → o ≡ cond (X s) none (some s) → X s ≡ true → Tells o None
 event_holds X e y = rw (e, y)
 
-pub event_tells : {t s : List ℕ} {i k r : ℕ} {x : Term} → StandsAt t s i x → k ≡ kind_at t i → waits_itself k (byte s (4 * i)) ≡ true
-    → r ≡ argument_at t i
-    → (X : Events) {o : Option ℕ}
-    → o ≡ cond (X (argument_at t i)) none (some (argument_at t i))
-    → X (argument_at t i) ≡ false
-    → Tells o r
-event_tells h kind_read so r_is X e y = rw (e, y) (r_is, omega (arith, event_below h kind_read so))
+pub event_tells : {s r : ℕ} → r ≡ s → (X : Events) {o : Option ℕ} → o ≡ cond (X s) none (some s) → X s ≡ false → Tells o (Some r)
+event_tells r_is X e y = rw (e, y, r_is)
 
 -- a node that waits by itself is the one
 own_named : {i a : ℕ} {w : Wait} → some (record { node = i; event = a }) ≡ some w → (i ≡ w.node) × (a ≡ w.event)

@@ -1,5 +1,5 @@
 -- The way down from node 0 to the first test that waits: what each step of it asks and gives. No contract of a customer's call cites this file.
-use Rattle.std.specs.Prelude.{ℕ, ◌+◌, ◌*◌, ◌%◌, Bool, false, not, cond, ◌&&◌, ◌||◌, ◌≡◌, List, ◌++◌, eqb, ltb, drop}
+use Rattle.std.specs.Prelude.{ℕ, ◌+◌, ◌*◌, ◌%◌, Bool, false, not, cond, ◌&&◌, ◌||◌, ◌≡◌, List, ◌++◌, eqb, ltb, drop, Option as Answer}
 use Rattle.std.proofs.Math.Option.{Option, none, some}
 use Rattle.events.specs.Events.{Events, put}
 use Rattle.events.specs.Members.{places}
@@ -74,7 +74,7 @@ own_wait (if0 v p q) X = none
 own_wait (if1 v t q) X = none
 own_wait (if2 v p t) X = none
 
-abbrev pub OwnWait : List ℕ → List ℕ → ℕ → Events → ℕ → Type 0
+abbrev pub OwnWait : List ℕ → List ℕ → ℕ → Events → Answer ℕ → Type 0
 OwnWait table state i X r =
     (x : Term) (w : Wait) → StandsAt table state i x → waiting_in i x X ≡ some w → Tells (own_wait x X) r
 

@@ -7,42 +7,41 @@ ghost use Rattle.waiting.specs.Lacking.{lowest_after, LacksAs};
 use events::{EventSet, WORDS, marked};
 use table::records::{part_event, part_kind, part_size};
 
-// Of the configuration at byte c: the lowest event that it mentions and that the words don't mark; `PLACES` if it has none.
-pub fn lacking_event(table: &[u8], c: usize, words: &[u64; WORDS]) -> usize
+// Of the configuration at byte c: the lowest event that it mentions and that the words don't mark.
+pub fn lacking_event(table: &[u8], c: usize, words: &[u64; WORDS]) -> Option<usize>
     requires { ConfigurationAt table.now c }
     ensures { LacksAs table.now c words.now result }
 {
-    let mut left = part_size(table, c);
-    let mut at = c;
     let mut low = EventSet::PLACES;
-    while left > 0 {
-        low = lowest_after(table, at, words, low);
-        at += 4;
-        left -= 1;
+    for record in 0..part_size(table, c) {
+        low = lowest_after(table, c + 4 * record, words, low);
     }
-    low
+    if low < EventSet::PLACES {
+        Some(low)
+    } else {
+        None
+    }
 }
 
-// The lowest so far, the record at byte `at` included.
+// The lowest so far, the record at byte `at` included; `PLACES` while there is none.
 fn lowest_after(table: &[u8], at: usize, words: &[u64; WORDS], low: usize) -> usize
     requires { at + 1 < length table.now }
     ensures { result ≡ lowest_after table.now words.now at low }
 {
     if part_kind(table, at) == 0 {
-        return lower_absent(words, part_event(table, at), low);
+        lower_absent(words, part_event(table, at), low)
+    } else {
+        low
     }
-    low
 }
 
 // The event if it is lower than the lowest so far, which is seldom and therefore asked first, and absent.
 fn lower_absent(words: &[u64; WORDS], event: usize, low: usize) -> usize
     ensures { result ≡ cond (marks words.now event) low (min event low) }
 {
-    if low <= event {
-        return low;
+    if low <= event || marked(words, event) {
+        low
+    } else {
+        event
     }
-    if marked(words, event) {
-        return low;
-    }
-    event
 }

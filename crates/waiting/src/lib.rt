@@ -42,8 +42,7 @@ pub fn waiting(table: &[u8], state: &[u8], events: EventSet) -> Wait
     let mut words = events.words;
     let mut i = 0;
     loop {
-        let event = own_wait(table, state, i, &words);
-        if event < EventSet::PLACES {
+        if let Some(event) = own_wait(table, state, i, &words) {
             return Wait { node: i, event };
         }
         enter(table, state, i, &mut words);
@@ -51,8 +50,8 @@ pub fn waiting(table: &[u8], state: &[u8], events: EventSet) -> Wait
     }
 }
 
-// The event that node i itself waits for, the words' events being present; `PLACES` if it doesn't.
-fn own_wait(table: &[u8], state: &[u8], i: usize, words: &[u64; WORDS]) -> usize
+// The event that node i itself waits for, the words' events being present.
+fn own_wait(table: &[u8], state: &[u8], i: usize, words: &[u64; WORDS]) -> Option<usize>
     requires { SomeLeads table.now state.now i (marks words.now) }
     ensures { OwnWait table.now state.now i (marks words.now) result }
 {
@@ -64,46 +63,38 @@ fn own_wait(table: &[u8], state: &[u8], i: usize, words: &[u64; WORDS]) -> usize
     }
     if waits_itself(kind, phase) {
         let event = argument_at(table, i);
-        if marked(words, event) {
-            return EventSet::PLACES;
+        if !marked(words, event) {
+            return Some(event);
         }
-        return event;
     }
-    EventSet::PLACES
+    None
 }
 
 // An Await or a When in phase 0 and an Until* are tests that wait. The kind comes first: from it the compiler makes one jump for all questions to a node.
 fn is_test(kind: usize, phase: u8) -> bool
     ensures { result ≡ is_test kind phase }
 {
-    if kind == kinds::UNTIL {
-        return phase == STARRED;
+    match kind {
+        kinds::UNTIL => phase == STARRED,
+        kinds::AWAIT | kinds::WHEN => phase == 0,
+        _ => false,
     }
-    if kind == kinds::AWAIT {
-        return phase == 0;
-    }
-    if kind == kinds::WHEN {
-        return phase == 0;
-    }
-    false
 }
 
 fn waits_itself(kind: usize, phase: u8) -> bool
     ensures { result ≡ waits_itself kind phase }
 {
-    if kind == kinds::CONTROL {
-        return true;
+    match kind {
+        kinds::CONTROL => true,
+        kinds::FREEZABLE => phase == STARRED,
+        _ => false,
     }
-    if kind == kinds::FREEZABLE {
-        return phase == STARRED;
-    }
-    false
 }
 
 // Makes the words those of the events that are present below node i.
 fn enter(table: &[u8], state: &[u8], i: usize, words: &mut [u64])
     requires some_stands { SomeStands table.now state.now i }
-    requires words_value { 64 * length words.old ≡ places }
+    requires words_long { 64 * length words.old ≡ places }
     ensures { marks words.new ≡ inside_of table.now state.now i (marks words.old) }
 {
     if kind_at(table, i) == kinds::LOCAL {

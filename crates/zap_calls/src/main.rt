@@ -2,12 +2,12 @@
 // Here are input and output; call.rt makes a line's call.
 #![tactic(auto)]
 
-ghost use Rattle.std.specs.Prelude.{◌≡◌, ◌+◌, ◌≤◌, length};
-ghost use Rattle.call_lines.specs.Rooms.{Rooms};
+ghost use Rattle.std.specs.Prelude.{◌+◌, ◌≤◌, length};
 
 use call::{LONGEST, answer_call};
+use call_lines::Rooms;
 use console::{TURNS, keep_rest, read_some, write_out};
-use octets::find;
+use octets::split_once;
 use std::io::{Read, Write};
 
 mod call;
@@ -40,119 +40,71 @@ fn main(rt: HostRuntime) {
     let mut store = [0u8; STORE];
     let mut input = [0u8; INPUT];
     let mut output = [0u8; OUTPUT];
-    answer_lines(
-        &mut reader,
-        &mut out,
-        &mut table,
-        &mut state,
-        &mut row,
-        &mut text,
-        &mut store,
-        &mut input,
-        &mut output,
-    );
+    let mut rooms = Rooms {
+        table: &mut table,
+        state: &mut state,
+        row: &mut row,
+        text: &mut text,
+        store: &mut store,
+    };
+    answer_lines(&mut reader, &mut out, &mut rooms, &mut input, &mut output);
 }
 
 // Answers the lines of standard input. All of a block's whole lines are answered before the program waits for more.
 fn answer_lines<R: Read, W: Write>(
     reader: &mut R,
     out: &mut W,
-    table: &mut [u8],
-    state: &mut [u8],
-    row: &mut [u16],
-    text: &mut [u8],
-    store: &mut [u8],
-    input: &mut [u8],
-    output: &mut [u8],
-)
-    requires rooms { Rooms table.old state.old row.old text.old store.old }
-    requires input_len { (length input.old ≡ 401408) × (length output.old ≡ 262144) }
-{
+    rooms: &mut Rooms,
+    input: &mut [u8; INPUT],
+    output: &mut [u8; OUTPUT],
+) {
+    // So many bytes of an unfinished line stand at the start of the block.
     let mut held = 0;
     for _ in 0..TURNS {
         let got = read_some(reader, &mut input[held..]).unwrap_or(0);
         if got == 0 {
-            answer_last(out, table, state, row, text, store, &input[..held], output);
+            answer_last(out, rooms, &input[..held], output);
             return;
         }
-        held = answer_block(
-            out,
-            table,
-            state,
-            row,
-            text,
-            store,
-            input,
-            held,
-            held + got,
-            output,
-        );
+        let to = held + got;
+        let left = answer_whole(out, rooms, &input[..to], output);
+        held = keep_rest(input, to - left, to, LONGEST);
     }
 }
 
 // Answers a last line without a newline, if it has a byte.
-fn answer_last<W: Write>(
-    out: &mut W,
-    table: &mut [u8],
-    state: &mut [u8],
-    row: &mut [u16],
-    text: &mut [u8],
-    store: &mut [u8],
-    line: &[u8],
-    output: &mut [u8],
-)
-    requires rooms { Rooms table.old state.old row.old text.old store.old }
-    requires output_len { length output.old ≡ 262144 }
-{
+fn answer_last<W: Write>(out: &mut W, rooms: &mut Rooms, line: &[u8], output: &mut [u8; OUTPUT]) {
     if line.len() == 0 {
         return;
     }
-    let n = answer_call(line, table, state, row, text, store, output);
+    let n = answer_call(line, rooms, output);
     write_out(out, &output[..n]);
 }
 
-// Answers the whole lines among the first `to` bytes of the block, of which the first `held` have no newline, and answers how many bytes are then held.
-fn answer_block<W: Write>(
+// Answers the whole lines of a text, and answers how much is left behind the last of them.
+fn answer_whole<W: Write>(
     out: &mut W,
-    table: &mut [u8],
-    state: &mut [u8],
-    row: &mut [u16],
-    text: &mut [u8],
-    store: &mut [u8],
-    input: &mut [u8],
-    held: usize,
-    to: usize,
-    output: &mut [u8],
+    rooms: &mut Rooms,
+    text: &[u8],
+    output: &mut [u8; OUTPUT],
 ) -> usize
-    requires rooms { Rooms table.old state.old row.old text.old store.old }
-    requires input_len { (length input.old ≡ 401408) × (length output.old ≡ 262144) × (held ≤ to) × (to ≤ length input.old) }
-    ensures { result ≤ 400001 }
+    ensures { result ≤ length text.now }
 {
-    let mut from = 0;
+    let mut rest = text;
     let mut filled = 0;
-    let mut end = find(input, held, to, 10);
-    while end < to {
+    while let Some((line, behind)) = split_once(rest, b'\n') {
         filled = room_for_answer(out, output, filled);
-        filled += answer_call(
-            &input[from..end],
-            table,
-            state,
-            row,
-            text,
-            store,
-            &mut output[filled..],
-        );
-        from = end + 1;
-        end = find(input, from, to, 10);
+        filled += answer_call(line, rooms, &mut output[filled..]);
+        rest = behind;
     }
     write_out(out, &output[..filled]);
-    keep_rest(input, from, to, LONGEST)
+    rest.len()
 }
 
 // Where the next answer goes: where the block has no room for it behind the answers there, these are written out.
-fn room_for_answer<W: Write>(out: &mut W, output: &[u8], filled: usize) -> usize
-    requires { (filled ≤ length output.now) × (length output.now ≡ 262144) }
-    ensures { result + 233000 ≤ length output.now }
+fn room_for_answer<W: Write>(out: &mut W, output: &[u8; OUTPUT], filled: usize) -> usize
+    requires { filled ≤ 262144 }
+    ensures { result + 233000 ≤ 262144 }
 {
     if filled + ANSWER <= output.len() {
         return filled;

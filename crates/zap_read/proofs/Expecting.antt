@@ -8,8 +8,9 @@ use lib.Dec.{eqb}
 use lib.ListN.{length, take, drop, take-append-drop, length-append}
 use lib.Seq.{take_all}
 use borrow.Author.Tests.{eqb-true, eqb-false}
-use Rattle.text.specs.declared.TextRead.{TextRead}
-use Rattle.text.specs.declared.TextRead.TheVariants as answered
+use Rattle.std.specs.Prelude.{Result, Ok, Err}
+use Rattle.text.specs.declared.ReadRefusal.{ReadRefusal}
+use Rattle.text.specs.declared.ReadRefusal.TheVariants as answered
 use Rattle.form.specs.Form.{Says, whole}
 use Rattle.form.specs.Fails.{Begins, Fails}
 use Rattle.form.specs.Made.{table_of}
@@ -17,10 +18,10 @@ use Rattle.text.specs.Answers.{Reads, fails, no_room, refused, read}
 use Rattle.form.proofs.MadeLength.{table_length}
 use Rattle.zap_read.specs.Told.{Told, HasReading}
 
-failed : {text room after : List ℕ} {k : ℕ} → Reads text room after (answered.Fails k) → Fails text k
+failed : {text room after : List ℕ} {k : ℕ} → Reads text room after (Err (answered.Fails k)) → Fails text k
 failed (fails k f) = f
 
-module _ {text room after : List ℕ} {r : TextRead} (o : Reads text room after r) {k : ℕ} (e : r ≡ answered.Fails k) where
+module _ {text room after : List ℕ} {r : Result ℕ ReadRefusal} (o : Reads text room after r) {k : ℕ} (e : r ≡ Err (answered.Fails k)) where
   there : Fails text k
   there = failed (subst (Reads text room after) e o)
 
@@ -44,21 +45,29 @@ module _ {text room after : List ℕ} {r : TextRead} (o : Reads text room after 
           there.no_further lt (p, drop (suc k) text ++ x, subst (Says (whole p)) split d)
 
 -- a table that was read is within its room
-read_fits : {text room after : List ℕ} {n : ℕ} → Reads text room after (answered.Read n) → n ≤ length after
+read_fits : {text room after : List ℕ} {n : ℕ} → Reads text room after (Ok n) → n ≤ length after
 read_fits {room = room} (read p d f v) =
     omega (arith, f.0, table_length p, length-append (table_of p) (drop (length (table_of p)) room))
 
-pub read_within : {text room after : List ℕ} {r : TextRead} → Reads text room after r → {n : ℕ} → r ≡ answered.Read n
+pub read_within : {text room after : List ℕ} {r : Result ℕ ReadRefusal} → Reads text room after r → {n : ℕ} → r ≡ Ok n
     → n ≤ length after
 read_within {text} {room} {after} o e = read_fits (subst (Reads text room after) e o)
 
 -- any other answer is of a text with a reading
-pub others_whole : {text room after : List ℕ} {r : TextRead} → Reads text room after r
-    → ((k : ℕ) → r ≡ answered.Fails k → ⊥) → HasReading text
+others_whole : {text room after : List ℕ} {r : Result ℕ ReadRefusal} → Reads text room after r
+    → ((k : ℕ) → r ≡ Err (answered.Fails k) → ⊥) → HasReading text
 others_whole (fails k f) o = absurd (o k refl)
 others_whole (no_room p d n) o = (p, d)
 others_whole (refused p d f n) o = (p, d)
 others_whole (read p d f n) o = (p, d)
+
+pub read_whole : {text room after : List ℕ} {r : Result ℕ ReadRefusal} → Reads text room after r → {n : ℕ} → r ≡ Ok n → HasReading text
+read_whole o e = others_whole o (λ k f. let z : ◌≡◌ {A = ℕ} 0 1 = cc in absurd (omega arith))
+
+pub refused_whole : {text room after : List ℕ} {r : Result ℕ ReadRefusal} → Reads text room after r → {why : ReadRefusal} → r ≡ Err why
+    → ((k : ℕ) → why ≡ answered.Fails k → ⊥)
+    → HasReading text
+refused_whole o {why} e n = others_whole o (λ k f. let same : why ≡ answered.Fails k = cc in n k same)
 
 pub whole_begins : {text : List ℕ} → HasReading text → Begins text
 whole_begins {text} (p, d) = (p, [], subst (Says (whole p)) (sym (append-nil text)) d)

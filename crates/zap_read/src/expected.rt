@@ -2,7 +2,7 @@
 ghost use Rattle.form.specs.Fails.{Begins};
 ghost use Rattle.zap_read.specs.Told.{Told, HasReading};
 
-use text::TextRead;
+use text::ReadRefusal;
 use text::read::read;
 
 // Some text of the form begins so.
@@ -12,8 +12,11 @@ pub fn begins(text: &[u8]) -> bool
     let mut none = [0u8; 1];
     let answer = read(text, &mut none[..0]);
     match answer {
-        TextRead::Fails(k) => k == text.len(),
-        _ => true,
+        Ok(_) => true,
+        Err(why) => match why {
+            ReadRefusal::Fails(k) => k == text.len(),
+            _ => true,
+        },
     }
 }
 
@@ -24,7 +27,10 @@ pub fn is_whole(text: &[u8]) -> bool
     let mut none = [0u8; 1];
     let answer = read(text, &mut none[..0]);
     match answer {
-        TextRead::Fails(_) => false,
-        _ => true,
+        Ok(_) => true,
+        Err(why) => match why {
+            ReadRefusal::Fails(_) => false,
+            _ => true,
+        },
     }
 }

@@ -9,8 +9,8 @@ use listing::write_table_refused;
 use std::io::Write;
 use std::rt::Files;
 use std::{fs, io};
-use text::TextRead;
-use text::numbers::refusal_of_read;
+use table::numbers::Numbered;
+use text::ReadRefusal;
 use text::read::read;
 use told::tell_failure;
 
@@ -35,6 +35,7 @@ fn main(rt: HostRuntime) -> io::Result<()> {
     Ok(())
 }
 
+// So large an array gets a proof only where a contract tells its length: in `main` itself the check runs out of stack.
 fn text_room() -> [u8; TEXT]
     ensures { length result ≡ 1048577 }
 {
@@ -54,13 +55,15 @@ fn read_text(files: &impl Files, out: &mut impl Write, text: &mut [u8], long: us
     let mut table = table_room();
     let answer = read(&text[..long], &mut table);
     match answer {
-        TextRead::Fails(k) => tell_failure(out, text, long, k),
-        TextRead::Read(n) => write_table(files, out, &table[..n]),
-        _ => {
-            let refusal = refusal_of_read(answer);
-            let n = write_table_refused(&mut table, refusal.number, refusal.index);
-            write_out(out, &table[..n]);
-        }
+        Ok(n) => write_table(files, out, &table[..n]),
+        Err(why) => match why {
+            ReadRefusal::Fails(k) => tell_failure(out, text, long, k),
+            _ => {
+                let refusal = Numbered::from(why);
+                let n = write_table_refused(&mut table, refusal.number, refusal.index);
+                write_out(out, &table[..n]);
+            }
+        },
     }
 }
 

@@ -4,23 +4,18 @@
 // empty.
 #![tactic(auto)]
 
-use console::{print_decimal, read_all, read_file, read_table, write_out};
-use events::EventSet;
+use console::{TABLE, read_all, read_named, read_table, write_out};
 use listing::read_events;
-use octets::find;
+use octets::split_once;
 use std::fs::OpenOptions;
 use std::io::Write;
 use std::rt::Files;
 use std::{fs, io};
-use table::numbers::Refusal;
-use taking::numbers::refusal_of_taking;
-use taking::{Taking, take};
+use table::numbers::Numbered;
+use taking::{TakeRefusal, take};
 
 // An event has at most four digits; with its newline, and one byte more, so that a longer input is seen to be longer.
 const LINE: usize = 6;
-
-// One byte more than the longest table, so that a longer file is seen to be longer.
-const TABLE: usize = 32779;
 
 // As much of a store as two bytes can count, and these two. What a longer file has behind that stays as it is.
 const STORE: usize = 65537;
@@ -34,40 +29,41 @@ fn main(rt: HostRuntime) -> io::Result<()> {
     let mut line = [0u8; LINE];
     let long = read_all(&mut rt.stdin(), &mut line)?;
     let mut out = rt.stdout();
-    let event = event_of(&line[..long]);
-    if event == EventSet::PLACES {
+    let Some(event) = event_of(&line[..long]) else {
         write_out(&mut out, b"bad-line\n");
         return Ok(());
-    }
+    };
     take_piece(&rt, &mut out, event);
     Ok(())
 }
 
-// The event that is all of an input but for its newline, if it has one; `PLACES` if it is something else.
-fn event_of(input: &[u8]) -> usize {
-    let end = find(input, 0, input.len(), 10);
-    if end + 1 < input.len() {
-        return EventSet::PLACES;
+// The event that is all of an input but for its newline, if it has one.
+fn event_of(input: &[u8]) -> Option<usize> {
+    let Some((line, behind)) = split_once(input, b'\n') else {
+        return event_in(input);
+    };
+    if behind.len() != 0 {
+        return None;
     }
-    let line = &input[..end];
-    // Numbers are told apart by spaces, so without one there is one number.
-    if find(line, 0, line.len(), 32) < line.len() {
-        return EventSet::PLACES;
+    event_in(line)
+}
+
+// The event that is all of a line: numbers are told apart by spaces, so without one there is one number.
+fn event_in(line: &[u8]) -> Option<usize> {
+    if split_once(line, b' ').is_some() {
+        return None;
     }
-    let read = read_events(line, 32);
-    if read.good {
-        return read.events.lowest();
-    }
-    EventSet::PLACES
+    let events = read_events(line, b' ')?;
+    Some(events.lowest())
 }
 
 // Takes the newest piece of the event out of the files' table and store.
 fn take_piece(files: &impl Files, out: &mut impl Write, event: usize) {
     let mut table = [0u8; TABLE];
     let mut store = [0u8; STORE];
-    let n = read_table(files, &mut table);
-    let m = read_file(files, b"store.bin", &mut store);
-    take_from(files, out, &table[..n], &mut store[..m], event);
+    let long = read_named(files, "store.bin", &mut store).len();
+    let table = read_table(files, &mut table);
+    take_from(files, out, table, &mut store[..long], event);
 }
 
 fn take_from(
@@ -80,12 +76,10 @@ fn take_from(
     let mut piece_table = [0u8; PIECE_TABLE];
     let mut piece_state = [0u8; PIECE_STATE];
     let taken = take(table, store, event, &mut piece_table, &mut piece_state);
-    let outcome = taken.outcome;
-    let refusal = refusal_of_taking(outcome);
-    match outcome {
-        Taking::Taken => {
-            let table_length = taken.table;
-            let state_length = taken.state;
+    match taken {
+        Ok(lengths) => {
+            let table_length = lengths.table;
+            let state_length = lengths.state;
             write_piece(
                 files,
                 out,
@@ -94,41 +88,37 @@ fn take_from(
                 store,
             );
         }
-        Taking::BadStore => tell(out, b"store", refusal),
-        Taking::NoPiece => tell(out, b"event", refusal),
-        _ => tell(out, b"table", refusal),
+        Err(why) => tell_refused(out, why),
     }
+}
+
+// Tells what was refused, and how.
+fn tell_refused(out: &mut impl Write, why: TakeRefusal) {
+    let what = match why {
+        TakeRefusal::BadStore => "store",
+        TakeRefusal::NoPiece => "event",
+        _ => "table",
+    };
+    let Numbered { number, index } = Numbered::from(why);
+    // A line that can't be written is passed over.
+    let _ = writeln!(out, "{what} refused {number} {index}");
 }
 
 // The store last: a piece that can't be written stays in it.
 fn write_piece(files: &impl Files, out: &mut impl Write, table: &[u8], state: &[u8], store: &[u8]) {
-    if write_file(files, "piece-table.bin", table) {
-        if write_file(files, "piece-state.bin", state) {
-            if update_file(files, "store.bin", store).is_ok() {
-                return;
-            }
-        }
+    if write_files(files, table, state, store).is_err() {
+        write_out(out, b"the piece or the store can't be written\n");
     }
-    write_out(out, b"the piece or the store can't be written\n");
 }
 
-// Makes a file of a text, and answers whether that was possible.
-fn write_file(files: &impl Files, name: &str, text: &[u8]) -> bool {
-    fs::write(files, name, text).is_ok()
+fn write_files(files: &impl Files, table: &[u8], state: &[u8], store: &[u8]) -> io::Result<()> {
+    fs::write(files, "piece-table.bin", table)?;
+    fs::write(files, "piece-state.bin", state)?;
+    update_file(files, "store.bin", store)
 }
 
 // Writes a text over the start of a file that is there.
 fn update_file(files: &impl Files, name: &str, text: &[u8]) -> io::Result<()> {
     let mut file = OpenOptions::new().read(true).write(true).open(files, name)?;
     file.write_all(text)
-}
-
-// Tells what was refused, and how.
-fn tell(out: &mut impl Write, what: &[u8], refusal: Refusal) {
-    write_out(out, what);
-    write_out(out, b" refused ");
-    print_decimal(out, refusal.number as u64);
-    write_out(out, b" ");
-    print_decimal(out, refusal.index as u64);
-    write_out(out, b"\n");
 }

@@ -1,11 +1,8 @@
 -- `joined_words` meets its contract: those so far, with those left, are all.
-use borrow.Author.Rules.{rules}
 use Prim.Native.Nat.{◌-◌}
-use mathlib.Core.Path.{◌≡◌, refl, sym, ◌∙◌}
-use native.Mathlib.Omega.{arith}
+use mathlib.Core.Path.{◌≡◌}
 use lib.ListN.{length, drop}
 use Rattle.kernel.specs.Lowest.{joined}
-use Rattle.kernel.proofs.Unlisted.{join_more, join_all}
 use Rattle.kernel.proofs.joined_words.Given as goal
 
 abbrev pub invariant-loop-at : goal.invariant-loop-at

@@ -1,8 +1,7 @@
 -- `lowest_from` meets its contract: in v's own word, or in those behind it.
 use Prim.Native.Nat.{◌+◌, ◌*◌, ◌/◌}
-use mathlib.Core.Path.{◌≡◌, sym, ap, ◌∙◌}
+use mathlib.Core.Path.{sym, ◌∙◌}
 use native.Mathlib.Omega.{arith}
-use borrow.Author.Rules.{rules}
 use lib.Count.{trailing_le}
 use Rattle.events.proofs.Sets.{whole}
 use Rattle.kernel.proofs.Unlisted.{onward, over_word, found, none_found, lowest_further, none_behind}

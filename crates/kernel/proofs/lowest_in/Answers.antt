@@ -1,10 +1,9 @@
 -- `lowest_in` meets its contract: no event of the words before word `at` is marked.
-use borrow.Author.Rules.{rules}
-use Prim.Native.Nat.{◌-◌, ◌*◌, ◌≤◌}
+use Prim.Native.Nat.{◌*◌}
 use native.Mathlib.Omega.{arith}
 use lib.Count.{trailing_le}
-use lib.ListN.{length, get_or}
-use Rattle.kernel.proofs.Unlisted.{Unmarked, over_whole, found_whole, none_found}
+use lib.ListN.{get_or}
+use Rattle.kernel.proofs.Unlisted.{over_whole, found_whole, none_found}
 use Rattle.kernel.proofs.lowest_in.Goals as goal
 
 -- while at < WORDS {

@@ -1,10 +1,7 @@
 -- `lowest_in` meets its contract: no event of the words before word `at` is marked.
-use borrow.Author.Rules.{rules}
 use Prim.Native.Nat.{◌-◌, ◌*◌, ◌≤◌}
-use native.Mathlib.Omega.{arith}
-use lib.Count.{trailing_le}
-use lib.ListN.{length, get_or}
-use Rattle.kernel.proofs.Unlisted.{Unmarked, over_whole, found_whole, none_found}
+use lib.ListN.{length}
+use Rattle.kernel.proofs.Unlisted.{Unmarked}
 use Rattle.kernel.proofs.lowest_in.Given as goal
 
 abbrev pub invariant-loop-at : goal.invariant-loop-at

@@ -2,9 +2,11 @@
 use mathlib.Core.Path.{sym, ap, ◌∙◌}
 use native.Mathlib.Omega.{arith}
 use borrow.Author.Rules.{rules}
+use Rattle.std.specs.Prelude.{Err}
+use Rattle.std.proofs.lemmas.Result.{err_from_is_err_and}
 use Rattle.events.specs.Members.{members}
 use Rattle.table.proofs.Subtrees.{rooted}
-use Rattle.kernel.specs.declared.Outcome.TheVariants.{NotAtRest, UnlistedEvent}
+use Rattle.kernel.specs.declared.Refusal.TheVariants.{NotAtRest, UnlistedEvent}
 use Rattle.kernel.specs.Answer.{rooms}
 use Rattle.kernel.proofs.Accepted.{admitted}
 use Rattle.kernel.proofs.Outcomes.{instant_refused, short_room, not_at_rest, unlisted_event, short_row}
@@ -14,71 +16,73 @@ use Rattle.kernel.proofs.outcome_of.Goals as goal
 -- let n = word_at(table, table.len() - 10);
 pub overflow_sub-table : goal.overflow_sub-table
 overflow_sub-table c =
-    let frame = (admitted c.args.table.now (sym c.check-verdict.ensures ∙ c.in-Accepted.is)).loaded.framed in
+    let frame = (admitted c.args.table.now (sym c.in_ok-most.ensures)).loaded.framed in
     omega arith
 
 pub word_at-n-requires : goal.word_at-n-requires
 word_at-n-requires c =
-    let frame = (admitted c.args.table.now (sym c.check-verdict.ensures ∙ c.in-Accepted.is)).loaded.framed in
+    let frame = (admitted c.args.table.now (sym c.in_ok-most.ensures)).loaded.framed in
     omega arith
 
--- return Outcome::StateRoom;
+-- return Err(Refusal::StateRoom);
 pub returns-then-state-n : goal.returns-then-state-n
 returns-then-state-n c =
-    short_room c.args.table.now c.args.state.now (sym c.check-verdict.ensures ∙ c.in-Accepted.is) (members c.args.events) (rooms c.args.atoms.now c.args.store.now)
+    short_room c.args.table.now c.args.state.now (sym c.in_ok-most.ensures) (members c.args.events) (rooms c.args.atoms.now c.args.store.now)
     (rw c.word_at-n.ensures.0 at c.if-state-n.true)
 
 -- let i = first_blamed(table, n, state);
 pub first_blamed-i-requires : goal.first_blamed-i-requires
 first_blamed-i-requires c =
-    let loaded = (admitted c.args.table.now (sym c.check-verdict.ensures ∙ c.in-Accepted.is)).loaded in
-    record { rooted = rw c.word_at-n.ensures.0 (rooted loaded); n_in_bounds = c.if-state-n.false }
+    let loaded = (admitted c.args.table.now (sym c.in_ok-most.ensures)).loaded in
+    record { rooted = rw c.word_at-n.ensures.0 (rooted loaded); state_long = c.if-state-n.false }
 
--- return Outcome::NotAtRest(i);
+-- return Err(Refusal::NotAtRest(i));
 pub returns-then-i-n : goal.returns-then-i-n
 returns-then-i-n c =
-    ap NotAtRest (rw c.word_at-n.ensures.0 at c.first_blamed-i.ensures)
-    ∙ not_at_rest c.args.table.now c.args.state.now (sym c.check-verdict.ensures ∙ c.in-Accepted.is) (members c.args.events) (rooms c.args.atoms.now c.args.store.now)
+    ap (λ i. Err (NotAtRest i)) (rw c.word_at-n.ensures.0 at c.first_blamed-i.ensures)
+    ∙ not_at_rest c.args.table.now c.args.state.now (sym c.in_ok-most.ensures) (members c.args.events) (rooms c.args.atoms.now c.args.store.now)
     (rw c.word_at-n.ensures.0 at c.if-state-n.false) (rw (c.first_blamed-i.ensures, c.word_at-n.ensures.0) at c.if-i-n.true)
 
 -- let v = word_at(table, table.len() - 6);
-pub overflow_sub-table-in-Accepted : goal.overflow_sub-table-in-Accepted
-overflow_sub-table-in-Accepted c =
-    let frame = (admitted c.args.table.now (sym c.check-verdict.ensures ∙ c.in-Accepted.is)).loaded.framed in
+pub overflow_sub-table-2 : goal.overflow_sub-table-2
+overflow_sub-table-2 c =
+    let frame = (admitted c.args.table.now (sym c.in_ok-most.ensures)).loaded.framed in
     omega arith
 
 pub word_at-v-requires : goal.word_at-v-requires
 word_at-v-requires c =
-    let frame = (admitted c.args.table.now (sym c.check-verdict.ensures ∙ c.in-Accepted.is)).loaded.framed in
+    let frame = (admitted c.args.table.now (sym c.in_ok-most.ensures)).loaded.framed in
     omega arith
 
--- return Outcome::UnlistedEvent(e);
+-- return Err(Refusal::UnlistedEvent(e));
 pub returns-then-e-lt-PLACES : goal.returns-then-e-lt-PLACES
 returns-then-e-lt-PLACES c =
     let found = rw c.word_at-v.ensures.0 at c.lowest_from-e.ensures in
-    ap UnlistedEvent found
-    ∙ unlisted_event c.args.table.now c.args.state.now (sym c.check-verdict.ensures ∙ c.in-Accepted.is) (members c.args.events) (rooms c.args.atoms.now c.args.store.now)
+    ap (λ e. Err (UnlistedEvent e)) found
+    ∙ unlisted_event c.args.table.now c.args.state.now (sym c.in_ok-most.ensures) (members c.args.events) (rooms c.args.atoms.now c.args.store.now)
     (rw c.word_at-n.ensures.0 at c.if-state-n.false) (rw (c.first_blamed-i.ensures, c.word_at-n.ensures.0) at c.if-i-n.false) (rw found at c.if-e-lt-PLACES.true)
 
--- return store_outcome(table, store, parked);
+-- return store_outcome(table, store, most.parked);
 pub store_outcome-requires : goal.store_outcome-requires
 store_outcome-requires c =
-    (admitted c.args.table.now (sym c.check-verdict.ensures ∙ c.in-Accepted.is)).loaded
+    (admitted c.args.table.now (sym c.in_ok-most.ensures)).loaded
 
 pub returns-then-most-atoms : goal.returns-then-most-atoms
 returns-then-most-atoms c =
     c.store_outcome.ensures
-    ∙ by_store c.args.table.now c.args.state.now (sym c.check-verdict.ensures ∙ c.in-Accepted.is) (members c.args.events) (rooms c.args.atoms.now c.args.store.now)
+    ∙ by_store c.args.table.now c.args.state.now (sym c.in_ok-most.ensures) (members c.args.events) (rooms c.args.atoms.now c.args.store.now)
     (rw c.word_at-n.ensures.0 at c.if-state-n.false) (rw (c.first_blamed-i.ensures, c.word_at-n.ensures.0) at c.if-i-n.false)
     (rw (rw c.word_at-v.ensures.0 at c.lowest_from-e.ensures) at c.if-e-lt-PLACES.false) c.if-most-atoms.true
 
 -- fn outcome_of
-pub returns-else-most-atoms : goal.returns-else-most-atoms
-returns-else-most-atoms c =
-    short_row c.args.table.now c.args.state.now (sym c.check-verdict.ensures ∙ c.in-Accepted.is) (members c.args.events) (rooms c.args.atoms.now c.args.store.now)
+pub returns : goal.returns
+returns c =
+    short_row c.args.table.now c.args.state.now (sym c.in_ok-most.ensures) (members c.args.events) (rooms c.args.atoms.now c.args.store.now)
     (rw c.word_at-n.ensures.0 at c.if-state-n.false) (rw (c.first_blamed-i.ensures, c.word_at-n.ensures.0) at c.if-i-n.false)
     (rw (rw c.word_at-v.ensures.0 at c.lowest_from-e.ensures) at c.if-e-lt-PLACES.false) c.if-most-atoms.false
 
-pub returns-in_default : goal.returns-in_default
-returns-in_default c =
-    instant_refused c.args.table.now c.args.state.now (members c.args.events) (rooms c.args.atoms.now c.args.store.now) c.check-verdict.result c.check-verdict.ensures c.in_default.not-Accepted
+-- let most = check(table)?;
+pub returns-in_err-most : goal.returns-in_err-most
+returns-in_err-most c =
+    let (why, is_err, same) = err_from_is_err_and c.from_residual.result c.from_residual.ensures.1 in
+    is_err ∙ (ap Err same ∙ instant_refused c.args.table.now c.args.state.now (members c.args.events) (rooms c.args.atoms.now c.args.store.now) c.in_err-most.ensures)

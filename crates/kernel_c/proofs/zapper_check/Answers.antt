@@ -1,26 +1,24 @@
 -- `zapper_check` meets its contract: the verdict's number, index and figures, in their places.
-use mathlib.Core.Path.{◌≡◌, ap, sym}
+use mathlib.Core.Path.{◌≡◌, refl}
 use mathlib.Core.List.{[], ◌∷◌}
-use Prim.Native.Nat.{ℕ}
-use borrow.Author.Rules.{rules}
-use Rattle.table.specs.declared.Checked.{Checked}
-use Rattle.table.specs.Verdict.{number_of, index_of, Figures, figures_of}
+use Rattle.std.specs.Prelude.{Ok, Err}
+use Rattle.std.specs.Result.{ResultUnwrapsOrElse}
+use Rattle.table.specs.declared.Figures.{Figures}
+use Rattle.table.specs.declared.TableRefusal.{TableRefusal}
+use Rattle.table.specs.declared.numbers.Numbered.{Numbered}
+use Rattle.table.specs.Verdict.{Verdict, Numbers, refusal_number, refusal_index, number_of, index_of, figures_of}
 use Rattle.kernel.specs.Exports.{check_places}
-use Rattle.kernel.proofs.Outcomes.{no_figures_of}
 use Rattle.kernel_c.proofs.zapper_check.Goals as goal
 
-places : (c v : Checked) (n i : ℕ) (f : Figures) → c ≡ v → n ≡ number_of c → i ≡ index_of c → f ≡ figures_of c
-    → (n ∷ i ∷ f.generations ∷ f.atoms ∷ f.nodes ∷ f.parked ∷ []) ≡ check_places v
-places c v n i f e a b d = rw (a, b, d) (ap check_places e)
+places : (c : Verdict) (n : Numbered) (f : Figures) (Zeros : Figures → Type 0)
+    → Numbers (λ (why : TableRefusal) (n : Numbered). (n.number ≡ refusal_number why) × (n.index ≡ refusal_index why)) c n
+    → ResultUnwrapsOrElse c Zeros f
+    → ((x : Figures) → Zeros x → (x.generations ≡ 0) × ((x.atoms ≡ 0) × ((x.nodes ≡ 0) × (x.parked ≡ 0))))
+    → (n.number ∷ n.index ∷ f.generations ∷ f.atoms ∷ f.nodes ∷ f.parked ∷ []) ≡ check_places c
+unfolding number_of index_of figures_of
+places (Ok x) n f Zeros (a, b) e zeros = rw (a, b, e) refl
+places (Err why) n f Zeros (a, b) e zeros = rw (a, b, (zeros f e).0, (zeros f e).1.0, (zeros f e).1.1.0, (zeros f e).1.1.1) refl
 
 -- *answer = [..];
-pub returns-in-Accepted : goal.returns-in-Accepted
-unfolding figures_of
-returns-in-Accepted c =
-    places _ _ _ _ _ c.check-verdict.ensures c.refusal_of_table-refusal.ensures.0 c.refusal_of_table-refusal.ensures.1 (sym (ap figures_of c.in-Accepted.is))
-
--- *answer = [refusal.number as u64, refusal.index as u64, 0, 0, 0, 0];
-pub returns-in_default : goal.returns-in_default
-returns-in_default c =
-    let figures = no_figures_of c.check-verdict.result c.in_default.not-Accepted in
-    places _ _ _ _ _ c.check-verdict.ensures c.refusal_of_table-refusal.ensures.0 c.refusal_of_table-refusal.ensures.1 figures
+pub returns : goal.returns
+returns c = rw (← c.check-verdict.ensures) (places c.check-verdict.result _ _ _ c.of-refusal.ensures c.unwrap_or_default-figures.ensures (λ x z. z))

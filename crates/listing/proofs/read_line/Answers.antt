@@ -1,28 +1,26 @@
 -- `read_line` meets its contract: an empty line, a line that is too long, and any other line.
-use mathlib.Core.Path.{refl}
+use mathlib.Core.Path.{◌≡◌, refl}
+use Prim.Native.Nat.{◌<◌}
 use native.Mathlib.Omega.{arith}
-use Rattle.listing.specs.Inside.{figure}
-use Rattle.listing.proofs.Reading.{empty_line, long_line, other_line}
+use Rattle.std.proofs.lemmas.Grind.{common_steps}
+use lib.ListN.{length}
+use Rattle.letters.specs.Decimal.{figure}
+use Rattle.listing.proofs.Reading.{empty_line, long_line, read_by}
 use Rattle.listing.proofs.read_line.Goals as goal
 
-pub returns-then-line-eq0 : goal.returns-then-line-eq0
-returns-then-line-eq0 c =
-    let if1 = c.if-line-eq0 in
-    let empty = c.empty in
-    rw empty.ensures (empty_line c.args.line.now if1.true)
+pub returns-then-is_empty : goal.returns-then-is_empty
+returns-then-is_empty c =
+    let none : length c.args.line.now ≡ 0 = grind (arith, common_steps) in
+    rw c.empty.ensures (empty_line c.args.line.now none)
+
+pub returns-then-line-gt-LONGEST : goal.returns-then-line-gt-LONGEST
+returns-then-line-gt-LONGEST c = long_line c.args.line.now c.if-line-gt-LONGEST.true
 
 pub read_events-requires : goal.read_events-requires
 unfolding figure
 read_events-requires c = refl
 
-pub returns-then-line-le-LONGEST : goal.returns-then-line-le-LONGEST
-returns-then-line-le-LONGEST c =
-    let if2 = c.if-line-le-LONGEST in
-    let read-events = c.read_events in
-    other_line c.args.line.now (omega arith) if2.true read-events.ensures
-
 pub returns : goal.returns
 returns c =
-    let if2 = c.if-line-le-LONGEST in
-    let bad = c.bad_line in
-    rw (bad.ensures.0, bad.ensures.1) (long_line c.args.line.now if2.false)
+    let some : 0 < length c.args.line.now = grind (arith, common_steps) in
+    read_by c.args.line.now some c.if-line-gt-LONGEST.false c.read_events.result c.read_events.ensures

@@ -1,34 +1,29 @@
 -- `write_bad` meets its contract: two fields.
 use mathlib.Core.List.{[]}
 use native.Mathlib.Omega.{arith}
+use Rattle.std.proofs.lemmas.Grind.{common_steps}
 use Rattle.letters.specs.Decimal.{decimal}
 use Rattle.letters.specs.Text.{bytes}
 use Rattle.letters.proofs.Decimal.{decimal_length}
+use Rattle.letters.proofs.Writes.{number_ends}
 use Rattle.listing.specs.Output.{bad_line}
-use Rattle.letters.proofs.Puts.{number_end}
 use Rattle.listing.proofs.Room.{bad_fits}
-use Rattle.listing.proofs.Lines.{puts_field, puts_last, written, unwritten}
+use Rattle.listing.proofs.Lines.{writes_field, writes_last, written, unwritten}
 use Rattle.listing.proofs.write_bad.Goals as goal
 
--- let a = put_number(room, 0, number, 32);
-pub put_number-a-requires : goal.put_number-a-requires
-put_number-a-requires c =
-    omega (arith, decimal_length 19 c.args.number (omega arith))
+-- out.number(number, b' ');
+pub number-requires : goal.number-requires
+number-requires c = omega (arith, decimal_length 19 c.args.number (omega arith))
 
--- put_text(room, a, b"bad-line\n")
-pub put_text-requires : goal.put_text-requires
-put_text-requires c =
-    let put-number = c.put_number-a in
-    omega (arith, put-number.auto.room, number_end 19 c.args.number 32 (omega arith) put-number.ensures)
+-- out.text(b"bad-line\n");
+pub text-requires : goal.text-requires
+text-requires c = omega (arith, c.number.ensures.long, number_ends 19 c.args.number 32 (omega arith) c.number.ensures)
 
 pub returns : goal.returns
 unfolding bad_line
 returns c =
-    let put-number = c.put_number-a in
-    let put-text = c.put_text in
-    let number = decimal c.args.number in
-    written (bad_fits c.args.number (omega arith)) (omega arith)
-    (puts_field number (bytes "bad-line") [] put-number.ensures (puts_last (bytes "bad-line") put-text.ensures))
+    let all = writes_field (decimal c.args.number) (bytes "bad-line") [] c.number.ensures (writes_last (bytes "bad-line") c.text.ensures) in
+    written (bad_fits c.args.number (omega arith)) (omega arith) (grind (arith, common_steps, all.puts, all.same_room))
 
 pub returns-then-room-lt-MORE : goal.returns-then-room-lt-MORE
 returns-then-room-lt-MORE c = unwritten _ (omega arith)

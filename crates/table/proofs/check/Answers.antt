@@ -1,52 +1,34 @@
 -- `table::check` meets its contract.
-use borrow.Author.Rules.{rules}
-use mathlib.Core.Path.{sym, ◌∙◌}
-use Rattle.table.specs.Records.{configurations}
-use Rattle.table.specs.Good.{good_configuration}
+use mathlib.Core.Path.{sym, ap, ◌∙◌}
+use Rattle.std.specs.Prelude.{Err}
+use Rattle.std.proofs.lemmas.Result.{err_from_is_err_and}
 use Rattle.table.proofs.Framing.{frame_counts, verdict_refused, verdict_records, records_bad, records_good}
-use Rattle.table.proofs.Lowest.{none_bad}
 use Rattle.table.proofs.check.Goals as goal
 
--- let bad = first_bad(table, n, m, v);
-pub first_bad-bad-requires : goal.first_bad-bad-requires
-first_bad-bad-requires c =
-    let is_framed = c.frame_of-found in
-    frame_counts _ _ _ _ (sym is_framed.ensures ∙ c.in-Counts.is)
+-- let Counts { n, m, v } = frame::frame_of(table)?;
+pub returns-in_err-n : goal.returns-in_err-n
+returns-in_err-n c =
+    let (why, is_err, same) = err_from_is_err_and c.from_residual.result c.from_residual.ensures.1 in
+    is_err ∙ (ap Err same ∙ verdict_refused _ (sym c.in_err-n.ensures))
 
--- return Checked::BadConfiguration(bad);
-pub returns-then-bad-m : goal.returns-then-bad-m
-returns-then-bad-m c =
-    let is_framed = c.frame_of-found in
-    let first-bad = c.first_bad-bad in
-    let if1 = c.if-bad-m in
+-- if let Some(bad) = first_bad(table, n, m, v) {
+pub first_bad-requires : goal.first_bad-requires
+first_bad-requires c = frame_counts _ _ (sym c.in_ok-n.ensures)
+
+-- return Err(TableRefusal::BadConfiguration(bad));
+pub returns-in-Some : goal.returns-in-Some
+returns-in-Some c =
     let t = c.args.table.now in
-    let counts = sym is_framed.ensures ∙ c.in-Counts.is in
-    let f = frame_counts t _ _ _ counts in
-    records_bad t _ first-bad.ensures (rw f.m_is at if1.true) ∙ verdict_records t counts
+    let bad = c.in-Some.ensures in
+    records_bad t _ bad.1 bad.0 ∙ verdict_records t (sym c.in_ok-n.ensures)
 
 -- nodes::check_nodes(table, n, m, v)
 pub check_nodes-requires : goal.check_nodes-requires
 check_nodes-requires c =
-    let is_framed = c.frame_of-found in
-    let first-bad = c.first_bad-bad in
-    let if1 = c.if-bad-m in
-    let t = c.args.table.now in
-    let f = frame_counts t _ _ _ (sym is_framed.ensures ∙ c.in-Counts.is) in
-    record { framed = f; configurations_good = none_bad (good_configuration t) (configurations t) _ first-bad.ensures (rw f.m_is at if1.false) }
+    record { framed = frame_counts _ _ (sym c.in_ok-n.ensures); configurations_good = c.in_default.ensures }
 
 -- pub fn check
-pub returns-in-Refused : goal.returns-in-Refused
-returns-in-Refused c =
-    let is_framed = c.frame_of-found in
-    verdict_refused _ (sym is_framed.ensures ∙ c.in-Refused.is)
-
-pub returns-else-bad-m : goal.returns-else-bad-m
-returns-else-bad-m c =
-    let is_framed = c.frame_of-found in
-    let first-bad = c.first_bad-bad in
-    let if1 = c.if-bad-m in
-    let check-nodes = c.check_nodes in
+pub returns : goal.returns
+returns c =
     let t = c.args.table.now in
-    let counts = sym is_framed.ensures ∙ c.in-Counts.is in
-    let f = frame_counts t _ _ _ counts in
-    check-nodes.ensures ∙ (records_good t _ first-bad.ensures (rw f.m_is at if1.false) ∙ verdict_records t counts)
+    c.check_nodes.ensures ∙ (records_good t c.in_default.ensures ∙ verdict_records t (sym c.in_ok-n.ensures))

@@ -1,8 +1,13 @@
 -- Reading a configuration from its first record on, no call nested in another: what is open around the record looked at. Private contracts
 -- alone cite this file.
-use Rattle.std.specs.Prelude.{ℕ, ◌+◌, ◌-◌, ◌*◌, ◌≤◌, min, max, true, false, ◌≡◌, List, [], ◌∷◌, length}
+use Rattle.std.specs.Prelude.{ℕ, ◌+◌, ◌-◌, ◌*◌, ◌/◌, ◌≤◌, min, max, Bool, cond, ◌≡◌, List, [], ◌∷◌, length}
+use Rattle.std.specs.declared.ops.ControlFlow.{ControlFlow}
+use Rattle.std.specs.declared.ops.ControlFlow.TheVariants.{Continue, Break}
+use Rattle.junior.specs.declared.Verdict.{Verdict}
 use Rattle.junior.specs.Configuration.{Config, Env, test}
 use Rattle.table.specs.declared.reading.Place.{Place}
+use Rattle.table.specs.declared.reading.Closed.{Closed}
+use Rattle.table.specs.declared.reading.Closed.TheVariants.{Decided, Undecided, Second}
 use Rattle.table.specs.Spells.{weight, Configured}
 use Rattle.table.specs.Reading.{height}
 use Rattle.table.specs.Inside.Ranks.{rank}
@@ -76,28 +81,26 @@ pub record Next (t : List ℕ) (c : ℕ) (o : List Level) (r c' n' : ℕ) : Type
   pub same : (E : Env) → closing E o r ≡ closing E still (rank (test part E))
   pub onward : c ≤ c'
 
--- the rank of a verdict other than unknown
-pub data Decided : ℕ → Type 0 where
-  unsat : Decided 0
-  sat : Decided 2
+-- the rank of a verdict other than unknown: is it sat?
+abbrev pub sat_rank : Bool → ℕ
+sat_rank b = cond b 2 0
 
--- one level is closed by a decided part: the rank is decided again, or it is 1, or 3, and a part is to be read next
-pub record ClosesOne (t : List ℕ) (c : ℕ) (o : List Level) (r : ℕ) (p : Place) : Type 0 where
-  pub decided : p.decided ≡ true → Decided p.rank
-  pub else : p.decided ≡ false → (p.rank ≡ 3 → ⊥) → p.rank ≡ 1
-  pub left : (p.rank ≡ 3 → ⊥) → Left t c o r p.at p.levels p.rank
-  pub next : p.rank ≡ 3 → Next t c o r p.at p.levels
+-- one level is closed by a decided part: the rank is decided again, or it is 1, or a part is to be read next
+abbrev pub ClosesOne : List ℕ → ℕ → List Level → ℕ → Closed → Type 0
+ClosesOne t c o r (Decided p b) = Left t c o r p.at p.levels (sat_rank b)
+ClosesOne t c o r (Undecided p) = Left t c o r p.at p.levels 1
+ClosesOne t c o r (Second p) = Next t c o r p.at p.levels
 
--- all levels are closed, or 1 is the rank within those left, or a part is to be read next
-pub record ClosesDecided (t : List ℕ) (c : ℕ) (o : List Level) (r : ℕ) (p : Place) : Type 0 where
-  pub whole : (p.rank ≡ 3 → ⊥) → (p.rank ≡ 1 → ⊥) → (E : Env) → closing E o r ≡ p.rank
-  pub left : p.rank ≡ 1 → Left t c o r p.at p.levels 1
-  pub next : p.rank ≡ 3 → Next t c o r p.at p.levels
+-- of the levels n that one is gone
+abbrev pub Falls : ℕ → Closed → Type 0
+Falls n (Decided p b) = p.levels ≡ n / 16
+Falls n (Undecided p) = p.levels ≡ n / 16
+Falls n (Second p) = p.levels ≡ n / 16
 
 -- all levels are closed, or a part is to be read next
-pub record Closes (t : List ℕ) (c : ℕ) (o : List Level) (r : ℕ) (p : Place) : Type 0 where
-  pub whole : (p.rank ≡ 3 → ⊥) → (E : Env) → closing E o r ≡ p.rank
-  pub next : p.rank ≡ 3 → Next t c o r p.at p.levels
+abbrev pub Closes : List ℕ → ℕ → List Level → ℕ → ControlFlow Verdict Place → Type 0
+Closes t c o r (Break v) = (E : Env) → closing E o r ≡ rank v
+Closes t c o r (Continue p) = Next t c o r p.at p.levels
 
 -- a part unknown leaves open, of these levels, those from the innermost whose second part is to come
 unfoldable pub unsettled : List Level → List Level

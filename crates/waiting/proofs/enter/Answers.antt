@@ -24,7 +24,7 @@ bounds-state-i c =
 -- fn enter
 pub returns-then-kind_at-eq-LOCAL : goal.returns-then-kind_at-eq-LOCAL
 returns-then-kind_at-eq-LOCAL c =
-    rw (sym c.kind_at.ensures.0 ∙ c.if-kind_at-eq-LOCAL.true, sym c.argument_at.ensures.0) (rw c.requires.words_value at c.mark.ensures)
+    rw (sym c.kind_at.ensures.0 ∙ c.if-kind_at-eq-LOCAL.true, sym c.argument_at.ensures.0) (rw c.requires.words_long at c.mark.ensures)
 
 pub returns-else-kind_at-eq-LOCAL : goal.returns-else-kind_at-eq-LOCAL
 returns-else-kind_at-eq-LOCAL c =

@@ -55,28 +55,27 @@ pub argument_at-event-requires : goal.argument_at-event-requires
 argument_at-event-requires c =
     omega (arith, (own_record c.requires.1.stands).0)
 
--- return EventSet::PLACES;
-pub returns-then-marked : goal.returns-then-marked
-returns-then-marked c =
+pub returns-else-not-marked : goal.returns-else-not-marked
+returns-else-not-marked c =
     λ x w h e.
     let X = marks c.args.words.now in
     let so = sym c.waits_itself.ensures ∙ c.if-waits_itself.true in
     event_holds X (itself_waits h X e c.kind_at-kind.ensures.0 refl (sym c.is_test.ensures ∙ c.if-is_test.false) so)
-    (rw c.argument_at-event.ensures.0 at (sym c.marked.ensures ∙ c.if-marked.true))
+    (rw c.argument_at-event.ensures.0 at (sym c.marked.ensures ∙ c.if-not-marked.false))
 
 -- return event;
-pub returns-then-waits_itself : goal.returns-then-waits_itself
-returns-then-waits_itself c =
+pub returns-then-not-marked : goal.returns-then-not-marked
+returns-then-not-marked c =
     λ x w h e.
     let X = marks c.args.words.now in
     let so = sym c.waits_itself.ensures ∙ c.if-waits_itself.true in
-    event_tells h c.kind_at-kind.ensures.0 so c.argument_at-event.ensures.0 X
+    event_tells c.argument_at-event.ensures.0 X
     (itself_waits h X e c.kind_at-kind.ensures.0 refl (sym c.is_test.ensures ∙ c.if-is_test.false) so)
-    (rw c.argument_at-event.ensures.0 at (sym c.marked.ensures ∙ c.if-marked.false))
+    (rw c.argument_at-event.ensures.0 at (sym c.marked.ensures ∙ c.if-not-marked.true))
 
 -- fn own_wait
-pub returns : goal.returns
-returns c =
+pub returns-else-waits_itself : goal.returns-else-waits_itself
+returns-else-waits_itself c =
     λ x w h e.
     tells_not
     (no_own h (marks c.args.words.now) e c.kind_at-kind.ensures.0 refl (sym c.is_test.ensures ∙ c.if-is_test.false)

@@ -13,44 +13,44 @@ use Rattle.waiting.proofs.OneStep.{tells_some, tells_none, here, goes_on, one_en
 use Rattle.waiting.proofs.waiting.Goals as goal
 
 -- loop {
-pub loop-words-init : goal.loop-words-init
-loop-words-init c =
+pub loop-event-init : goal.loop-event-init
+loop-event-init c =
     let (w, l) = c.requires in
     (w, l, λ v k. one_end k l, omega (arith, (whole c.args.events _ c.well_formed.1.1.0).long))
 
--- let event = own_wait(table, state, i, &words);
-pub own_wait-event-requires : goal.own_wait-event-requires
-own_wait-event-requires c =
-    (c.loop-words.invariant.0, c.loop-words.invariant.1)
+-- if let Some(event) = own_wait(table, state, i, &words) {
+pub own_wait-requires : goal.own_wait-requires
+own_wait-requires c =
+    (c.loop-event.invariant.0, c.loop-event.invariant.1)
 
 -- return Wait { node: i, event };
-pub returns-then-event-lt-PLACES : goal.returns-then-event-lt-PLACES
-returns-then-event-lt-PLACES c =
-    let l = c.loop-words.invariant.1 in
-    let o = tells_some (own_wait l.term (marks c.loop-words.words)) _ (c.own_wait-event.ensures l.term c.loop-words.invariant.0 l.stands l.leads) c.if-event-lt-PLACES.true in
-    let (n, e) = here l.term (marks c.loop-words.words) o l.leads in
-    λ v k. let same = c.loop-words.invariant.2 v k in (n ∙ ap (λ w. w.node) (sym same), e ∙ ap (λ w. w.event) (sym same))
+pub returns-in-Some : goal.returns-in-Some
+returns-in-Some c =
+    let l = c.loop-event.invariant.1 in
+    let o = tells_some (own_wait l.term (marks c.loop-event.words)) (c.in-Some.ensures l.term c.loop-event.invariant.0 l.stands l.leads) in
+    let (n, e) = here l.term (marks c.loop-event.words) o l.leads in
+    λ v k. let same = c.loop-event.invariant.2 v k in (n ∙ ap (λ w. w.node) (sym same), e ∙ ap (λ w. w.event) (sym same))
 
 -- enter(table, state, i, &mut words);
 pub enter-requires : goal.enter-requires
 enter-requires c =
-    let l = c.loop-words.invariant.1 in
-    record { some_stands = (l.term, l.stands); words_value = c.loop-words.invariant.3 }
+    let l = c.loop-event.invariant.1 in
+    record { some_stands = (l.term, l.stands); words_long = c.loop-event.invariant.3 }
 
 -- i = next_node(table, state, i);
 pub next_node-i-requires : goal.next_node-i-requires
 next_node-i-requires c =
-    let l = c.loop-words.invariant.1 in (l.term, l.stands)
+    let l = c.loop-event.invariant.1 in (l.term, l.stands)
 
 -- loop {
-pub loop-words-smaller : goal.loop-words-smaller
-loop-words-smaller c =
-    let l = c.loop-words.invariant.1 in
-    let o = tells_none (own_wait l.term (marks c.loop-words.words)) _ (c.own_wait-event.ensures l.term c.loop-words.invariant.0 l.stands l.leads) c.if-event-lt-PLACES.false in
-    rw c.next_node-i.ensures (fewer l (goes_on (marks c.loop-words.words) l.stands o l.leads))
+pub loop-event-smaller : goal.loop-event-smaller
+loop-event-smaller c =
+    let l = c.loop-event.invariant.1 in
+    let o = tells_none (own_wait l.term (marks c.loop-event.words)) (rw c.in_default.is at (c.own_wait.ensures l.term c.loop-event.invariant.0 l.stands l.leads)) in
+    rw c.next_node-i.ensures (fewer l (goes_on (marks c.loop-event.words) l.stands o l.leads))
 
-pub loop-words-preserved : goal.loop-words-preserved
-loop-words-preserved c =
-    let l = c.loop-words.invariant.1 in
-    let o = tells_none (own_wait l.term (marks c.loop-words.words)) _ (c.own_wait-event.ensures l.term c.loop-words.invariant.0 l.stands l.leads) c.if-event-lt-PLACES.false in
-    (c.loop-words.invariant.0, rw (c.next_node-i.ensures, c.enter.ensures) (goes_on (marks c.loop-words.words) l.stands o l.leads).onward, c.loop-words.invariant.2, search rules)
+pub loop-event-preserved : goal.loop-event-preserved
+loop-event-preserved c =
+    let l = c.loop-event.invariant.1 in
+    let o = tells_none (own_wait l.term (marks c.loop-event.words)) (rw c.in_default.is at (c.own_wait.ensures l.term c.loop-event.invariant.0 l.stands l.leads)) in
+    (c.loop-event.invariant.0, rw (c.next_node-i.ensures, c.enter.ensures) (goes_on (marks c.loop-event.words) l.stands o l.leads).onward, c.loop-event.invariant.2, search rules)

@@ -12,9 +12,9 @@ use Rattle.waiting.specs.Down.{Leads, own_wait}
 use Rattle.waiting.proofs.OneStep.{tells_some, tells_none, here, goes_on, one_end, fewer}
 use Rattle.waiting.proofs.waiting.Given as goal
 
-abbrev pub invariant-loop-words : goal.invariant-loop-words
-invariant-loop-words l = (w : Wait) × Leads l.table l.state l.i (marks l.words) w × ((v : Wait) → Leads l.table l.state 0 (marks l.initial.words) v → v ≡ w)
+abbrev pub invariant-loop-event : goal.invariant-loop-event
+invariant-loop-event l = (w : Wait) × Leads l.table l.state l.i (marks l.words) w × ((v : Wait) → Leads l.table l.state 0 (marks l.initial.words) v → v ≡ w)
     × (64 * length l.words ≡ places)
 
-abbrev pub decreases-loop-words : goal.decreases-loop-words
-decreases-loop-words l = nodes l.table - l.i
+abbrev pub decreases-loop-event : goal.decreases-loop-event
+decreases-loop-event l = nodes l.table - l.i

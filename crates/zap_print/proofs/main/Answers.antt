@@ -4,4 +4,4 @@ use Rattle.zap_print.proofs.main.Goals as goal
 
 -- write_out(&mut out, &text[..n]);
 pub slice_bounds-text-end : goal.slice_bounds-text-end
-slice_bounds-text-end c = printed_within c.print-answer.ensures c.in-Printed.is
+slice_bounds-text-end c = printed_within c.print-answer.ensures c.in-Ok.is

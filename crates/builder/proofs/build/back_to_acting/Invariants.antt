@@ -4,6 +4,3 @@ use Rattle.builder.proofs.build.back_to_acting.Given as goal
 
 abbrev pub invariant-loop-i : goal.invariant-loop-i
 invariant-loop-i l = Idle l.text l.i l.from
-
-abbrev pub decreases-loop-i : goal.decreases-loop-i
-decreases-loop-i l = l.i

@@ -13,9 +13,9 @@ loop-i-init c =
     under_back c.requires.1 (under_starts c.requires.1 _ _ _ refl (length-replicate {A = ℕ} 8192 0) refl) c.back_to_acting-i.ensures
 
 -- front = place(&names, b, level, &text[i..], table, front);
-pub place-front-requires : goal.place-front-requires
-place-front-requires c =
-    record { the_names = c.table_of_names-names.ensures; can_place = rw c.byte_at-level.ensures (place_ready c.requires.1 c.loop-i.invariant c.loop-i-test.true) }
+pub place-requires : goal.place-requires
+place-requires c =
+    rw c.byte_at-level.ensures (place_ready c.requires.1 c.loop-i.invariant c.loop-i-test.true)
 
 -- depth = relevel(&names, b, &text[i..], &mut levels, depth);
 pub slice_bounds-relevel-end-in-loop-i : goal.slice_bounds-relevel-end-in-loop-i
@@ -24,19 +24,19 @@ slice_bounds-relevel-end-in-loop-i c =
 
 pub relevel-depth-requires : goal.relevel-depth-requires
 relevel-depth-requires c =
-    record { the_names = c.table_of_names-names.ensures; level_ready = level_ready c.requires.1 c.loop-i.invariant c.loop-i-test.true }
+    level_ready c.requires.1 c.loop-i.invariant c.loop-i-test.true
 
 -- while i > 0 {
 pub loop-i-preserved : goal.loop-i-preserved
 loop-i-preserved c =
     let on = under_on c.requires.1 c.loop-i.invariant c.loop-i-test.true
-    (rw c.byte_at-level.ensures at c.place-front.ensures) c.relevel-depth.ensures c.relevel-depth.auto.levels c.place-front.auto.table in
+    (rw c.byte_at-level.ensures at c.place.ensures) c.relevel-depth.ensures c.relevel-depth.auto.levels c.place.auto.table in
     under_back c.requires.1 on c.back_to_acting-i-in-loop-i.ensures
 
 -- put_trailer(table, 6 * n + 4 * m, n, m, v);
 pub put_trailer-requires : goal.put_trailer-requires
 put_trailer-requires c =
-    record { at_in_bounds = search rules; m_bound = search rules }
+    record { in_the_table = search rules; size_bound = search rules }
 
 -- pub fn build
 pub returns : goal.returns

@@ -7,17 +7,17 @@ use Rattle.builder.proofs.build.joined_size.Goals as goal
 -- 1 + first + word_in(records, long * first + at)
 pub overflow_mul-long : goal.overflow_mul-long
 overflow_mul-long c =
-    let b = product_small c.args.long c.word_in-first.result c.requires.long_bound c.word_in-first.ensures.1 in
+    let b = product_small c.args.long c.word_in-first.result c.requires.record_long c.word_in-first.ensures.1 in
     search rules
 
 pub overflow_add-long : goal.overflow_add-long
 overflow_add-long c =
-    let b = product_small c.args.long c.word_in-first.result c.requires.long_bound c.word_in-first.ensures.1 in
+    let b = product_small c.args.long c.word_in-first.result c.requires.record_long c.word_in-first.ensures.1 in
     search rules
 
 pub word_in-requires : goal.word_in-requires
 word_in-requires c =
-    let b = product_small c.args.long c.word_in-first.result c.requires.long_bound c.word_in-first.ensures.1 in
+    let b = product_small c.args.long c.word_in-first.result c.requires.record_long c.word_in-first.ensures.1 in
     search rules
 
 -- fn joined_size

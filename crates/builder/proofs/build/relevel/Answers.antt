@@ -6,14 +6,14 @@ use Rattle.builder.proofs.build.relevel.Goals as goal
 -- let inner = depth - 1;
 pub overflow_sub-inner : goal.overflow_sub-inner
 overflow_sub-inner c =
-    room_to_close c.args.b c.args.text.now c.args.levels.now c.args.depth c.requires.level_ready.0 c.in-41.is
-    c.requires.level_ready.1 c.requires.level_ready.2
+    room_to_close c.args.b c.args.text.now c.args.levels.now c.args.depth c.requires.0 c.in-41.is
+    c.requires.1 c.requires.2
 
 -- levels[inner] = 0;
 pub bounds-levels-inner : goal.bounds-levels-inner
 bounds-levels-inner c =
-    let o = room_to_close c.args.b c.args.text.now c.args.levels.now c.args.depth c.requires.level_ready.0 c.in-41.is
-    c.requires.level_ready.1 c.requires.level_ready.2 in
+    let o = room_to_close c.args.b c.args.text.now c.args.levels.now c.args.depth c.requires.0 c.in-41.is
+    c.requires.1 c.requires.2 in
     omega arith
 
 -- fn relevel

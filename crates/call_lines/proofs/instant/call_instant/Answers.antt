@@ -2,63 +2,84 @@
 use native.Mathlib.Omega.{arith}
 use Rattle.call_lines.proofs.instant.call_instant.Goals as goal
 
--- let figures = put_numbers(
-pub put_numbers-figures-requires : goal.put_numbers-figures-requires
-put_numbers-figures-requires c =
-    omega (arith, c.requires, c.put_numbers-refused.ensures.upper_bound, c.put_numbers-refused.auto.room, c.put_events-events.ensures.1, c.put_events-events.auto.room)
-
--- let bytes = put_bytes(output, figures, state, 32);
-pub put_bytes-bytes-requires : goal.put_bytes-bytes-requires
-put_bytes-bytes-requires c =
+pub put_events-requires : goal.put_events-requires
+put_events-requires c =
     omega (
       arith,
       c.requires,
-      c.put_numbers-refused.ensures.upper_bound,
-      c.put_numbers-refused.auto.room,
-      c.put_events-events.ensures.1,
-      c.put_events-events.auto.room,
-      c.put_numbers-figures.ensures.upper_bound,
-      c.put_numbers-figures.auto.room,
-      c.instant-answer.auto.state,
+      c.instant-reply.auto.state,
+      c.instant-reply.auto.atoms,
+      c.instant-reply.auto.store,
+      c.put_numbers.ensures.short,
+      c.put_numbers.ensures.written.long,
     )
 
--- let numbers = put_row(output, bytes, row, 32);
-pub put_row-numbers-requires : goal.put_row-numbers-requires
-put_row-numbers-requires c =
+pub put_numbers-requires-2 : goal.put_numbers-requires-2
+put_numbers-requires-2 c =
     omega (
       arith,
       c.requires,
-      c.put_numbers-refused.ensures.upper_bound,
-      c.put_numbers-refused.auto.room,
-      c.put_events-events.ensures.1,
-      c.put_events-events.auto.room,
-      c.put_numbers-figures.ensures.upper_bound,
-      c.put_numbers-figures.auto.room,
-      c.instant-answer.auto.state,
-      c.put_bytes-bytes.ensures.upper_bound,
-      c.put_bytes-bytes.auto.room,
-      c.instant-answer.auto.atoms,
+      c.instant-reply.auto.state,
+      c.instant-reply.auto.atoms,
+      c.instant-reply.auto.store,
+      c.put_numbers.ensures.short,
+      c.put_numbers.ensures.written.long,
+      c.put_events.ensures.short,
+      c.put_events.ensures.written.long,
     )
 
--- put_bytes(output, numbers, store, 10)
 pub put_bytes-requires : goal.put_bytes-requires
 put_bytes-requires c =
     omega (
       arith,
       c.requires,
-      c.put_numbers-refused.ensures.upper_bound,
-      c.put_numbers-refused.auto.room,
-      c.put_events-events.ensures.1,
-      c.put_events-events.auto.room,
-      c.put_numbers-figures.ensures.upper_bound,
-      c.put_numbers-figures.auto.room,
-      c.instant-answer.auto.state,
-      c.put_bytes-bytes.ensures.upper_bound,
-      c.put_bytes-bytes.auto.room,
-      c.instant-answer.auto.atoms,
-      c.put_row-numbers.ensures.upper_bound,
-      c.put_row-numbers.auto.room,
-      c.instant-answer.auto.store,
+      c.instant-reply.auto.state,
+      c.instant-reply.auto.atoms,
+      c.instant-reply.auto.store,
+      c.put_numbers.ensures.short,
+      c.put_numbers.ensures.written.long,
+      c.put_events.ensures.short,
+      c.put_events.ensures.written.long,
+      c.put_numbers-2.ensures.short,
+      c.put_numbers-2.ensures.written.long,
+    )
+
+pub put_row-requires : goal.put_row-requires
+put_row-requires c =
+    omega (
+      arith,
+      c.requires,
+      c.instant-reply.auto.state,
+      c.instant-reply.auto.atoms,
+      c.instant-reply.auto.store,
+      c.put_numbers.ensures.short,
+      c.put_numbers.ensures.written.long,
+      c.put_events.ensures.short,
+      c.put_events.ensures.written.long,
+      c.put_numbers-2.ensures.short,
+      c.put_numbers-2.ensures.written.long,
+      c.put_bytes.ensures.short,
+      c.put_bytes.ensures.written.long,
+    )
+
+pub put_bytes-requires-2 : goal.put_bytes-requires-2
+put_bytes-requires-2 c =
+    omega (
+      arith,
+      c.requires,
+      c.instant-reply.auto.state,
+      c.instant-reply.auto.atoms,
+      c.instant-reply.auto.store,
+      c.put_numbers.ensures.short,
+      c.put_numbers.ensures.written.long,
+      c.put_events.ensures.short,
+      c.put_events.ensures.written.long,
+      c.put_numbers-2.ensures.short,
+      c.put_numbers-2.ensures.written.long,
+      c.put_bytes.ensures.short,
+      c.put_bytes.ensures.written.long,
+      c.put_row.ensures.short,
+      c.put_row.ensures.written.long,
     )
 
 pub returns : goal.returns
@@ -66,13 +87,19 @@ returns c =
     omega (
       arith,
       c.requires,
-      c.put_numbers-refused.ensures.upper_bound,
-      c.put_events-events.ensures.1,
-      c.put_numbers-figures.ensures.upper_bound,
-      c.put_bytes-bytes.ensures.upper_bound,
-      c.put_row-numbers.ensures.upper_bound,
-      c.put_bytes.ensures.upper_bound,
-      c.instant-answer.auto.state,
-      c.instant-answer.auto.atoms,
-      c.instant-answer.auto.store,
+      c.instant-reply.auto.state,
+      c.instant-reply.auto.atoms,
+      c.instant-reply.auto.store,
+      c.put_numbers.ensures.short,
+      c.put_numbers.ensures.written.long,
+      c.put_events.ensures.short,
+      c.put_events.ensures.written.long,
+      c.put_numbers-2.ensures.short,
+      c.put_numbers-2.ensures.written.long,
+      c.put_bytes.ensures.short,
+      c.put_bytes.ensures.written.long,
+      c.put_row.ensures.short,
+      c.put_row.ensures.written.long,
+      c.put_bytes-2.ensures.short,
+      c.put_bytes-2.ensures.written.long,
     )

@@ -2,40 +2,46 @@
 use native.Mathlib.Omega.{arith}
 use Rattle.call_lines.proofs.take.call_take.Goals as goal
 
--- let pieces = put_bytes(output, numbers, store, 32);
-pub put_bytes-pieces-requires : goal.put_bytes-pieces-requires
-put_bytes-pieces-requires c =
-    omega (arith, c.requires, c.put_numbers-numbers.ensures.upper_bound, c.put_numbers-numbers.auto.room, c.take-taken.auto.store)
-
--- let tables = put_bytes(output, pieces, table_room, 32);
-pub put_bytes-tables-requires : goal.put_bytes-tables-requires
-put_bytes-tables-requires c =
-    omega (
-      arith,
-      c.requires,
-      c.put_numbers-numbers.ensures.upper_bound,
-      c.put_numbers-numbers.auto.room,
-      c.take-taken.auto.store,
-      c.put_bytes-pieces.ensures.upper_bound,
-      c.put_bytes-pieces.auto.room,
-      c.take-taken.auto.table_room,
-    )
-
--- put_bytes(output, tables, state_room, 10)
 pub put_bytes-requires : goal.put_bytes-requires
 put_bytes-requires c =
     omega (
       arith,
       c.requires,
-      c.put_numbers-numbers.ensures.upper_bound,
-      c.put_numbers-numbers.auto.room,
       c.take-taken.auto.store,
-      c.put_bytes-pieces.ensures.upper_bound,
-      c.put_bytes-pieces.auto.room,
       c.take-taken.auto.table_room,
-      c.put_bytes-tables.ensures.upper_bound,
-      c.put_bytes-tables.auto.room,
       c.take-taken.auto.state_room,
+      c.put_numbers.ensures.short,
+      c.put_numbers.ensures.written.long,
+    )
+
+pub put_bytes-requires-2 : goal.put_bytes-requires-2
+put_bytes-requires-2 c =
+    omega (
+      arith,
+      c.requires,
+      c.take-taken.auto.store,
+      c.take-taken.auto.table_room,
+      c.take-taken.auto.state_room,
+      c.put_numbers.ensures.short,
+      c.put_numbers.ensures.written.long,
+      c.put_bytes.ensures.short,
+      c.put_bytes.ensures.written.long,
+    )
+
+pub put_bytes-requires-3 : goal.put_bytes-requires-3
+put_bytes-requires-3 c =
+    omega (
+      arith,
+      c.requires,
+      c.take-taken.auto.store,
+      c.take-taken.auto.table_room,
+      c.take-taken.auto.state_room,
+      c.put_numbers.ensures.short,
+      c.put_numbers.ensures.written.long,
+      c.put_bytes.ensures.short,
+      c.put_bytes.ensures.written.long,
+      c.put_bytes-2.ensures.short,
+      c.put_bytes-2.ensures.written.long,
     )
 
 pub returns : goal.returns
@@ -43,11 +49,15 @@ returns c =
     omega (
       arith,
       c.requires,
-      c.put_numbers-numbers.ensures.upper_bound,
-      c.put_bytes-pieces.ensures.upper_bound,
-      c.put_bytes-tables.ensures.upper_bound,
-      c.put_bytes.ensures.upper_bound,
       c.take-taken.auto.store,
       c.take-taken.auto.table_room,
       c.take-taken.auto.state_room,
+      c.put_numbers.ensures.short,
+      c.put_numbers.ensures.written.long,
+      c.put_bytes.ensures.short,
+      c.put_bytes.ensures.written.long,
+      c.put_bytes-2.ensures.short,
+      c.put_bytes-2.ensures.written.long,
+      c.put_bytes-3.ensures.short,
+      c.put_bytes-3.ensures.written.long,
     )

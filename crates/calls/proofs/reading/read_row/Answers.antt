@@ -6,54 +6,45 @@ use lib.ListN.{length}
 use Rattle.calls.proofs.Words.{number_of, fitting_so, held_none, held_more, dash_read, all_read, bad_read, unfit_read}
 use Rattle.calls.proofs.reading.read_row.Goals as goal
 
--- return Amount {
 pub returns-then-is_dash : goal.returns-then-is_dash
 returns-then-is_dash c =
     let text = c.args.text.now in
-    let (read, counted) = dash_read 4 65536 (number_of text) text c.args.room.now (length text / 4) (λ m e. omega arith) (sym c.is_dash.ensures ∙ c.if-is_dash.true) in
-    record { word_read = read; counted = counted }
+    dash_read 4 65536 (number_of text) text c.args.room.now (length text / 4) (λ m e. omega arith) (sym c.is_dash.ensures ∙ c.if-is_dash.true)
 
--- let value = number_at(text, 4 * i);
-pub number_at-value-requires : goal.number_at-value-requires
-number_at-value-requires c =
-    let fit = fitting_so c.fits.ensures c.if-fits.true in
-    omega (arith, fit.long_is, c.loop-i-test.true)
-
--- return unread();
-pub returns-then-value-gt65535 : goal.returns-then-value-gt65535
-returns-then-value-gt65535 c =
+-- return None;
+pub returns-then-not-fits : goal.returns-then-not-fits
+returns-then-not-fits c =
     let text = c.args.text.now in
-    let (read, counted) = bad_read 4 65536 (number_of text) text c.args.room.now (length text / 4) (λ m e. omega arith) (sym c.is_dash.ensures ∙ c.if-is_dash.false)
-    _ c.loop-i.i c.number_at-value.result c.loop-i-test.true c.number_at-value.ensures.0 c.if-value-gt65535.true c.unread.ensures in
-    record { word_read = read; counted = counted }
-
--- room[i] = value as u16;
-pub bounds-room-i : goal.bounds-room-i
-bounds-room-i c =
-    let fit = fitting_so c.fits.ensures c.if-fits.true in
-    omega (arith, fit.room, c.loop-i-test.true, c.loop-i.invariant.long)
-
--- for i in 0..n {
-pub loop-i-preserved : goal.loop-i-preserved
-loop-i-preserved c =
-    let fit = fitting_so c.fits.ensures c.if-fits.true in
-    held_more c.loop-i.invariant c.number_at-value.result c.loop-i-test.true fit.room c.number_at-value.ensures.0 (omega (arith, c.if-value-gt65535.false))
-
--- return Amount {
-pub returns-then-fits : goal.returns-then-fits
-returns-then-fits c =
-    let text = c.args.text.now in
-    let (read, counted) = all_read 4 65536 (number_of text) text c.args.room.now (length text / 4) (λ m e. omega arith) (sym c.is_dash.ensures ∙ c.if-is_dash.false)
-    (fitting_so c.fits.ensures c.if-fits.true) c.loop-i.room c.loop-i.i c.loop-i-test.false c.loop-i.invariant in
-    record { word_read = read; counted = counted }
-
--- pub fn read_row
-pub returns : goal.returns
-returns c =
-    let text = c.args.text.now in
-    let (read, counted) = unfit_read 4 65536 (number_of text) text c.args.room.now (length text / 4) (λ m e. omega arith) (sym c.is_dash.ensures ∙ c.if-is_dash.false)
-    (sym c.fits.ensures ∙ c.if-fits.false) c.unread-2.ensures in
-    record { word_read = read; counted = counted }
+    unfit_read 4 65536 (number_of text) text c.args.room.now (length text / 4) (λ m e. omega arith) (sym c.is_dash.ensures ∙ c.if-is_dash.false)
+    (sym c.fits.ensures ∙ c.if-not-fits.true)
 
 pub loop-i-init : goal.loop-i-init
 loop-i-init c = held_none _ _ _ _
+
+pub number_at-requires : goal.number_at-requires
+number_at-requires c =
+    let fit = fitting_so c.fits.ensures c.if-not-fits.false in
+    omega (arith, fit.long_is, c.loop-i-test.true)
+
+pub returns-in_err-number : goal.returns-in_err-number
+returns-in_err-number c =
+    let text = c.args.text.now in
+    rw c.from_residual.ensures
+    (bad_read 4 65536 (number_of text) text c.args.room.now (length text / 4) (λ m e. omega arith) (sym c.is_dash.ensures ∙ c.if-is_dash.false)
+    c.loop-i.room c.loop-i.i c.loop-i-test.true c.in_err-number.ensures)
+
+pub bounds-room-i : goal.bounds-room-i
+bounds-room-i c =
+    let fit = fitting_so c.fits.ensures c.if-not-fits.false in
+    omega (arith, fit.room, c.loop-i-test.true, c.loop-i.invariant.long)
+
+pub loop-i-preserved : goal.loop-i-preserved
+loop-i-preserved c =
+    let fit = fitting_so c.fits.ensures c.if-not-fits.false in
+    held_more c.loop-i.invariant c.in_ok-number.number c.loop-i-test.true fit.room c.in_ok-number.ensures.0 c.in_ok-number.ensures.1
+
+pub returns : goal.returns
+returns c =
+    let text = c.args.text.now in
+    all_read 4 65536 (number_of text) text c.args.room.now (length text / 4) (λ m e. omega arith) (sym c.is_dash.ensures ∙ c.if-is_dash.false)
+    (fitting_so c.fits.ensures c.if-not-fits.false) c.loop-i.room c.loop-i.i c.loop-i-test.false c.loop-i.invariant

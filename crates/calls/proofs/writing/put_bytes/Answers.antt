@@ -1,51 +1,46 @@
--- `put_bytes` meets its contract: after i turns the first i bytes are put.
-use borrow.Author.Rules.{rules}
+-- `put_bytes` meets its contract: the first numbers are written.
+use mathlib.Core.Path.{◌≡◌}
 use native.Mathlib.Omega.{arith}
-use lib.ListN.{length-set}
-use Rattle.calls.specs.Words.{hex_byte}
-use Rattle.calls.proofs.Words.{put_none, put_more, put_all, puts_dash}
+use lib.ListN.{length, get_or}
+use lib.Seq.{take-length}
+use Rattle.letters.proofs.Writes.{writes_none, writes_then, writes_end}
+use Rattle.calls.specs.Words.{hex_byte, spelled}
+use Rattle.calls.proofs.Words.{spelled_more, word_ends, dash_ends, hex_two}
 use Rattle.calls.proofs.writing.put_bytes.Goals as goal
 
--- return at + 2;
+pub byte-requires-then-list-eq0 : goal.byte-requires-then-list-eq0
+byte-requires-then-list-eq0 c = omega (arith, writes_end c.byte.ensures, c.byte.ensures.long)
+
 pub returns-then-list-eq0 : goal.returns-then-list-eq0
 returns-then-list-eq0 c =
-    record { puts = puts_dash c.args.room.now c.args.at hex_byte c.args.list.now c.args.end c.if-list-eq0.true; upper_bound = omega arith }
-
--- for i in 0..list.len() {
-pub loop-i-init : goal.loop-i-init
-loop-i-init c =
-    (search rules, put_none 2 hex_byte c.args.room.now c.args.at c.args.list.now (omega arith))
-
--- put_byte(room, at + 2 * i, list[i] as usize);
-pub put_byte-requires : goal.put_byte-requires
-put_byte-requires c =
-    omega (arith, c.type_inv.list c.loop-i.i, c.loop-i.invariant.1.long)
-
--- for i in 0..list.len() {
-pub loop-i-preserved : goal.loop-i-preserved
-unfolding hex_byte
-loop-i-preserved c =
-    let put_byte = c.put_byte in (
-      c.loop-i.invariant.0,
-      put_more 2 hex_byte c.args.room.now c.args.at c.args.list.now c.loop-i.invariant.1 (omega arith) put_byte.auto.room
-          put_byte.ensures (omega arith),
-    )
-
--- pub fn put_bytes
-pub returns : goal.returns
-returns c =
-    let loop = c.loop-i in
     record {
-      puts = put_all 2 hex_byte c.args.room.now c.args.at c.args.list.now
-          c.args.end loop.invariant.1 (omega arith) c.if-list-eq0.false;
-      upper_bound = omega arith;
+      written = dash_ends hex_byte c.args.list.now c.args.end c.if-list-eq0.true c.byte.ensures c.byte-then-list-eq0.ensures;
+      short = omega (arith, writes_end c.byte.ensures, writes_end c.byte-then-list-eq0.ensures);
     }
 
-pub bounds-room-at-then-list-eq0 : goal.bounds-room-at-then-list-eq0
-bounds-room-at-then-list-eq0 c = simp length-set (omega arith)
+pub loop-byte-init : goal.loop-byte-init
+unfolding spelled
+loop-byte-init c = (omega arith, writes_none c.args.out.now)
 
-pub overflow_cast-list : goal.overflow_cast-list
-overflow_cast-list c = omega (arith, c.type_inv.list c.loop-i.i)
+pub put_byte-requires : goal.put_byte-requires
+put_byte-requires c = omega (arith, c.loop-byte.invariant.1.long)
 
-pub bounds-room-to : goal.bounds-room-to
-bounds-room-to c = omega (arith, c.loop-i.invariant.1.long)
+pub loop-byte-preserved : goal.loop-byte-preserved
+loop-byte-preserved c =
+    let i = c.loop-byte.byte-index in
+    let list = c.args.list.now in (
+      omega (arith, writes_end c.put_byte.ensures, hex_two (get_or list i 0)),
+      rw (spelled_more hex_byte list i (omega arith)) (writes_then c.loop-byte.invariant.1 c.put_byte.ensures),
+    )
+
+pub byte-requires-2 : goal.byte-requires-2
+byte-requires-2 c = omega (arith, c.loop-byte.invariant.1.long)
+
+pub returns : goal.returns
+returns c =
+    let list = c.args.list.now in
+    let all : c.loop-byte.byte-index ≡ length list = omega arith in
+    record {
+      written = word_ends hex_byte list c.args.end c.if-list-eq0.false (rw (all, take-length list) at c.loop-byte.invariant.1) c.byte-2.ensures;
+      short = omega (arith, writes_end c.byte-2.ensures);
+    }

@@ -1,9 +1,11 @@
--- `put_bytes` meets its contract: after i turns the first i bytes are put.
+-- `put_bytes` meets its contract: the first numbers are written.
 use mathlib.Core.Path.{◌≡◌}
-use lib.ListN.{length}
-use Rattle.calls.specs.Words.{hex_byte}
-use Rattle.calls.proofs.Words.{Put}
+use Prim.Native.Nat.{◌+◌, ◌*◌}
+use lib.ListN.{take}
+use Rattle.letters.specs.Writing.{Writes}
+use Rattle.calls.specs.Words.{hex_byte, spelled}
 use Rattle.calls.proofs.writing.put_bytes.Given as goal
 
-abbrev pub invariant-loop-i : goal.invariant-loop-i
-invariant-loop-i l = (l.i-end ≡ length l.list) × Put 2 hex_byte l.initial.room l.at l.list l.room l.i
+abbrev pub invariant-loop-byte : goal.invariant-loop-byte
+invariant-loop-byte l =
+    (l.out.at ≡ l.initial.out.at + 2 * l.byte-index) × Writes l.initial.out l.out (spelled hex_byte (take l.byte-index l.list))

@@ -1,9 +1,11 @@
--- `put_row` meets its contract: after i turns the first i numbers are put.
+-- `put_row` meets its contract: the first numbers are written.
 use mathlib.Core.Path.{◌≡◌}
-use lib.ListN.{length}
-use Rattle.calls.specs.Words.{hex_number}
-use Rattle.calls.proofs.Words.{Put}
+use Prim.Native.Nat.{◌+◌, ◌*◌}
+use lib.ListN.{take}
+use Rattle.letters.specs.Writing.{Writes}
+use Rattle.calls.specs.Words.{hex_number, spelled}
 use Rattle.calls.proofs.writing.put_row.Given as goal
 
-abbrev pub invariant-loop-i : goal.invariant-loop-i
-invariant-loop-i l = (l.i-end ≡ length l.list) × Put 4 hex_number l.initial.room l.at l.list l.room l.i
+abbrev pub invariant-loop-number : goal.invariant-loop-number
+invariant-loop-number l =
+    (l.out.at ≡ l.initial.out.at + 4 * l.number-index) × Writes l.initial.out l.out (spelled hex_number (take l.number-index l.list))

@@ -1,18 +1,14 @@
 -- `put_two_bytes` meets its contract: two bytes of two digits.
-use mathlib.Core.Path.{sym, ap, ◌∙◌}
-use mathlib.Core.List.{List}
-use Prim.Native.Nat.{ℕ, ◌+◌, ◌/◌, ◌%◌}
-use lib.Seq.{sets}
-use Rattle.letters.proofs.Rooms.{sets_append}
-use Rattle.calls.specs.Words.{hex_byte, hex_number}
+use Prim.Native.Nat.{◌/◌}
+use native.Mathlib.Omega.{arith}
+use Rattle.letters.proofs.Writes.{writes_then, writes_end}
+use Rattle.calls.specs.Words.{hex_number}
+use Rattle.calls.proofs.Words.{hex_two}
 use Rattle.calls.proofs.writing.put_two_bytes.Goals as goal
 
--- fn put_two_bytes
+pub put_byte-requires-2 : goal.put_byte-requires-2
+put_byte-requires-2 c = omega (arith, writes_end c.put_byte.ensures, hex_two (c.args.n / 256), c.put_byte.ensures.long)
+
 pub returns : goal.returns
-unfolding hex_byte hex_number
-returns c =
-    let l = c.args.room.now in
-    let at = c.args.at in
-    let n = c.args.n in
-    c.put_byte-2.ensures
-    ∙ (ap (λ (m : List ℕ). sets m (at + 2) (hex_byte (n % 256))) c.put_byte.ensures ∙ sym (sets_append l at (hex_byte (n / 256)) (hex_byte (n % 256))))
+unfolding hex_number
+returns c = writes_then c.put_byte.ensures c.put_byte-2.ensures

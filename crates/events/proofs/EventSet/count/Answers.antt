@@ -1,4 +1,4 @@
--- `EventSet::count` meets its contract: `n` counts the events in the words before word `i`.
+-- `EventSet::count` meets its contract: `n` counts the events in the words before the word at hand.
 use mathlib.Core.Path.{◌≡◌, refl, sym}
 use Prim.Native.Nat.{◌+◌, ◌-◌, ◌*◌, ◌≤◌}
 use native.Mathlib.Omega.{arith}
@@ -10,37 +10,37 @@ use Rattle.events.proofs.Sets.{whole}
 use Rattle.events.proofs.Words.{how_many_word}
 use Rattle.events.proofs.EventSet.count.Goals as goal
 
--- for i in 0..WORDS {
-pub loop-i-init : goal.loop-i-init
+-- for word in self.words.iter() {
+pub loop-word-init : goal.loop-word-init
 unfolding how_many
-loop-i-init c = (search rules, refl)
+loop-word-init c = refl
 
--- n += u64::count_ones(self.words[i]) as usize;
+-- n += word.count_ones() as usize;
 pub overflow_cast-n : goal.overflow_cast-n
 overflow_cast-n c =
-    let loop = c.loop-i in
+    let loop = c.loop-word in
     let set = c.args.self in
-    let more = how_many_word set.words loop.i ((whole set _ c.well_formed.0).fits loop.i) in
-    omega (arith, how_many_le (64 * (loop.i + 1)) (members set))
+    let more = how_many_word set.words loop.word-index ((whole set _ c.well_formed.0).fits loop.word-index) in
+    omega (arith, how_many_le (64 * (loop.word-index + 1)) (members set))
 
 pub overflow_add-n : goal.overflow_add-n
 overflow_add-n c =
-    let loop = c.loop-i in
+    let loop = c.loop-word in
     let set = c.args.self in
-    let more = how_many_word set.words loop.i ((whole set _ c.well_formed.0).fits loop.i) in
-    omega (arith, how_many_le (64 * (loop.i + 1)) (members set))
+    let more = how_many_word set.words loop.word-index ((whole set _ c.well_formed.0).fits loop.word-index) in
+    omega (arith, how_many_le (64 * (loop.word-index + 1)) (members set))
 
--- for i in 0..WORDS {
-pub loop-i-preserved : goal.loop-i-preserved
-loop-i-preserved c =
-    let loop = c.loop-i in
+-- for word in self.words.iter() {
+pub loop-word-preserved : goal.loop-word-preserved
+loop-word-preserved c =
+    let loop = c.loop-word in
     let set = c.args.self in
-    let more = how_many_word set.words loop.i ((whole set _ c.well_formed.0).fits loop.i) in
-    (search rules, rw loop.invariant.1 (sym more))
+    let more = how_many_word set.words loop.word-index ((whole set _ c.well_formed.0).fits loop.word-index) in
+    rw loop.invariant (sym more)
 
 -- pub fn count
 pub returns : goal.returns
 returns c =
-    let loop = c.loop-i in
-    let all : 64 * loop.i ≡ places = omega arith in
-    rw all at loop.invariant.1
+    let loop = c.loop-word in
+    let all : 64 * loop.word-index ≡ places = omega arith in
+    rw all at loop.invariant

@@ -12,11 +12,11 @@ use Rattle.events.proofs.Events.{lowest_is}
 use Rattle.events.proofs.Words.{none_before, marks_lowest}
 use Rattle.events.proofs.EventSet.lowest.Goals as goal
 
--- for at in 0..WORDS {
+-- for (at, word) in self.words.iter().enumerate() {
 pub loop-at-init : goal.loop-at-init
-loop-at-init c = (search rules, below_none _)
+loop-at-init c = below_none _
 
--- let low = u64::trailing_zeros(self.words[at]) as usize;
+-- let low = word.trailing_zeros() as usize;
 pub overflow_cast-low : goal.overflow_cast-low
 overflow_cast-low c =
     let loop = c.loop-at in
@@ -28,16 +28,16 @@ returns-then-low-lt64 c =
     let loop = c.loop-at in
     let if1 = c.if-low-lt64 in
     let l = c.args.self.words in
-    lowest_is places _ (members c.args.self) (omega arith) (none_before l loop.at loop.invariant.1) (λ h. marks_lowest l loop.at if1.true)
+    lowest_is places _ (members c.args.self) (omega arith) (none_before l loop.at loop.invariant) (λ h. marks_lowest l loop.at if1.true)
 
--- for at in 0..WORDS {
+-- for (at, word) in self.words.iter().enumerate() {
 pub loop-at-preserved : goal.loop-at-preserved
 loop-at-preserved c =
     let loop = c.loop-at in
-    (search rules, λ n h. none_before c.args.self.words loop.at loop.invariant.1 n (omega arith))
+    λ n h. none_before c.args.self.words loop.at loop.invariant n (omega arith)
 
 -- pub fn lowest
 pub returns : goal.returns
 returns c =
     let loop = c.loop-at in
-    lowest_is places places (members c.args.self) (omega arith) (λ n h. loop.invariant.1 n (omega arith)) (λ h. absurd (omega arith))
+    lowest_is places places (members c.args.self) (omega arith) (λ n h. loop.invariant n (omega arith)) (λ h. absurd (omega arith))

@@ -1,27 +1,20 @@
 -- `run_from` meets its contract: an instant is under way before each pass, and there are at most G + 2.
 use borrow.Author.Rules.{rules}
-use Prim.Native.Nat.{◌+◌, ◌-◌}
-use mathlib.Core.Path.{◌≡◌, refl, ◌∙◌}
+use mathlib.Core.Path.{refl, ◌≡◌, ◌∙◌}
 use mathlib.Core.List.{List}
 use native.Mathlib.Omega.{arith}
 use lib.ListN.{length}
 use mir.Val.{Val}
 use denote.Laws.{Is}
-use Rattle.events.specs.Members.{marks}
-use Rattle.junior.specs.Figures.{G}
-use Rattle.table.specs.Spells.{tree_of}
 use Rattle.table.specs.Reading.{event_words}
-use Rattle.steps.specs.Running.{values_in, rooms_of}
-use Rattle.steps.specs.Numbers.{words_of, tally_of, Numbers}
-use Rattle.steps.specs.Lent.{state_in, store_in, Named}
-use Rattle.steps.proofs.FlagNumbers.{not_susp}
-use Rattle.steps.proofs.Slices.{same_put, state_back, store_stays}
-use Rattle.runner.proofs.Names.{named_then, beside_named}
+use Rattle.junior.specs.declared.Flag.TheVariants.{SUSP}
+use Rattle.steps.proofs.FlagTests.{ne_is, ne_not}
+use Rattle.steps.proofs.Slices.{all_same, named_then}
+use Rattle.runner.proofs.Handed.{can_then, ran_then}
 use Rattle.kernel.specs.declared.passes.HandedIn.{HandedIn}
-use Rattle.kernel.specs.Passes.{Startable}
 use Rattle.kernel.specs.contracts.passes.HandedIn as I
-use Rattle.kernel.proofs.Passing.{Underway, few_passes, handed_words, handed_values, begins_by, can_pass, ran_by, row_holds, can_look}
-use Rattle.kernel.proofs.Passing.{goes_by, Names, next_row_holds, some_flag, left_bytes, some_bytes, finished_by, run_of}
+use Rattle.kernel.proofs.Passing.{few_passes, handed_words, handed_values, begins_by, can_pass, ran_by, row_holds, can_look}
+use Rattle.kernel.proofs.Passing.{goes_by, next_row_holds, left_bytes, some_bytes, finished_by, run_of}
 use Rattle.kernel.proofs.passes.run_from.Goals as goal
 
 -- the set of events that is handed in has words for all places
@@ -29,105 +22,96 @@ handed-long : (h : HandedIn) (v : List Val) → Is I.the_row h v → length h.ev
 handed-long h v i = search rules
 
 -- loop {
-pub loop-table-init : goal.loop-table-init
-loop-table-init c =
-    let long = handed-long c.args.handed _ c.well_formed.1.1.0 in
+pub loop-pass-init : goal.loop-pass-init
+loop-pass-init c =
+    let long = handed-long c.args.handed _ c.well_formed.1.0 in
     let H = c.args.handed in
     let (underway, holds, unnamed) =
-    begins_by H.events.words H.low H.high c.requires long (rw c.word_at-nodes.ensures.0 at c.first_numbers-row.ensures) in
-    (c.requires, underway, holds, ((refl, refl), refl), rw unnamed (record { node_is = c.no_wait-waits.ensures.0; event_is = c.no_wait-waits.ensures.1 }))
+    begins_by H.events.words H.low H.high c.requires long (rw c.word_at-nodes.ensures.0 at c.first_numbers-pass.ensures) in
+    (c.requires, underway, holds, all_same, rw unnamed (record { node_is = c.no_wait-waits.ensures.0; event_is = c.no_wait-waits.ensures.1 }))
 
 -- passes += 1;
 pub overflow_add-passes : goal.overflow_add-passes
 overflow_add-passes c =
-    omega (arith, few_passes c.loop-table.invariant.1, c.loop-table.invariant.0.few)
+    omega (arith, few_passes c.loop-pass.invariant.1, c.loop-pass.invariant.0.few)
 
--- let flag = run_child(&table, 0, bytes, &mut row, atoms);
+-- let flag = run_child(pass, 0);
 pub run_child-flag-requires : goal.run_child-flag-requires
 run_child-flag-requires c =
-    can_pass c.loop-table.invariant.1 c.loop-table.invariant.2
+    can_then c.loop-pass.invariant.3.0 (can_pass c.loop-pass.invariant.1 c.loop-pass.invariant.2)
 
--- end_program(bytes[STATE], flag);
+-- end_program(pass.state, flag);
 pub end_program-requires : goal.end_program-requires
 end_program-requires c =
-    let ran = ran_by c.loop-table.invariant.1 c.loop-table.invariant.2 c.run_child-flag.ensures.has_run refl in
-    (some_flag c.loop-table.invariant.1 c.loop-table.invariant.2 c.run_child-flag.ensures.has_run, some_bytes c.loop-table.invariant.1 _ ran)
+    let run = ran_then c.loop-pass.invariant.3.0 c.run_child-flag.ensures.has_run in
+    some_bytes c.loop-pass.invariant.1 _ (ran_by c.loop-pass.invariant.1 c.loop-pass.invariant.2 run refl)
 
--- events_of(&row),
+-- events_of(&pass.numbers),
 pub events_of-requires : goal.events_of-requires
 events_of-requires c =
-    (row_holds c.loop-table.invariant.1 c.loop-table.invariant.2 c.run_child-flag.ensures.has_run).long
+    (row_holds c.loop-pass.invariant.1 c.loop-pass.invariant.2 (ran_then c.loop-pass.invariant.3.0 c.run_child-flag.ensures.has_run)).long
 
--- row[ATOMS] as usize,
-pub bounds-row-16 : goal.bounds-row-16
-bounds-row-16 c =
-    let long = (row_holds c.loop-table.invariant.1 c.loop-table.invariant.2 c.run_child-flag.ensures.has_run).long in
+-- pass.numbers[ATOMS] as usize,
+pub bounds-pass-16 : goal.bounds-pass-16
+bounds-pass-16 c =
+    let long = (row_holds c.loop-pass.invariant.1 c.loop-pass.invariant.2 (ran_then c.loop-pass.invariant.3.0 c.run_child-flag.ensures.has_run)).long in
     search rules
 
--- row[PARKED] as usize,
-pub bounds-row-22 : goal.bounds-row-22
-bounds-row-22 c =
-    let long = (row_holds c.loop-table.invariant.1 c.loop-table.invariant.2 c.run_child-flag.ensures.has_run).long in
+-- pass.numbers[PARKED] as usize,
+pub bounds-pass-22 : goal.bounds-pass-22
+bounds-pass-22 c =
+    let long = (row_holds c.loop-pass.invariant.1 c.loop-pass.invariant.2 (ran_then c.loop-pass.invariant.3.0 c.run_child-flag.ensures.has_run)).long in
     search rules
 
 -- return report(
-pub returns-then-flag-ne-SUSP : goal.returns-then-flag-ne-SUSP
-returns-then-flag-ne-SUSP c =
-    let u = c.loop-table.invariant.1 in
-    let run = c.run_child-flag.ensures.has_run in
-    let below = some_flag u c.loop-table.invariant.2 run in
-    let ran = ran_by u c.loop-table.invariant.2 run refl in
-    let long = handed-long c.args.handed _ c.well_formed.1.1.0 in
+pub returns-then-ne : goal.returns-then-ne
+returns-then-ne c =
+    let u = c.loop-pass.invariant.1 in
+    let run = ran_then c.loop-pass.invariant.3.0 c.run_child-flag.ensures.has_run in
+    let ran = ran_by u c.loop-pass.invariant.2 run refl in
+    let long = handed-long c.args.handed _ c.well_formed.1.0 in
     let H = c.args.handed in
-    let handed = handed_words c.args.table.now H.events.words long H.low H.high _ c.first_numbers-row.ensures in
-    let asked = handed_values c.args.table.now H.events.words long H.low H.high _ c.first_numbers-row.ensures in
-    let told = rw (finished_by _ below) at c.report.ensures in
+    let handed = handed_words c.args.pass.now.table.now H.events.words long H.low H.high _ c.first_numbers-pass.ensures in
+    let asked = handed_values c.args.pass.now.table.now H.events.words long H.low H.high _ c.first_numbers-pass.ensures in
+    let told = rw (finished_by c.run_child-flag.result c.eq.ensures) at c.report.ensures in
     let left = c.end_program.ensures ∙ left_bytes u _ ran in
-    let slices = c.run_child-flag.new.bytes in
-    let state = c.end_program.new.state in
-    let names = named_then (named_then c.loop-table.invariant.3 c.run_child-flag.ensures.named) (beside_named (same_put slices state)) in
     record {
-      ran = rw (state_back slices state c.end_program.auto.state, store_stays slices state)
-          (rw (handed, asked) at (run_of c.loop-table.invariant.0 u ran (not_susp below c.if-flag-ne-SUSP.true) left c.events_of.ensures c.loop-table.invariant.4 told));
-      same_state = names.0.0;
-      same_row = names.1;
-      same_free = names.0.1;
+      ran = rw (handed, asked) at (run_of c.loop-pass.invariant.0 u ran (ne_is _ SUSP c.ne.ensures c.if-ne.true) left c.events_of.ensures c.loop-pass.invariant.4 told);
+      named = named_then c.loop-pass.invariant.3 c.run_child-flag.ensures.named;
     }
 
--- waits = waits_after(table, bytes[STATE], &row, waits);
+-- waits = waits_after(pass, waits);
 pub waits_after-waits-requires : goal.waits_after-waits-requires
 waits_after-waits-requires c =
-    can_look c.loop-table.invariant.1 c.loop-table.invariant.2 c.run_child-flag.ensures.has_run c.if-flag-ne-SUSP.false
+    let then = named_then c.loop-pass.invariant.3 c.run_child-flag.ensures.named in
+    rw then.0 (can_look c.loop-pass.invariant.1 c.loop-pass.invariant.2 (ran_then c.loop-pass.invariant.3.0 c.run_child-flag.ensures.has_run) (ne_not _ SUSP c.ne.ensures c.if-ne.false))
 
--- next_pass(&mut row);
+-- next_pass(&mut pass.numbers);
 pub next_pass-requires : goal.next_pass-requires
 next_pass-requires c =
-    (row_holds c.loop-table.invariant.1 c.loop-table.invariant.2 c.run_child-flag.ensures.has_run).long
+    (row_holds c.loop-pass.invariant.1 c.loop-pass.invariant.2 (ran_then c.loop-pass.invariant.3.0 c.run_child-flag.ensures.has_run)).long
 
 -- loop {
-pub loop-table-smaller : goal.loop-table-smaller
-loop-table-smaller c =
-    let few = rw c.loop-table.invariant.0.program at (few_passes c.loop-table.invariant.1) in
+pub loop-pass-smaller : goal.loop-pass-smaller
+loop-pass-smaller c =
+    let few = rw c.loop-pass.invariant.0.program at (few_passes c.loop-pass.invariant.1) in
     omega arith
 
-pub loop-table-preserved : goal.loop-table-preserved
-loop-table-preserved c =
-    let run = c.run_child-flag.ensures.has_run in
-    let (underway, names) = goes_by c.loop-table.invariant.1 c.loop-table.invariant.2 run c.if-flag-ne-SUSP.false in
-    let slices = c.run_child-flag.new.bytes in
-    let state = c.waits_after-waits.new.state in
-    let kept = named_then c.loop-table.invariant.3 c.run_child-flag.ensures.named in
-    let same = named_then kept (beside_named (same_put slices (state_in slices).now)) in
-    rw (c.next_pass.ensures, state_back slices state c.waits_after-waits.auto.state, store_stays slices state, c.waits_after-waits.ensures.state_unchanged) (
-      c.loop-table.invariant.0,
+pub loop-pass-preserved : goal.loop-pass-preserved
+loop-pass-preserved c =
+    let run = ran_then c.loop-pass.invariant.3.0 c.run_child-flag.ensures.has_run in
+    let (underway, names) = goes_by c.loop-pass.invariant.1 c.loop-pass.invariant.2 run (ne_not _ SUSP c.ne.ensures c.if-ne.false) in
+    let then = named_then c.loop-pass.invariant.3 c.run_child-flag.ensures.named in
+    rw c.next_pass.ensures (
+      c.loop-pass.invariant.0,
       underway,
-      next_row_holds c.loop-table.invariant.1 c.loop-table.invariant.2 run,
-      ((same.0.0, kept.0.1), same.1),
-      names _ _ c.loop-table.invariant.4 c.waits_after-waits.ensures.waits_after,
+      next_row_holds c.loop-pass.invariant.1 c.loop-pass.invariant.2 run,
+      then,
+      names _ _ c.loop-pass.invariant.4 (rw then.0 at c.waits_after-waits.ensures),
     )
 
-pub overflow_sub-table : goal.overflow_sub-table
-overflow_sub-table c = omega (arith, c.requires.placed.loaded.framed.long)
+pub overflow_sub-pass : goal.overflow_sub-pass
+overflow_sub-pass c = omega (arith, c.requires.placed.loaded.framed.long)
 
 pub word_at-nodes-requires : goal.word_at-nodes-requires
 word_at-nodes-requires c = omega (arith, c.requires.placed.loaded.framed.long)

@@ -6,8 +6,8 @@ use Rattle.events.specs.Members.{places}
 use Rattle.listing.specs.Inside.{token, token_at}
 use Rattle.listing.proofs.input.event_at.Given as goal
 
-abbrev pub invariant-loop-next : goal.invariant-loop-next
-invariant-loop-next l = (l.next ≤ length l.line) × (l.event < 10 * places) × (token_at l.line l.at ≡ token l.next l.event (drop l.next l.line))
+abbrev pub invariant-loop-d : goal.invariant-loop-d
+invariant-loop-d l = (l.next ≤ length l.line) × (l.event < 10 * places) × (token_at l.line l.at ≡ token l.next l.event (drop l.next l.line))
 
-abbrev pub decreases-loop-next : goal.decreases-loop-next
-decreases-loop-next l = length l.line - l.next
+abbrev pub decreases-loop-d : goal.decreases-loop-d
+decreases-loop-d l = length l.line - l.next

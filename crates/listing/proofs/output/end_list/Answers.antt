@@ -1,13 +1,19 @@
 -- `end_list` meets its contract: a dash where no number stands, else the last comma is overwritten.
 use native.Mathlib.Omega.{arith}
+use Rattle.letters.proofs.Writes.{writes_end}
 use Rattle.listing.proofs.Lists.{dash_ends, comma_ends}
 use Rattle.listing.proofs.output.end_list.Goals as goal
 
--- return to + 2;
-pub returns-then-from-to : goal.returns-then-from-to
-returns-then-from-to c =
-    let if1 = c.if-from-to in
-    ((λ room l p. dash_ends c.args.last l p if1.true), omega arith)
+pub byte-requires-then-from-out : goal.byte-requires-then-from-out
+byte-requires-then-from-out c = omega (arith, writes_end c.byte.ensures, c.byte.ensures.long)
+
+pub returns-then-from-out : goal.returns-then-from-out
+returns-then-from-out c =
+    record {
+      ended = λ start l e w. dash_ends c.args.last l w (omega arith) c.byte.ensures c.byte-then-from-out.ensures;
+      short = omega (arith, writes_end c.byte.ensures, writes_end c.byte-then-from-out.ensures);
+    }
 
 pub returns : goal.returns
-returns c = ((λ room l p. comma_ends c.args.last l p c.if-from-to.false), omega arith)
+returns c =
+    record { ended = λ start l e w. comma_ends c.args.last l w (λ h. c.if-from-out.false (omega arith)); short = omega arith }

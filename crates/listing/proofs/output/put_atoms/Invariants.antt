@@ -1,10 +1,10 @@
--- `put_atoms` meets its contract: after i turns the first i atoms are put, a comma behind each.
-use mathlib.Core.Path.{◌≡◌}
+-- `put_atoms` meets its contract: the first atoms are written, a comma behind each.
 use Prim.Native.Nat.{◌+◌, ◌*◌, ◌≤◌}
-use lib.ListN.{length, take}
-use Rattle.letters.specs.Rooms.{Puts}
+use lib.ListN.{take}
+use Rattle.letters.specs.Writing.{Writes}
 use Rattle.listing.specs.Inside.{items}
 use Rattle.listing.proofs.output.put_atoms.Given as goal
 
-abbrev pub invariant-loop-i : goal.invariant-loop-i
-invariant-loop-i l = (l.i ≤ length l.atoms) × (l.i-end ≡ length l.atoms) × (length l.room ≡ length l.initial.room) × (l.to ≤ l.at + 6 * l.i) × Puts l.initial.room l.room l.at (items (take l.i l.atoms)) l.to
+abbrev pub invariant-loop-atom : goal.invariant-loop-atom
+invariant-loop-atom l =
+    (l.out.at ≤ l.initial.out.at + 6 * l.atom-index) × Writes l.initial.out l.out (items (take l.atom-index l.atoms))

@@ -1,12 +1,11 @@
--- `put_events` meets its contract: after i turns the events in the first i words are put, a comma behind each.
-use mathlib.Core.Path.{◌≡◌}
+-- `put_events` meets its contract: the events in the first i words are written, a comma behind each.
 use Prim.Native.Nat.{◌+◌, ◌*◌, ◌≤◌}
-use lib.ListN.{length}
-use Rattle.events.specs.Members.{places, members}
+use Rattle.events.specs.Members.{members}
+use Rattle.letters.specs.Writing.{Writes}
 use Rattle.listing.specs.Output.{rising}
-use Rattle.letters.specs.Rooms.{Puts}
 use Rattle.listing.specs.Inside.{items}
 use Rattle.listing.proofs.output.put_events.Given as goal
 
 abbrev pub invariant-loop-i : goal.invariant-loop-i
-invariant-loop-i l = (64 * l.i ≤ places) × (length l.room ≡ length l.initial.room) × (l.to ≤ l.at + 6 * (64 * l.i)) × Puts l.initial.room l.room l.at (items (rising (64 * l.i) (members l.events))) l.to
+invariant-loop-i l =
+    (l.out.at ≤ l.initial.out.at + 6 * (64 * l.i)) × Writes l.initial.out l.out (items (rising (64 * l.i) (members l.fn.events)))

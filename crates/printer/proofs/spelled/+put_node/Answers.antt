@@ -11,18 +11,18 @@ use Rattle.printer.proofs.spelled.+put_node.Goals as goal
 -- let begun = put_head(table, i, room, at);
 pub put_head-begun-requires : goal.put_head-begun-requires
 put_head-begun-requires t c =
-    record { the_names = c.requires.the_names; printable = head_fits c.requires.printable }
+    head_fits c.requires
 
 -- let count = children_of(kind_at(table, i));
 pub kind_at-requires : goal.kind_at-requires
 kind_at-requires t c =
-    omega (arith, in_table c.requires.printable.placed 0 (size_pos c.requires.printable.program))
+    omega (arith, in_table c.requires.placed 0 (size_pos c.requires.program))
 
 -- return put(room, begun, b")");
 pub put-requires : goal.put-requires
 put-requires t c =
     let count = ap children (sym c.kind_at.ensures.0) ∙ c.children_of-count.ensures in
-    none_closes c.requires.printable c.put_head-begun.ensures (count ∙ c.if-count-eq0.true)
+    none_closes c.requires c.put_head-begun.ensures (count ∙ c.if-count-eq0.true)
 
 pub returns-then-count-eq0 : goal.returns-then-count-eq0
 returns-then-count-eq0 t c =
@@ -32,20 +32,20 @@ returns-then-count-eq0 t c =
 -- let first = put_node(table, i + 1, room, begun);
 pub overflow_add-i : goal.overflow_add-i
 overflow_add-i t c =
-    omega (arith, own_node c.requires.printable.placed, c.requires.printable.placed.loaded.framed.n_most)
+    omega (arith, own_node c.requires.placed, c.requires.placed.loaded.framed.n_most)
 
 pub put_node-first-requires : goal.put_node-first-requires
 put_node-first-requires t c =
     let count = ap children (sym c.kind_at.ensures.0) ∙ c.children_of-count.ensures in (
-      omega (arith, first_less c.requires.printable (λ z. c.if-count-eq0.false (sym count ∙ z))),
-      (c.requires.the_names, first_part c.requires.printable c.put_head-begun.ensures (λ z. c.if-count-eq0.false (sym count ∙ z))),
+      omega (arith, first_less c.requires (λ z. c.if-count-eq0.false (sym count ∙ z))),
+      first_part c.requires c.put_head-begun.ensures (λ z. c.if-count-eq0.false (sym count ∙ z)),
     )
 
 -- return put(room, first, b")");
 pub put-requires-then-count-eq1 : goal.put-requires-then-count-eq1
 put-requires-then-count-eq1 t c =
     let count = ap children (sym c.kind_at.ensures.0) ∙ c.children_of-count.ensures in
-    one_closes c.requires.printable c.put_head-begun.ensures (count ∙ c.if-count-eq1.true) c.put_node-first.ensures
+    one_closes c.requires c.put_head-begun.ensures (count ∙ c.if-count-eq1.true) c.put_node-first.ensures
 
 pub returns-then-count-eq1 : goal.returns-then-count-eq1
 returns-then-count-eq1 t c =
@@ -56,22 +56,22 @@ returns-then-count-eq1 t c =
 pub put-between-requires : goal.put-between-requires
 put-between-requires t c =
     let count = ap children (sym c.kind_at.ensures.0) ∙ c.children_of-count.ensures in
-    comma_fits c.requires.printable (λ z. c.if-count-eq0.false (sym count ∙ z)) (λ z. c.if-count-eq1.false (sym count ∙ z)) c.put_head-begun.ensures c.put_node-first.ensures
+    comma_fits c.requires (λ z. c.if-count-eq0.false (sym count ∙ z)) (λ z. c.if-count-eq1.false (sym count ∙ z)) c.put_head-begun.ensures c.put_node-first.ensures
 
 -- let second = put_node(table, second_at(table, i), room, between);
 pub second_at-requires : goal.second_at-requires
 second_at-requires t c =
     let count = ap children (sym c.kind_at.ensures.0) ∙ c.children_of-count.ensures in
-    second_inside c.requires.printable (λ z. c.if-count-eq0.false (sym count ∙ z)) (λ z. c.if-count-eq1.false (sym count ∙ z))
+    second_inside c.requires (λ z. c.if-count-eq0.false (sym count ∙ z)) (λ z. c.if-count-eq1.false (sym count ∙ z))
 
 pub put_node-second-requires : goal.put_node-second-requires
 put_node-second-requires t c =
     let count = ap children (sym c.kind_at.ensures.0) ∙ c.children_of-count.ensures in
-    let there = second_part_lem c.requires.printable (λ z. c.if-count-eq0.false (sym count ∙ z)) (λ z. c.if-count-eq1.false (sym count ∙ z)) c.put_head-begun.ensures
+    let there = second_part_lem c.requires (λ z. c.if-count-eq0.false (sym count ∙ z)) (λ z. c.if-count-eq1.false (sym count ∙ z)) c.put_head-begun.ensures
     c.put_node-first.ensures c.put-between.ensures in
     rw c.second_at.ensures (
-      omega (arith, second_less c.requires.printable (λ z. c.if-count-eq0.false (sym count ∙ z)) (λ z. c.if-count-eq1.false (sym count ∙ z))),
-      (c.requires.the_names, there),
+      omega (arith, second_less c.requires (λ z. c.if-count-eq0.false (sym count ∙ z)) (λ z. c.if-count-eq1.false (sym count ∙ z))),
+      there,
     )
 
 -- put(room, second, b")")
@@ -79,7 +79,7 @@ pub put-requires-2 : goal.put-requires-2
 put-requires-2 t c =
     let count = ap children (sym c.kind_at.ensures.0) ∙ c.children_of-count.ensures in
     let second = rw c.second_at.ensures at c.put_node-second.ensures in
-    two_closes c.requires.printable (λ z. c.if-count-eq0.false (sym count ∙ z)) (λ z. c.if-count-eq1.false (sym count ∙ z)) c.put_head-begun.ensures c.put_node-first.ensures
+    two_closes c.requires (λ z. c.if-count-eq0.false (sym count ∙ z)) (λ z. c.if-count-eq1.false (sym count ∙ z)) c.put_head-begun.ensures c.put_node-first.ensures
     c.put-between.ensures second
 
 -- pub fn put_node

@@ -14,19 +14,22 @@ unfolding opening
 put-begun-requires c =
     fits_first (bytes "Jr.") ((form_of c.args.k).name ++ bytes "(") c.requires.fits
 
--- put_name(names, ROW * (FIRST_FORM + k), end, room, begun)
-pub put_name-requires : goal.put_name-requires
+-- put(room, begun, names.part(ROW * (FIRST_FORM + k), end))
+pub part-requires : goal.part-requires
+part-requires c =
+    let e = c.requires.name_ends in
+    let l = name_long c.args.k c.requires.known in
+    let m = name_low c.args.k c.requires.known in
+    record { rising = omega arith; in_the_table = omega arith }
+
+pub put-requires : goal.put-requires
 unfolding opening
-put_name-requires c =
-    let e = c.requires.end_value in
-    let h = c.requires.k_lt_form_count in
+put-requires c =
     let f = fits_on (bytes "Jr.") ((form_of c.args.k).name ++ bytes "(") c.requires.fits c.put-begun.ensures in
-    let l = name_long c.args.k h in
-    let m = name_low c.args.k h in
-    record { the_names = c.requires.the_names; begin_le_end = omega arith; end_le_long = omega arith; fits = rw (e, name_there c.args.k h) f }
+    rw (c.part.ensures, c.requires.name_ends, name_there c.args.k c.requires.known) f
 
 -- fn put_opening
 pub returns : goal.returns
 unfolding opening
 returns c =
-    puts_then c.put-begun.ensures (rw (c.requires.end_value, name_there c.args.k c.requires.k_lt_form_count) at c.put_name.ensures)
+    puts_then c.put-begun.ensures (rw (c.part.ensures, c.requires.name_ends, name_there c.args.k c.requires.known) at c.put.ensures)

@@ -7,7 +7,7 @@ use Rattle.printer.proofs.spelled.put_outline.Goals as goal
 -- let begun = put_head(&names, table, i, room, at);
 pub put_head-begun-requires : goal.put_head-begun-requires
 put_head-begun-requires c =
-    record { the_names = c.table_of_names-names.ensures; printable = own_part_fits c.requires }
+    own_part_fits c.requires
 
 -- return put(room, begun, b")");
 pub put-requires : goal.put-requires

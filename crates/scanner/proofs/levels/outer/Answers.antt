@@ -8,7 +8,7 @@ use Rattle.scanner.proofs.levels.outer.Goals as goal
 pub level_at-requires : goal.level_at-requires
 level_at-requires c =
     let l = back_within c.args.text.now c.args.bracket 0 0 in
-    record { the_names = c.requires.the_names; bracket_in_bounds = rw c.around-round.ensures (omega (arith, l)) }
+    record { in_the_text = rw c.around-round.ensures (omega (arith, l)) }
 
 pub returns : goal.returns
 unfolding outer_at rest_at

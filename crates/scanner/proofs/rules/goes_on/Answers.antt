@@ -9,7 +9,7 @@ use Rattle.scanner.proofs.rules.goes_on.Goals as goal
 -- return same_codes(names, pc - column, ROW * row, column);
 pub same_codes-requires : goal.same_codes-requires
 same_codes-requires c =
-    record { the_names = c.requires.the_names; n_bound = (omega arith, omega arith) }
+    record { in_the_table = (omega arith, omega arith) }
 
 pub returns-then-b-code : goal.returns-then-b-code
 returns-then-b-code c =

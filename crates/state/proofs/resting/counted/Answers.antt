@@ -1,6 +1,5 @@
 -- Two tests.
 use borrow.Author.Tests.{lt-ltb, le-ltb}
-use borrow.Author.Rules.{rules}
 use Rattle.state.proofs.resting.counted.Goals as goal
 
 pub returns-then-own-gt-PHASE : goal.returns-then-own-gt-PHASE

@@ -5,7 +5,6 @@ use native.Mathlib.Omega.{arith}
 use borrow.Author.Rules.{rules}
 use Rattle.table.specs.Records.{size_at}
 use Rattle.state.specs.Resting.{zero_node, rests}
-use Rattle.state.specs.Inside.{Nearest, Blamed}
 use Rattle.state.proofs.Firsts.{first_here, first_lowest}
 use Rattle.state.proofs.Near.{own_size_lem, judged}
 use Rattle.state.proofs.resting.first_blamed.Goals as goal
@@ -23,7 +22,7 @@ loop-near-init c =
 -- low = fresh_low(table, state, from, near, low);
 pub fresh_low-low-requires : goal.fresh_low-low-requires
 fresh_low-low-requires c =
-    record { judged = judged c.args.state.now (own_size_lem c.requires.rooted) (rw (← c.requires.rooted.whole) at c.requires.n_in_bounds) c.loop-near.invariant.0 c.zero_from-from.ensures; blamed = c.loop-near.invariant.1 }
+    record { judged = judged c.args.state.now (own_size_lem c.requires.rooted) (rw (← c.requires.rooted.whole) at c.requires.state_long) c.loop-near.invariant.0 c.zero_from-from.ensures; blamed = c.loop-near.invariant.1 }
 
 -- return low;
 pub returns-then-from-eq0 : goal.returns-then-from-eq0
@@ -35,7 +34,7 @@ pub begun_low-low-requires : goal.begun_low-low-requires
 begun_low-low-requires c =
     let z = c.zero_from-from.ensures in
     let e : c.zero_from-from.result - 1 + 1 ≡ c.zero_from-from.result = omega arith in
-    let j = judged c.args.state.now (own_size_lem c.requires.rooted) (rw (← c.requires.rooted.whole) at c.requires.n_in_bounds) c.loop-near.invariant.0 z in
+    let j = judged c.args.state.now (own_size_lem c.requires.rooted) (rw (← c.requires.rooted.whole) at c.requires.state_long) c.loop-near.invariant.0 z in
     record { judging = (record { inside = omega (arith, z.within); behind = rw e j }, z.first (omega arith)); blamed = rw e c.fresh_low-low.ensures }
 
 -- while 0 < near {

@@ -1,11 +1,10 @@
 -- All nodes up to `at` rest.
-use Prim.Native.Nat.{◌-◌, ◌≤◌}
 use mathlib.Core.Path.{◌≡◌, sym, ◌∙◌}
 use native.Mathlib.Omega.{arith}
 use borrow.Author.Rules.{rules}
 use Rattle.table.proofs.Subtrees.{starts}
 use Rattle.state.specs.Resting.{rests}
-use Rattle.state.proofs.Firsts.{Hold, hold_one, hold_join, first_later}
+use Rattle.state.proofs.Firsts.{hold_one, hold_join, first_later}
 use Rattle.state.proofs.Near.{judging}
 use Rattle.state.proofs.Fresh.{at_in, on_past, at_rests}
 use Rattle.state.proofs.resting.fresh_low.Goals as goal
@@ -14,16 +13,19 @@ use Rattle.state.proofs.resting.fresh_low.Goals as goal
 pub loop-at-smaller-then-end-near : goal.loop-at-smaller-then-end-near
 loop-at-smaller-then-end-near c =
     let j = c.requires.judged in
-    omega (arith, c.size_at.ensures.0, starts j.rooted c.loop-at.at (at_in j c.loop-at.at c.loop-at.invariant.0 (search rules)))
+    omega (arith, c.end-end.ensures, starts j.rooted c.loop-at.at (at_in j c.loop-at.at c.loop-at.invariant.0 (search rules)))
 
 pub loop-at-preserved-then-end-near : goal.loop-at-preserved-then-end-near
 loop-at-preserved-then-end-near c =
-    (search rules, c.if-end-near.true, on_past c.requires.judged c.loop-at.at c.loop-at.invariant.0 (search rules) _ c.size_at.ensures.0 c.if-end-near.true c.loop-at.invariant.2)
+    (search rules, c.if-end-near.true, on_past c.requires.judged c.loop-at.at c.loop-at.invariant.0 (search rules) _ c.end-end.ensures c.if-end-near.true c.loop-at.invariant.2)
 
--- if fresh_rests(table, state, at, near) {
+-- let node = Node {
+pub invariant_of-node : goal.invariant_of-node
+invariant_of-node c = record { judging = judging c.requires.judged c.loop-at.at c.loop-at.invariant.0 (search rules) }
+
+-- if node.fresh_rests() {
 pub fresh_rests-requires : goal.fresh_rests-requires
-fresh_rests-requires c =
-    (judging c.requires.judged c.loop-at.at c.loop-at.invariant.0 (search rules), rw c.size_at.ensures.0 at c.if-end-near.false)
+fresh_rests-requires c = rw c.end-end.ensures at c.if-end-near.false
 
 -- while at < near {
 pub loop-at-preserved : goal.loop-at-preserved

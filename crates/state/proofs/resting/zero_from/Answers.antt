@@ -2,9 +2,7 @@
 use Prim.Native.Nat.{◌+◌, ◌-◌}
 use mathlib.Core.Path.{◌≡◌, sym, ◌∙◌}
 use native.Mathlib.Omega.{arith}
-use borrow.Author.Rules.{rules}
 use Rattle.state.specs.Resting.{zero_node}
-use Rattle.state.proofs.Zeros.{own_zero, own_not_zero}
 use Rattle.state.proofs.Firsts.{hold_more}
 use Rattle.state.proofs.resting.zero_from.Goals as goal
 
@@ -14,12 +12,12 @@ returns-then-i-eq0 c =
     record { within = omega arith; zero = rw c.if-i-eq0.true at c.zero_twos-i.ensures.zero; first = λ h. absurd (omega arith) }
 
 -- return i;
-pub returns-then-own_at-ne0 : goal.returns-then-own_at-ne0
-returns-then-own_at-ne0 c =
+pub returns-then-not-zero_node : goal.returns-then-not-zero_node
+returns-then-not-zero_node c =
     record {
       within = c.zero_twos-i.ensures.within;
       zero = c.zero_twos-i.ensures.zero;
-      first = λ h. own_not_zero _ _ (λ e. c.if-own_at-ne0.true (c.own_at.ensures.is ∙ e));
+      first = λ h. sym c.zero_node.ensures ∙ c.if-not-zero_node.true;
     }
 
 -- i - 1
@@ -29,7 +27,7 @@ returns c =
     let i = c.zero_twos-i.result in
     let e : i - 1 + 1 ≡ i = omega arith in
     let d : i - 1 - 1 ≡ i - 2 = omega arith in
-    let z = own_zero c.args.state.now (i - 1) (sym c.own_at.ensures.is ∙ c.if-own_at-ne0.false) in
+    let z = sym c.zero_node.ensures ∙ c.if-not-zero_node.false in
     record {
       within = omega (arith, f.within);
       zero = hold_more (zero_node c.args.state.now) (i - 1) c.args.near z (rw e f.zero);

@@ -1,11 +1,11 @@
 -- All nodes from i up to `near` have been looked at, two by two.
-use Prim.Native.Nat.{◌+◌, ◌-◌, ◌≤◌}
+use Prim.Native.Nat.{◌+◌, ◌-◌}
 use mathlib.Core.Path.{◌≡◌}
 use native.Mathlib.Omega.{arith}
 use borrow.Author.Rules.{rules}
 use Rattle.state.specs.Resting.{zero_node}
 use Rattle.state.proofs.Zeros.{two_zero, two_not_zero}
-use Rattle.state.proofs.Firsts.{Hold, hold_more}
+use Rattle.state.proofs.Firsts.{hold_more}
 use Rattle.state.proofs.resting.zero_twos.Goals as goal
 
 -- return i;

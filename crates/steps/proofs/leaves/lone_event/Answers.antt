@@ -1,5 +1,4 @@
 -- Whether a node tests a lone event.
-use borrow.Author.Rules.{rules}
 use Rattle.steps.proofs.TestsRead.{test_here, lone_found}
 use Rattle.steps.proofs.leaves.lone_event.Goals as goal
 

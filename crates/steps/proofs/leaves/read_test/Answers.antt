@@ -1,13 +1,12 @@
 -- What a node's test is read as is what the configuration that it names is read as.
-use borrow.Author.Rules.{rules}
 use mathlib.Core.Path.{refl}
 use Rattle.steps.proofs.TestsRead.{test_here, test_stands, table_short, test_ranked}
 use Rattle.steps.proofs.leaves.read_test.Goals as goal
 
--- read_configuration(table, c, numbers, ended)
+-- read_configuration(*table, c, numbers, ended)
 pub read_configuration-requires : goal.read_configuration-requires
 read_configuration-requires c =
-    record { configuration_at = rw (test_here c.requires _ c.argument_at.ensures.0) (test_stands c.requires); table_len_bound = table_short c.requires }
+    record { configuration_at = rw (test_here c.requires _ c.argument_at.ensures.0) (test_stands c.requires); table_short = table_short c.requires }
 
 -- fn read_test
 pub returns : goal.returns

@@ -1,48 +1,34 @@
 -- An Await meets its contract by what its test is read as: rules 22 to 25.
-use borrow.Author.Rules.{rules}
-use mathlib.Core.Path.{refl, sym, ◌∙◌}
 use Rattle.steps.proofs.Dispatch.{phase_reads}
 use Rattle.steps.proofs.Ended.{done_run}
-use Rattle.steps.proofs.Slices.{wrote, same_put}
+use Rattle.steps.proofs.Slices.{all_same}
 use Rattle.steps.proofs.Awaits.{await_tests, await_suspends, await_refused, await_met, await_met_late}
 use Rattle.steps.proofs.leaves.run_tested.Goals as goal
 
 -- return TERM;
-pub returns-then-bytes-i-eq-GONE : goal.returns-then-bytes-i-eq-GONE
-returns-then-bytes-i-eq-GONE c =
-    let bytes = c.args.bytes.now in
-    record { has_run_beside = (λ row. wrote bytes _ _ (done_run c.if-bytes-i-eq-GONE.true)); same_bytes = same_put bytes _ }
+pub returns-then-pass-i-eq-GONE : goal.returns-then-pass-i-eq-GONE
+returns-then-pass-i-eq-GONE c =
+    record { has_run = done_run c.if-pass-i-eq-GONE.true; named = all_same }
 
--- return SUSP;
-pub returns-then-rank-eq-UNKNOWN : goal.returns-then-rank-eq-UNKNOWN
-returns-then-rank-eq-UNKNOWN c =
-    record { has_run_beside = (λ row. await_suspends c.if-bytes-i-eq-GONE.false (λ d s. sym c.rank_of-rank.ensures ∙ c.read_test.ensures d s) c.if-rank-eq-UNKNOWN.true); same_bytes = (refl, refl) }
+pub bounds-pass-i : goal.bounds-pass-i
+bounds-pass-i c = phase_reads c.requires
 
--- return STOP;
-pub returns-then-rank-eq-UNSAT : goal.returns-then-rank-eq-UNSAT
-returns-then-rank-eq-UNSAT c =
-    record { has_run_beside = (λ row. await_refused c.if-bytes-i-eq-GONE.false (λ d s. sym c.rank_of-rank.ensures ∙ c.read_test.ensures d s) c.if-rank-eq-UNSAT.true); same_bytes = (refl, refl) }
-
--- return TERM;
-pub returns-then-numbers-eq0 : goal.returns-then-numbers-eq0
-returns-then-numbers-eq0 c =
-    record { has_run_beside = (λ row. await_met c.if-bytes-i-eq-GONE.false (λ d s. sym c.rank_of-rank.ensures ∙ c.read_test.ensures d s) c.if-rank-eq-UNKNOWN.false c.if-rank-eq-UNSAT.false c.if-numbers-eq0.true); same_bytes = (refl, refl) }
-
--- fn run_tested
-pub returns : goal.returns
-returns c =
-    let bytes = c.args.bytes.now in
-    record {
-      has_run_beside = (λ row.
-          wrote bytes _ _ (await_met_late c.if-bytes-i-eq-GONE.false (λ d s. sym c.rank_of-rank.ensures ∙ c.read_test.ensures d s) c.if-rank-eq-UNKNOWN.false c.if-rank-eq-UNSAT.false c.if-numbers-eq0.false));
-      same_bytes = same_put bytes _;
-    }
-
-pub bounds-bytes-i : goal.bounds-bytes-i
-bounds-bytes-i c = phase_reads c.requires.1
-
-pub bounds-bytes-i-then-bytes-i-eq-GONE : goal.bounds-bytes-i-then-bytes-i-eq-GONE
-bounds-bytes-i-then-bytes-i-eq-GONE c = phase_reads c.requires.1
+pub bounds-pass-i-then-pass-i-eq-GONE : goal.bounds-pass-i-then-pass-i-eq-GONE
+bounds-pass-i-then-pass-i-eq-GONE c = phase_reads c.requires
 
 pub read_test-requires : goal.read_test-requires
-read_test-requires c = await_tests c.if-bytes-i-eq-GONE.false c.requires.1
+read_test-requires c = await_tests c.if-pass-i-eq-GONE.false c.requires
+
+pub returns-in-Unknown : goal.returns-in-Unknown
+returns-in-Unknown c = record { has_run = await_suspends c.if-pass-i-eq-GONE.false c.in-Unknown.ensures; named = all_same }
+
+pub returns-in-Unsat : goal.returns-in-Unsat
+returns-in-Unsat c = record { has_run = await_refused c.if-pass-i-eq-GONE.false c.in-Unsat.ensures; named = all_same }
+
+pub returns-then-pass-eq0 : goal.returns-then-pass-eq0
+returns-then-pass-eq0 c =
+    record { has_run = await_met c.if-pass-i-eq-GONE.false c.in-Sat.ensures c.if-pass-eq0.true; named = all_same }
+
+pub returns-else-pass-eq0 : goal.returns-else-pass-eq0
+returns-else-pass-eq0 c =
+    record { has_run = await_met_late c.if-pass-i-eq-GONE.false c.in-Sat.ensures c.if-pass-eq0.false; named = all_same }

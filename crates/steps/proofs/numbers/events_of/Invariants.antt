@@ -1,13 +1,9 @@
 -- The events taken out of the row are its event words.
-use borrow.Author.Rules.{rules}
 use Prim.Native.Nat.{◌-◌, ◌≤◌}
-use mathlib.Core.Path.{◌≡◌, ◌∙◌, refl}
-use mathlib.Core.List.{◌++◌, append-nil}
-use native.Mathlib.Omega.{arith}
-use native.Mathlib.Numerals.{add-one}
+use mathlib.Core.Path.{◌≡◌}
+use mathlib.Core.List.{◌++◌}
 use lib.ListN.{take, drop}
 use Rattle.table.specs.Reading.{event_words}
-use Rattle.steps.proofs.Row.{copy_more}
 use Rattle.steps.proofs.numbers.events_of.Given as goal
 
 abbrev pub invariant-loop-at : goal.invariant-loop-at

@@ -1,5 +1,4 @@
 -- `first_numbers` meets its contract: the words are put into a row of zeros, then the byte where the configurations begin, then the values.
-use borrow.Author.Rules.{rules}
 use Rattle.steps.proofs.numbers.first_numbers.Goals as goal
 
 -- pub fn first_numbers

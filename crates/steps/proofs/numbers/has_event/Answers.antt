@@ -1,5 +1,4 @@
 -- Whether an event is present, by its digit in its word.
-use borrow.Author.Rules.{rules}
 use Rattle.steps.proofs.Row.{mark_at}
 use Rattle.steps.proofs.numbers.has_event.Goals as goal
 

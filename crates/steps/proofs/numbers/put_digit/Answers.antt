@@ -1,5 +1,4 @@
 -- `put_digit` meets its contract: 1 is shifted to the digit's place, then set or cleared.
-use borrow.Author.Rules.{rules}
 use Prim.Native.Nat.{ℕ, ◌*◌, ◌%◌, ◌^◌, ◌<◌}
 use mathlib.Core.Path.{◌≡◌, ◌∙◌, fun_ext}
 use native.Mathlib.Omega.{arith}
@@ -10,14 +9,14 @@ use Rattle.steps.proofs.numbers.put_digit.Goals as goal
 one_shifted : (at : ℕ) → at < 64 → 1 * 2 ^ at % 2 ^ 64 ≡ 2 ^ at
 one_shifted at l = shl_exact {a = 1} 1 at 64 (omega arith) (omega arith) ∙ omega arith
 
--- return word | 1 << at;
+-- word | 1 << at
 pub returns-then-present : goal.returns-then-present
 returns-then-present c =
     let a = c.args in
     rw (c.if-present.true, one_shifted a.at c.requires) (fun_ext (λ j. digits_set a.at j a.word))
 
--- fn put_digit
-pub returns : goal.returns
-returns c =
+-- word & !(1 << at)
+pub returns-else-present : goal.returns-else-present
+returns-else-present c =
     let a = c.args in
     rw (c.if-present.false, one_shifted a.at c.requires) (fun_ext (λ j. digits_clear 64 a.at j a.word c.requires c.ranges.word.fits))

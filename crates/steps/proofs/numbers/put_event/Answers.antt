@@ -1,5 +1,4 @@
 -- An event's digit put into its word: E+S or E-S, all else in the row kept.
-use borrow.Author.Rules.{rules}
 use Rattle.steps.proofs.Row.{puts}
 use Rattle.steps.proofs.numbers.put_event.Goals as goal
 

@@ -1,5 +1,4 @@
 -- How often a repetition's body is run: by its count, or by the lesser of its cap and its value.
-use borrow.Author.Rules.{rules}
 use borrow.Author.Tests.{eq-eqb, ne_eqb}
 use mathlib.Core.Path.{sym, ◌∙◌}
 use Rattle.steps.proofs.numbers.times_at.Goals as goal

@@ -1,5 +1,4 @@
 -- A value of the box, by its eight digits in its number.
-use borrow.Author.Rules.{rules}
 use Rattle.steps.proofs.Row.{value_at}
 use Rattle.steps.proofs.numbers.value_of.Goals as goal
 

@@ -1,6 +1,5 @@
 -- A Repeat that has begun: its phase and its count in the bytes.
-use borrow.Author.Rules.{rules}
-use Prim.Native.Nat.{◌+◌}
+use Prim.Native.Nat.{◌+◌, ◌/◌, ◌%◌}
 use mathlib.Core.Path.{◌≡◌}
 use lib.ListN.{length-set}
 use native.Mathlib.Omega.{arith}
@@ -13,4 +12,8 @@ pub bounds-state-at-3 : goal.bounds-state-at-3
 bounds-state-at-3 c = simp length-set (omega arith)
 
 pub returns : goal.returns
-returns c = let at = c.args.at in let e : at + 2 + 1 ≡ at + 3 = omega arith in rw e
+returns c =
+    let a = c.args in
+    let e : a.at + 2 + 1 ≡ a.at + 3 = omega arith in
+    let high : a.k / 256 % 256 ≡ a.k / 256 = omega (arith, c.requires.1) in
+    rw (e, c.to_be_bytes.ensures, high)

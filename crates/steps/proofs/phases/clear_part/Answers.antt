@@ -1,5 +1,4 @@
 -- A subtree's bytes made zero, all others kept.
-use borrow.Author.Rules.{rules}
 use lib.ListN.{replicate}
 use borrow.Rule.Slice.PartMut.{put_mid, mid_len}
 use mathlib.Core.Path.{ap, ◌∙◌}

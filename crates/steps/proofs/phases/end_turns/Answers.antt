@@ -1,5 +1,4 @@
 -- A Repeat that has ended: its own bytes are zero.
-use borrow.Author.Rules.{rules}
 use Prim.Native.Nat.{◌+◌}
 use mathlib.Core.Path.{◌≡◌}
 use lib.ListN.{length-set}

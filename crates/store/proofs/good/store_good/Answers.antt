@@ -22,4 +22,4 @@ returns c =
     let s = c.args.store.now in
     let u = c.word_at-used.ensures.0 in
     let d : 2 + in_use s - 2 ≡ in_use s = omega arith in
-    c.pieces_good.ensures ∙ rw (u, d) (sym (store_pieces c.args.table.now s (omega (arith, u))))
+    c.all_good.ensures ∙ rw (u, d) (sym (store_pieces c.args.table.now s (omega (arith, u))))

@@ -1,6 +1,5 @@
 -- `table::configurations::lone` meets its contract: sixteen times the kind byte and the event byte are below V
 -- exactly for an event below V.
-use borrow.Author.Rules.{rules}
 use Prim.Native.Nat.{◌<◌}
 use mathlib.Core.Path.{◌≡◌, sym, ◌∙◌}
 use native.Mathlib.Omega.{arith}

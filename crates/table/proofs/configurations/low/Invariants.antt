@@ -1,11 +1,8 @@
 -- `table::configurations::low` meets its contract: the record at hand and what is to come along the way decide the whole.
-use borrow.Author.Rules.{rules}
 use Prim.Native.Nat.{ℕ, ◌+◌, ◌-◌, ◌*◌}
-use native.Mathlib.Omega.{arith}
 use lib.ListN.{length}
 use Rattle.table.specs.Inside.{Begins}
-use Rattle.table.proofs.Heights.{few_parts}
-use Rattle.table.proofs.LowWays.{Looking, look_first, own_inside, way_least, look_end, look_on, look_less, look_down, look_high}
+use Rattle.table.proofs.LowWays.{Looking}
 use Rattle.table.proofs.configurations.low.Given as goal
 
 abbrev pub invariant-loop-next : goal.invariant-loop-next

@@ -1,5 +1,4 @@
 -- `table::configurations::parts_good` meets its contract.
-use borrow.Author.Rules.{rules}
 use Prim.Native.Nat.{◌+◌, ◌*◌}
 use mathlib.Core.Path.{◌≡◌, sym}
 use native.Mathlib.Omega.{arith}
@@ -20,7 +19,7 @@ returns-then-size-first c j b =
     let byte = (shared-slice-known.given (at + 1)).fits in
     let size : part_size t at ≡ 1 + part_size t (at + 4) = omega arith in
     let fine = some_parts t at 1 (omega arith) (omega arith) byte (omega arith) in
-    rw (own t at j b) (sym (fine (rw (lt-ltb _ _ if1.true, eq-eqb _ _ size))))
+    rw (own t at j b) (sym (fine (rw (lt-ltb _ _ if1.true, eq-eqb _ _ size))), λ e. omega arith)
 
 -- return 0;
 pub returns-then-head-eq256 : goal.returns-then-head-eq256
@@ -48,7 +47,7 @@ returns-then-head-eq512 c j b =
     let second = rw first at part-size3.ensures.0 in
     let size : part_size t at ≡ 1 + part_size t (at + 4) + part_size t (at + 4 + 4 * part_size t (at + 4)) = omega arith in
     let fine = some_parts t at 2 (omega arith) (omega arith) byte (omega arith) in
-    rw (own t at j b) (sym (fine (rw (lt-ltb _ _ if1.true, lt-ltb _ _ (rw first at if4.true), eq-eqb _ _ size))))
+    rw (own t at j b) (sym (fine (rw (lt-ltb _ _ if1.true, lt-ltb _ _ (rw first at if4.true), eq-eqb _ _ size))), λ e. omega arith)
 
 pub returns-then-head-eq768 : goal.returns-then-head-eq768
 unfolding parts
@@ -65,7 +64,7 @@ returns-then-head-eq768 c j b =
     let second = rw first at part-size3.ensures.0 in
     let size : part_size t at ≡ 1 + part_size t (at + 4) + part_size t (at + 4 + 4 * part_size t (at + 4)) = omega arith in
     let fine = some_parts t at 3 (omega arith) (omega arith) byte (omega arith) in
-    rw (own t at j b) (sym (fine (rw (lt-ltb _ _ if1.true, lt-ltb _ _ (rw first at if4.true), eq-eqb _ _ size))))
+    rw (own t at j b) (sym (fine (rw (lt-ltb _ _ if1.true, lt-ltb _ _ (rw first at if4.true), eq-eqb _ _ size))), λ e. omega arith)
 
 -- fn parts_good
 pub returns-else-head-eq768 : goal.returns-else-head-eq768

@@ -1,5 +1,4 @@
 -- `table::frame::distances_good` meets its contract.
-use borrow.Author.Rules.{rules}
 use mathlib.Core.Path.{sym}
 use borrow.Author.Tests.{eq-eqb, ne_eqb}
 use Rattle.table.proofs.Framing.{distances}
@@ -10,7 +9,7 @@ pub returns-then-word_at-all : goal.returns-then-word_at-all
 returns-then-word_at-all c =
     let word_at = c.word_at in
     let if1 = c.if-word_at-all in
-    let p = c.requires.n_value in
+    let p = c.requires.counts in
     simp (distances c.args.table.now _ _ p.0 p.1, sym word_at.ensures.0, ne_eqb _ _ if1.true)
 
 pub returns-then-word_at-m : goal.returns-then-word_at-m
@@ -19,7 +18,7 @@ returns-then-word_at-m c =
     let if1 = c.if-word_at-all in
     let word-at2 = c.word_at-2 in
     let if2 = c.if-word_at-m in
-    let p = c.requires.n_value in
+    let p = c.requires.counts in
     let both = distances c.args.table.now _ _ p.0 p.1 in
     simp (both, sym word_at.ensures.0, eq-eqb _ _ if1.false, sym word-at2.ensures.0, ne_eqb _ _ if2.true)
 
@@ -30,6 +29,6 @@ returns c =
     let if1 = c.if-word_at-all in
     let word-at2 = c.word_at-2 in
     let if2 = c.if-word_at-m in
-    let p = c.requires.n_value in
+    let p = c.requires.counts in
     let both = distances c.args.table.now _ _ p.0 p.1 in
     simp (both, sym word_at.ensures.0, eq-eqb _ _ if1.false, sym word-at2.ensures.0, eq-eqb _ _ if2.false)

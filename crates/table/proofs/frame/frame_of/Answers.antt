@@ -1,5 +1,4 @@
 -- `table::frame::frame_of` meets its contract.
-use borrow.Author.Rules.{rules}
 use mathlib.Core.Path.{sym, ◌∙◌}
 use borrow.Author.Tests.{le-leb, lt-leb}
 use Rattle.table.specs.Verdict.{length_good}
@@ -7,7 +6,7 @@ use Rattle.table.specs.Inside.Framing.{frame_of}
 use Rattle.table.proofs.Framing.{length_is, counts}
 use Rattle.table.proofs.frame.frame_of.Goals as goal
 
--- return Frame::Refused(Checked::BadLength);
+-- return Err(TableRefusal::BadLength);
 pub returns-then-length-lt16 : goal.returns-then-length-lt16
 unfolding frame_of length_good
 returns-then-length-lt16 c =
@@ -21,7 +20,7 @@ returns-then-length-gt32778 c =
     let if2 = c.if-length-gt32778 in
     rw (le-leb _ _ if1.false, lt-leb _ _ if2.true)
 
--- return Frame::Counts { n, m, v };
+-- return Ok(Counts { n, m, v });
 pub returns-then-distances_good : goal.returns-then-distances_good
 unfolding frame_of
 returns-then-distances_good c =
@@ -38,7 +37,7 @@ returns-then-distances_good c =
     let good = counts t _ _ _ word_at.ensures.0 word-at2.ensures.0 word-at3.ensures.0 ∙ (sym counts-good.ensures ∙ if3.true) in
     rw (length_is t if1.false if2.false, good, sym good_distances.ensures ∙ if4.true, word_at.ensures.0, word-at2.ensures.0, word-at3.ensures.0)
 
--- return Frame::Refused(Checked::BadDistances);
+-- return Err(TableRefusal::BadDistances);
 pub returns-then-counts_good : goal.returns-then-counts_good
 unfolding frame_of
 returns-then-counts_good c =

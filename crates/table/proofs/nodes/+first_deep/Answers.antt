@@ -10,7 +10,7 @@ pub returns-then-d-gt64 : goal.returns-then-d-gt64
 returns-then-d-gt64 t c =
     let if1 = c.if-d-gt64 in
     let P = c.requires in
-    found_here P.all_good P.i_bound.0 _ if1.true
+    found_here P.all_good P.shallow.0 _ if1.true
 
 pub returns-then-count-eq0 : goal.returns-then-count-eq0
 returns-then-count-eq0 t c =
@@ -19,7 +19,7 @@ returns-then-count-eq0 t c =
     let children-of = c.children_of-count in
     let if2 = c.if-count-eq0 in
     let P = c.requires in
-    found_none P.all_good P.i_bound.0 kind_at.ensures.0 children-of.ensures _ if1.false if2.true
+    found_none P.all_good P.shallow.0 kind_at.ensures.0 children-of.ensures _ if1.false if2.true
 
 pub first_deep-found-requires : goal.first_deep-found-requires
 first_deep-found-requires t c =
@@ -27,7 +27,7 @@ first_deep-found-requires t c =
     let children-of = c.children_of-count in
     let if2 = c.if-count-eq0 in
     let P = c.requires in
-    let first = has_first P.all_good P.i_bound.0 kind_at.ensures.0 children-of.ensures if2.false in
+    let first = has_first P.all_good P.shallow.0 kind_at.ensures.0 children-of.ensures if2.false in
     (omega arith, (P.all_good, (first, omega arith)))
 
 -- return found;
@@ -40,7 +40,7 @@ returns-then-count-eq1 t c =
     let if3 = c.if-count-eq1 in
     let P = c.requires in
     found_one
-    P.all_good P.i_bound.0 kind_at.ensures.0 children-of.ensures
+    P.all_good P.shallow.0 kind_at.ensures.0 children-of.ensures
     _ if1.false if3.true _ first-deep.ensures
 
 -- return found;
@@ -57,7 +57,7 @@ returns-then-found-second t c =
     let P = c.requires in
     let second = rw second_at.ensures at if4.true in
     found_first
-    P.all_good P.i_bound.0 kind_at.ensures.0 children-of.ensures
+    P.all_good P.shallow.0 kind_at.ensures.0 children-of.ensures
     _ if1.false if2.false if3.false _ first-deep.ensures second
 
 pub first_deep-requires : goal.first_deep-requires
@@ -68,7 +68,7 @@ first_deep-requires t c =
     let if3 = c.if-count-eq1 in
     let second_at = c.second_at-second in
     let P = c.requires in
-    let second = has_second_lem P.all_good P.i_bound.0 kind_at.ensures.0 children-of.ensures if2.false if3.false in
+    let second = has_second_lem P.all_good P.shallow.0 kind_at.ensures.0 children-of.ensures if2.false if3.false in
     rw second_at.ensures (omega arith, (P.all_good, (second, omega arith)))
 
 -- fn first_deep
@@ -87,5 +87,5 @@ returns t c =
     let second = rw second_at.ensures at if4.false in
     let later = rw second_at.ensures at first-deep2.ensures in
     found_second
-    P.all_good P.i_bound.0 kind_at.ensures.0 children-of.ensures
+    P.all_good P.shallow.0 kind_at.ensures.0 children-of.ensures
     _ if1.false if2.false if3.false _ first-deep.ensures second _ later

@@ -26,7 +26,7 @@ refused-requires c =
     let place = c.place-top in
     let if1 = c.if-top-eq0 in
     let row = place.ensures.1 if1.true in
-    record { sized_whole = c.requires.sized_whole; bound = λ g. row_deep c.requires.sized_whole g _ (omega arith) (row (g.good _ (omega arith))) }
+    record { sized_whole = c.requires.sized_whole; too_deep = λ g. row_deep c.requires.sized_whole g _ (omega arith) (row (g.good _ (omega arith))) }
 
 -- while i > 0 {
 pub loop-i-preserved : goal.loop-i-preserved
@@ -46,7 +46,7 @@ refused-requires-then-x-gt64 c =
     let if2 = c.if-x-gt64 in
     let x = (whole_weighs c.requires.sized_whole loop.invariant.0 loop-test.false).height_is in
     let k = rw weight-at.ensures at if2.true in
-    record { sized_whole = c.requires.sized_whole; bound = λ g. omega arith }
+    record { sized_whole = c.requires.sized_whole; too_deep = λ g. omega arith }
 
 -- let x = weight_at(waiting, 0);
 pub weight_at-x-requires : goal.weight_at-x-requires
@@ -61,7 +61,7 @@ bounds-waiting-0-2 c =
     let loop = c.loop-i in
     omega (arith, loop.invariant.0.long_row)
 
--- return Checked::EndlessLoop(endless);
+-- return Err(TableRefusal::EndlessLoop(endless));
 pub returns-then-endless-n : goal.returns-then-endless-n
 returns-then-endless-n c =
     let loop = c.loop-i in

@@ -7,18 +7,18 @@ use Rattle.table.proofs.Answers.{all_good, bad_answer, deep_answer}
 use Rattle.table.proofs.Lowest.{none_bad}
 use Rattle.table.proofs.nodes.refused.Goals as goal
 
--- return Checked::BadNode(bad);
+-- return TableRefusal::BadNode(bad);
 pub returns-then-bad-n : goal.returns-then-bad-n
 returns-then-bad-n c =
     let first-bad = c.first_bad-bad in
     bad_answer _ _ first-bad.ensures (omega arith)
 
--- Checked::TooDeep(first_deep(table, 0, 1))
+-- TableRefusal::TooDeep(first_deep(table, 0, 1))
 pub first_deep-requires : goal.first_deep-requires
 first_deep-requires c =
     let first-bad = c.first_bad-bad in
     let t = c.args.table.now in
-    record { all_good = all_good c.requires.sized_whole (none_bad (good_node t) (nodes t) _ first-bad.ensures (omega arith)); i_bound = (omega arith, omega arith) }
+    record { all_good = all_good c.requires.sized_whole (none_bad (good_node t) (nodes t) _ first-bad.ensures (omega arith)); shallow = (omega arith, omega arith) }
 
 -- fn refused
 pub returns : goal.returns
@@ -27,4 +27,4 @@ returns c =
     let first-deep = c.first_deep in
     let t = c.args.table.now in
     let g = all_good c.requires.sized_whole (none_bad (good_node t) (nodes t) _ first-bad.ensures (omega arith)) in
-    deep_answer c.requires.sized_whole g (c.requires.bound g) _ first-deep.ensures
+    deep_answer c.requires.sized_whole g (c.requires.too_deep g) _ first-deep.ensures

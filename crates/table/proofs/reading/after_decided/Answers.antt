@@ -1,56 +1,47 @@
 -- `table::reading::after_decided` meets its contract: the levels left, with the rank within, come to the same as all of them.
-use mathlib.Core.Bool.{true}
-use mathlib.Core.List.{List}
 use native.Mathlib.Omega.{arith}
-use Rattle.table.specs.Inside.Levels.{Level, Open, Left, Decided}
-use Rattle.table.proofs.OpenLevels.{none_closed, left_left, then_not_decided, all_closed, decided_not_3}
+use mathlib.Core.Path.{sym, ◌∙◌}
+use Rattle.table.proofs.OpenLevels.{none_closed, left_left, left_next, left_none, then_closes}
 use Rattle.table.proofs.reading.after_decided.Goals as goal
 
--- while levels > 2 {
 pub loop-levels-init : goal.loop-levels-init
-loop-levels-init c =
-    (c.requires.decided, λ o h. none_closed _ h)
+loop-levels-init c o h = none_closed _ h
 
--- let next = close(table, at, levels, rank);
-pub close-next-requires : goal.close-next-requires
-close-next-requires c =
-    let loop = c.loop-levels in
-    let loop-test = c.loop-levels-test in
-    let left = loop.invariant.1 c.requires.some_open.0 c.requires.some_open.1 in
-    record { some_open = (left.still, left.opened); lt_levels = (loop-test.true, loop.invariant.0) }
+-- match close(table, at, levels, sat) {
+pub close-requires : goal.close-requires
+close-requires c =
+    let left = c.loop-levels.invariant c.requires.0 c.requires.1 in
+    record { some_open = (left.still, left.opened); inside_a_level = c.loop-levels-test.true }
 
--- while levels > 2 {
 pub loop-levels-smaller : goal.loop-levels-smaller
 loop-levels-smaller c =
-    let loop-test = c.loop-levels-test in
-    let close = c.close-next in
-    omega (arith, close.ensures.levels_value, loop-test.true)
+    let falls = c.in-Decided.ensures.falls in
+    let inside = c.loop-levels-test.true in
+    omega arith
 
 pub loop-levels-preserved : goal.loop-levels-preserved
-loop-levels-preserved c =
-    let loop = c.loop-levels in
-    let close = c.close-next in
-    let if1 = c.if-next in
-    let here = loop.invariant.1 c.requires.some_open.0 c.requires.some_open.1 in
-    let again = (close.ensures.closes_one here.still here.opened).decided if1.true in (
-      again,
-      λ o h.
-          let left = loop.invariant.1 o h in
-          left_left left ((close.ensures.closes_one left.still left.opened).left (decided_not_3 again)),
-    )
+loop-levels-preserved c o h =
+    let left = c.loop-levels.invariant o h in
+    left_left left (c.in-Decided.ensures.closes_one left.still left.opened)
 
--- return next;
-pub returns-else-next : goal.returns-else-next
-returns-else-next c o h =
-    let loop = c.loop-levels in
-    let close = c.close-next in
-    let if1 = c.if-next in
-    let left = loop.invariant.1 o h in
-    then_not_decided left (close.ensures.closes_one left.still left.opened) if1.false
+-- Closed::Undecided(place) => return after_unknown(place.at, place.levels),
+pub after_unknown-requires : goal.after_unknown-requires
+after_unknown-requires c =
+    let left = c.loop-levels.invariant c.requires.0 c.requires.1 in
+    let now = c.in-Undecided.ensures.closes_one left.still left.opened in
+    (now.still, now.opened.number)
 
--- fn after_decided
+pub returns-in-Undecided : goal.returns-in-Undecided
+returns-in-Undecided c o h =
+    let left = c.loop-levels.invariant o h in
+    let now = left_left left (c.in-Undecided.ensures.closes_one left.still left.opened) in
+    then_closes now _ (c.after_unknown.ensures _ now.still now.opened)
+
+pub returns-in-Second : goal.returns-in-Second
+returns-in-Second c o h =
+    let left = c.loop-levels.invariant o h in
+    left_next left (c.in-Second.ensures.closes_one left.still left.opened)
+
+-- ControlFlow::Break(decided(sat))
 pub returns : goal.returns
-returns c o h =
-    let loop = c.loop-levels in
-    let loop-test = c.loop-levels-test in
-    all_closed (loop.invariant.1 o h) loop-test.false loop.invariant.0 true
+returns c o h E = left_none (c.loop-levels.invariant o h) c.loop-levels-test.false E ∙ sym c.decided.ensures

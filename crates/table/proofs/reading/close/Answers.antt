@@ -2,82 +2,60 @@
 use borrow.Author.Rules.{rules}
 use mathlib.Core.Path.{refl}
 use native.Mathlib.Omega.{arith}
-use Rattle.table.proofs.OpenLevels.{top, top_least, top_most, decided_most, second_inside}
+use Rattle.table.proofs.OpenLevels.{top, second_inside}
 use Rattle.table.proofs.OpenLevels.{closes_not, closes_decided, closes_to_second, closes_unknown, closes_second}
 use Rattle.table.proofs.reading.close.Goals as goal
 
--- at: at + 4 * part_size(table, at),
-pub overflow_add-result : goal.overflow_add-result
-overflow_add-result c =
-    let if1 = c.if-level-eq1 in
-    let if2 = c.if-level-lt4 in
-    let part-size = c.part_size in
-    let v = top c.requires.some_open.0 c.requires.some_open.1.number c.requires.lt_levels.0 in
-    let i = second_inside c.args.table.now c.args.at v if1.false if2.true c.requires.some_open.1.to_come in
-    let own = i.own in
-    let e = part-size.ensures.1 in
-    search rules
-
-pub returns-then-rank-level : goal.returns-then-rank-level
-returns-then-rank-level c =
-    let if1 = c.if-level-eq1 in
-    let if2 = c.if-level-lt4 in
-    let if3 = c.if-rank-level in
-    let part-size = c.part_size in
-    record {
-      levels_value = refl;
-      closes_one = λ o h.
-          rw part-size.ensures.0
-          (closes_decided (top o h.number c.requires.lt_levels.0) if1.false if2.true if3.true h.to_come c.requires.lt_levels.1);
-    }
-
--- rank: 3,
-pub returns-then-level-lt4 : goal.returns-then-level-lt4
-returns-then-level-lt4 c =
-    let if1 = c.if-level-eq1 in
-    let if2 = c.if-level-lt4 in
-    let if3 = c.if-rank-level in
-    record { levels_value = refl; closes_one = λ o h. closes_to_second (top o h.number c.requires.lt_levels.0) if1.false if2.true if3.false h.to_come c.requires.lt_levels.1 }
-
--- rank: 1,
-pub returns-then-rank-level-2 : goal.returns-then-rank-level-2
-returns-then-rank-level-2 c =
-    let if2 = c.if-level-lt4 in
-    let if4 = c.if-rank-level-2 in
-    record { levels_value = refl; closes_one = λ o h. closes_unknown (top o h.number c.requires.lt_levels.0) if2.false if4.true h.to_come }
-
--- fn close
-pub returns : goal.returns
-returns c =
-    let if2 = c.if-level-lt4 in
-    let if4 = c.if-rank-level-2 in
-    record { levels_value = refl; closes_one = λ o h. closes_second (top o h.number c.requires.lt_levels.0) if2.false if4.false h.to_come c.requires.lt_levels.1 }
-
--- if rank as u64 == 2 * (level - 2) {
-pub overflow_sub-level : goal.overflow_sub-level
-overflow_sub-level c =
-    let if1 = c.if-level-eq1 in
-    top_least (top c.requires.some_open.0 c.requires.some_open.1.number c.requires.lt_levels.0) if1.false
+pub returns-then-level-eq1 : goal.returns-then-level-eq1
+returns-then-level-eq1 c =
+    record { falls = refl; closes_one = λ o h. closes_not _ (top o h.number c.requires.inside_a_level) c.if-level-eq1.true h.to_come }
 
 -- at: at + 4 * part_size(table, at),
 pub part_size-requires : goal.part_size-requires
 part_size-requires c =
-    let if1 = c.if-level-eq1 in
-    let if2 = c.if-level-lt4 in
-    let v = top c.requires.some_open.0 c.requires.some_open.1.number c.requires.lt_levels.0 in
-    let i = second_inside c.args.table.now c.args.at v if1.false if2.true c.requires.some_open.1.to_come in
+    let v = top c.requires.some_open.0 c.requires.some_open.1.number c.requires.inside_a_level in
+    let i = second_inside c.args.table.now c.args.at v c.if-level-eq1.false c.if-level-lt4.true c.requires.some_open.1.to_come in
     omega (arith, i.own)
 
--- rank: 2 - rank,
-pub returns-then-level-eq1 : goal.returns-then-level-eq1
-returns-then-level-eq1 c =
-    let if1 = c.if-level-eq1 in
-    record { levels_value = refl; closes_one = λ o h. closes_not (top o h.number c.requires.lt_levels.0) if1.true h.to_come c.requires.lt_levels.1 }
+pub overflow_add-behind : goal.overflow_add-behind
+overflow_add-behind c =
+    let v = top c.requires.some_open.0 c.requires.some_open.1.number c.requires.inside_a_level in
+    let i = second_inside c.args.table.now c.args.at v c.if-level-eq1.false c.if-level-lt4.true c.requires.some_open.1.to_come in
+    let own = i.own in
+    let few = c.part_size.ensures.1 in
+    search rules
 
--- if rank as u64 == 2 * (5 - level) {
-pub overflow_sub-level-2 : goal.overflow_sub-level-2
-overflow_sub-level-2 c =
-    top_most (top c.requires.some_open.0 c.requires.some_open.1.number c.requires.lt_levels.0)
+-- return Closed::Decided(behind, sat);
+pub returns-then-sat-level : goal.returns-then-sat-level
+returns-then-sat-level c =
+    record {
+      falls = refl;
+      closes_one = λ o h.
+          rw c.part_size.ensures.0
+          (closes_decided _ (top o h.number c.requires.inside_a_level) c.if-level-eq1.false c.if-level-lt4.true c.if-sat-level.true h.to_come);
+    }
 
-pub overflow_sub-result : goal.overflow_sub-result
-overflow_sub-result c = decided_most c.requires.lt_levels.1
+pub returns-then-level-lt4 : goal.returns-then-level-lt4
+returns-then-level-lt4 c =
+    record {
+      falls = refl;
+      closes_one = λ o h.
+          closes_to_second _ (top o h.number c.requires.inside_a_level) c.if-level-eq1.false c.if-level-lt4.true c.if-sat-level.false h.to_come;
+    }
+
+pub returns-then-sat-level-2 : goal.returns-then-sat-level-2
+returns-then-sat-level-2 c =
+    record {
+      falls = refl;
+      closes_one = λ o h.
+          closes_unknown _ (top o h.number c.requires.inside_a_level) c.if-level-lt4.false c.if-sat-level-2.true h.to_come;
+    }
+
+-- Closed::Decided(here, sat)
+pub returns : goal.returns
+returns c =
+    record {
+      falls = refl;
+      closes_one = λ o h.
+          closes_second _ (top o h.number c.requires.inside_a_level) c.if-level-lt4.false c.if-sat-level-2.false h.to_come;
+    }

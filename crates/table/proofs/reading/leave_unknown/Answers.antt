@@ -1,9 +1,6 @@
 -- `table::reading::leave_unknown` meets its contract: the levels still there leave what all do.
-use mathlib.Core.Path.{◌≡◌}
-use mathlib.Core.List.{List}
 use native.Mathlib.Omega.{arith}
-use Rattle.table.specs.Inside.Levels.{Level, levelled, unsettled}
-use Rattle.table.proofs.OpenLevels.{Leaves, leaves_first, leaves_fewer, leaves_last, levelled_least}
+use Rattle.table.proofs.OpenLevels.{leaves_first, leaves_fewer, leaves_last, levelled_least}
 use Rattle.table.proofs.reading.leave_unknown.Goals as goal
 
 -- while levels % 4 < 2 {

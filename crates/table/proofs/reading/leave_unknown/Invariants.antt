@@ -1,9 +1,8 @@
 -- `table::reading::leave_unknown` meets its contract: the levels still there leave what all do.
 use mathlib.Core.Path.{◌≡◌}
 use mathlib.Core.List.{List}
-use native.Mathlib.Omega.{arith}
 use Rattle.table.specs.Inside.Levels.{Level, levelled, unsettled}
-use Rattle.table.proofs.OpenLevels.{Leaves, leaves_first, leaves_fewer, leaves_last, levelled_least}
+use Rattle.table.proofs.OpenLevels.{Leaves}
 use Rattle.table.proofs.reading.leave_unknown.Given as goal
 
 abbrev pub invariant-loop-levels : goal.invariant-loop-levels

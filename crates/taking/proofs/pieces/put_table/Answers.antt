@@ -22,4 +22,4 @@ put_rest-requires-clause-loaded c =
 pub returns : goal.returns
 returns c =
     let A = c.args in
-    table_written c.requires.loaded.0 A.j _ c.requires.loaded.1 c.size_at-n.ensures.0 A.room.now _ _ c.requires.j_in_bounds c.copy.ensures c.put_rest.ensures
+    table_written c.requires.loaded.0 A.j _ c.requires.loaded.1 c.size_at-n.ensures.0 A.room.now _ _ c.requires.room_long c.copy.ensures c.put_rest.ensures

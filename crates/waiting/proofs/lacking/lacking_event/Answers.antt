@@ -1,46 +1,50 @@
 -- `lacking_event` meets its contract: what is gathered so far, with the records left, is what all of them give.
 use borrow.Author.Rules.{rules}
-use Prim.Native.Nat.{◌+◌, ◌*◌, ◌≤◌}
-use mathlib.Core.Path.{◌≡◌, ap, sym, ◌∙◌}
+use Prim.Native.Nat.{◌+◌, ◌-◌, ◌*◌, ◌<◌}
+use mathlib.Core.Path.{◌≡◌, refl, sym, ◌∙◌}
 use native.Mathlib.Omega.{arith}
-use lib.ListN.{length}
 use Rattle.events.specs.Members.{places}
 use Rattle.table.specs.Records.{part_size}
 use Rattle.table.proofs.ByParts.{own_inside, written}
 use Rattle.waiting.proofs.Gathered.{gathered, lacks_as, one_more, no_more}
+use Rattle.waiting.proofs.lacking.lacking_event.Goals.{After-loop-record}
 use Rattle.waiting.proofs.lacking.lacking_event.Goals as goal
 
--- let mut left = part_size(table, c);
-pub part_size-left-requires : goal.part_size-left-requires
-part_size-left-requires c = omega (arith, own_inside _ _ c.requires)
+-- for record in 0..part_size(table, c) {
+pub part_size-record-end-requires : goal.part_size-record-end-requires
+part_size-record-end-requires c = omega (arith, own_inside _ _ c.requires)
 
--- while left > 0 {
-pub loop-left-init : goal.loop-left-init
-loop-left-init c =
-    let (d, h, l, low) = c.requires in
-    let size = c.part_size-left.ensures.0 in (
-      omega (arith, written _ _ d h),
-      ap (λ k. gathered c.args.table.now c.args.words.now k c.args.c places) size,
-    )
-
--- low = lowest_after(table, at, words, low);
+-- low = lowest_after(table, c + 4 * record, words, low);
 pub lowest_after-low-requires : goal.lowest_after-low-requires
 lowest_after-low-requires c =
-    omega (arith, c.loop-left.invariant.0, c.loop-left-test.true)
+    let (d, h, l, low) = c.requires in
+    omega (arith, written _ _ d h, c.part_size-record-end.ensures.0)
 
--- while left > 0 {
-pub loop-left-preserved : goal.loop-left-preserved
-loop-left-preserved c = (
-  omega (arith, c.loop-left.invariant.0, c.loop-left-test.true),
-  rw c.lowest_after-low.ensures
-      (sym (one_more c.args.table.now c.args.words.now c.loop-left.left c.loop-left.at c.loop-left.low c.loop-left-test.true) ∙ c.loop-left.invariant.1),
-)
-
--- pub fn lacking_event
-pub returns : goal.returns
-returns c =
+pub loop-record-preserved : goal.loop-record-preserved
+loop-record-preserved c =
     let t = c.args.table.now in
-    let w = c.args.words.now in
-    let none_left : c.loop-left.left ≡ 0 = omega (arith, c.loop-left-test.false) in
-    lacks_as t w c.args.c c.loop-left.low (λ i. (c.shared_slice_known-1.given i).fits)
-    (sym (no_more t w c.loop-left.left c.loop-left.at c.loop-left.low none_left) ∙ c.loop-left.invariant.1)
+    let k = c.loop-record.record in
+    let size = part_size t c.args.c in
+    let some : 0 < size - k = omega (arith, c.part_size-record-end.ensures.0, c.loop-record-test.true) in
+    let less : size - k - 1 ≡ size - (k + 1) = omega arith in
+    let next : c.args.c + 4 * k + 4 ≡ c.args.c + 4 * (k + 1) = omega arith in
+    rw (c.lowest_after-low.ensures, ← less, ← next) (sym (one_more t c.args.words.now (size - k) (c.args.c + 4 * k) c.loop-record.low some) ∙ c.loop-record.invariant)
+
+-- all of them are gathered
+gathered_all : (c : After-loop-record) → c.loop-record.low ≡ gathered c.args.table.now c.args.words.now (part_size c.args.table.now c.args.c) c.args.c places
+gathered_all c =
+    let t = c.args.table.now in
+    let k = c.loop-record.record in
+    let size = part_size t c.args.c in
+    let none_left : size - k ≡ 0 = omega (arith, c.part_size-record-end.ensures.0, c.loop-record-test.false) in
+    sym (no_more t c.args.words.now (size - k) (c.args.c + 4 * k) c.loop-record.low none_left) ∙ c.loop-record.invariant
+
+pub returns-then-low-lt-PLACES : goal.returns-then-low-lt-PLACES
+returns-then-low-lt-PLACES c =
+    let all = gathered_all (goal.at.returns-then-low-lt-PLACES c).After-loop-record in
+    lacks_as c.args.table.now _ _ (λ i. (c.type_inv.table i).fits) all (λ h. refl) (λ h. absurd (omega (arith, c.if-low-lt-PLACES.true)))
+
+pub returns-else-low-lt-PLACES : goal.returns-else-low-lt-PLACES
+returns-else-low-lt-PLACES c =
+    let all = gathered_all (goal.at.returns-else-low-lt-PLACES c).After-loop-record in
+    lacks_as c.args.table.now _ _ (λ i. (c.type_inv.table i).fits) all (λ h. absurd (omega (arith, c.if-low-lt-PLACES.false))) (λ h. refl)

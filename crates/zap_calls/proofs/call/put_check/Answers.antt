@@ -1,15 +1,26 @@
 -- `put_check` meets its contract: six numbers have room.
 use native.Mathlib.Omega.{arith}
 use Rattle.letters.proofs.Decimal.{decimal_length}
-use Rattle.letters.proofs.Puts.{number_end}
+use Rattle.letters.proofs.Writes.{number_ends}
 use Rattle.zap_calls.proofs.call.put_check.Goals as goal
 
--- letters::put_number(output, to, f as u64, 10)
-pub put_number-requires : goal.put_number-requires
-put_number-requires c =
-    omega (arith, c.requires, c.put_numbers-to.ensures.upper_bound, c.put_numbers-to.auto.room, decimal_length 19 c.args.f (omega arith))
+-- out.number(figures.parked as u64, b'\n');
+pub number-requires : goal.number-requires
+number-requires c =
+    omega (
+      arith,
+      c.requires,
+      c.put_numbers.ensures.short,
+      c.put_numbers.ensures.written.long,
+      decimal_length 19 c.args.figures.parked (omega arith),
+    )
 
--- fn put_check
 pub returns : goal.returns
 returns c =
-    omega (arith, c.requires, c.put_numbers-to.ensures.upper_bound, number_end 19 c.args.f 10 (omega arith) c.put_number.ensures)
+    omega (
+      arith,
+      c.requires,
+      c.put_numbers.ensures.short,
+      c.put_numbers.ensures.written.long,
+      number_ends 19 c.args.figures.parked 10 (omega arith) c.number.ensures,
+    )

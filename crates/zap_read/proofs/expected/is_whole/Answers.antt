@@ -1,9 +1,14 @@
 -- `is_whole` meets its contract.
-use Rattle.zap_read.proofs.Expecting.{fails_not_whole, others_whole}
+use mathlib.Core.Path.{ap, ◌∙◌}
+use Rattle.std.specs.Prelude.{Err}
+use Rattle.zap_read.proofs.Expecting.{fails_not_whole, read_whole, refused_whole}
 use Rattle.zap_read.proofs.expected.is_whole.Goals as goal
 
+pub returns-in-Ok : goal.returns-in-Ok
+returns-in-Ok c = read_whole c.read-answer.ensures c.in-Ok.is
+
 pub returns-in-Fails : goal.returns-in-Fails
-returns-in-Fails c = fails_not_whole c.read-answer.ensures c.in-Fails.is
+returns-in-Fails c = fails_not_whole c.read-answer.ensures (c.in-Err.is ∙ ap Err c.in-Fails.is)
 
 pub returns-in_default : goal.returns-in_default
-returns-in_default c = others_whole c.read-answer.ensures c.in_default.not-Fails
+returns-in_default c = refused_whole c.read-answer.ensures c.in-Err.is c.in_default.not-Fails

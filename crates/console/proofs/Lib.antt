@@ -1,2 +1,0 @@
--- The law of what is moved to the front.
-pub mod MovedToFront
