@@ -63,6 +63,7 @@ fn back_to_acting(text: &[u8], from: usize) -> usize
     requires { from ≤ length text.now }
     ensures { Idle text.now result from }
 {
+    // A range: over `iter().enumerate().rev()` the loop's invariant would go by the iterator, which names no place.
     for i in (0..from).rev() {
         if acts(text[i]) {
             return i + 1;
@@ -163,14 +164,14 @@ fn own_size(nodes: &[u8], part: bool) -> usize
     1
 }
 
-// The low 16 bits of x at byte i. (`to_be_bytes` asks for a cast and a copy into the room, which are no shorter.)
+// The low 16 bits of x at byte i.
 fn put_word(s: &mut [u8], i: usize, x: usize)
     requires { i + 1 < length s.old }
     ensures { s.new ≡ sets s.old i (big (x % 65536)) }
 {
-    let low = x % 65536;
-    s[i] = (low / 256) as u8;
-    s[i + 1] = (low % 256) as u8;
+    let [high, low] = ((x % 65536) as u16).to_be_bytes();
+    s[i] = high;
+    s[i + 1] = low;
 }
 
 // A node's record.
@@ -184,7 +185,7 @@ fn put_node(table: &mut [u8], at: usize, kind: u8, argument: usize, size: usize)
     put_word(table, at + 4, size);
 }
 
-// A configuration's record.
+// A configuration's record. Its kind is the record's first byte: the kinds of configurations have no names in crate table.
 fn put_test(table: &mut [u8], at: usize, kind: u8, s: usize, size: usize)
     requires { at + 3 < length table.old }
     ensures { table.new ≡ sets table.old at (test_bytes kind s size) }
@@ -233,9 +234,9 @@ fn label(nodes: &mut [u8], kind: u8, argument: usize)
     ensures { nodes.new ≡ sets (labelled kind nodes.old) 2 (big (argument % 65536)) }
 {
     spread(nodes, kind);
-    let low = argument % 65536;
-    store(nodes, 2, (low / 256) as u8);
-    store(nodes, 3, (low % 256) as u8);
+    let [high, low] = ((argument % 65536) as u16).to_be_bytes();
+    store(nodes, 2, high);
+    store(nodes, 3, low);
 }
 
 impl Front {

@@ -3,7 +3,7 @@ ghost use Rattle.std.specs.Prelude.{◌≤◌, length, IfSome};
 ghost use Rattle.call_lines.specs.Rooms.{StateRoom, RowRoom, StoreRoom, AnswerRoom};
 
 use crate::{Rooms, bad_line};
-use calls::{put_bytes, put_numbers, put_row, read_bytes, read_list, read_row};
+use calls::{put_numbers, put_word, read_bytes, read_list, read_row};
 use events::EventSet;
 use letters::Writer;
 use octets::split_once;
@@ -27,18 +27,10 @@ pub fn answer_instant(words: &[u8], rooms: &mut Rooms, output: &mut [u8]) -> usi
     requires { AnswerRoom output.old }
     ensures { result ≤ length output.old }
 {
-    let Some(handed) = read_words(words, rooms) else {
-        return bad_line(output);
-    };
-    call_instant(
-        &rooms.table[..handed.table],
-        &mut rooms.state[..handed.state],
-        handed.events,
-        &handed.values,
-        &mut rooms.row[..handed.row],
-        &mut rooms.store[..handed.store],
-        output,
-    )
+    match read_words(words, rooms) {
+        Some(handed) => call_instant(&handed, rooms, output),
+        None => bad_line(output),
+    }
 }
 
 // Reads the words: a table, a state, events, values, which are sixteen bytes exactly, a row and a store.
@@ -73,19 +65,19 @@ fn read_words(words: &[u8], rooms: &mut Rooms) -> Option<HandedIn>
     })
 }
 
-fn call_instant(
-    table: &[u8],
-    state: &mut [u8],
-    handed_in: EventSet,
-    values: &[u8; VALUES],
-    row: &mut [u16],
-    store: &mut [u8],
-    output: &mut [u8],
-) -> usize
-    requires { StateRoom state.old × RowRoom row.old × StoreRoom store.old × AnswerRoom output.old }
+fn call_instant(handed: &HandedIn, rooms: &mut Rooms, output: &mut [u8]) -> usize
+    requires { (handed.now.table ≤ length rooms.old.table.now)
+        × (handed.now.state ≤ length rooms.old.state.now)
+        × (handed.now.row ≤ length rooms.old.row.now)
+        × (handed.now.store ≤ length rooms.old.store.now)
+        × AnswerRoom output.old }
     ensures { result ≤ length output.old }
 {
-    let reply = kernel::instant(table, state, handed_in, values, row, store);
+    let table = &rooms.table[..handed.table];
+    let state = &mut rooms.state[..handed.state];
+    let row = &mut rooms.row[..handed.row];
+    let store = &mut rooms.store[..handed.store];
+    let reply = kernel::instant(table, state, handed.events, &handed.values, row, store);
     let refusal = Numbered::of(reply);
     let answer = reply.unwrap_or(kernel::no_answer());
     let mut out = Writer {
@@ -106,8 +98,8 @@ fn call_instant(
             answer.waits.event as u64,
         ],
     );
-    put_bytes(&mut out, state, b' ');
-    put_row(&mut out, row, b' ');
-    put_bytes(&mut out, store, b'\n');
+    put_word(&mut out, state, b' ');
+    put_word(&mut out, row, b' ');
+    put_word(&mut out, store, b'\n');
     out.at
 }

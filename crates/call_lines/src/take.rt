@@ -3,7 +3,7 @@ ghost use Rattle.std.specs.Prelude.{◌≤◌, length, IfSome};
 ghost use Rattle.call_lines.specs.Rooms.{LongRoom, StateRoom, StoreRoom, AnswerRoom};
 
 use crate::{Rooms, bad_line};
-use calls::{put_bytes, put_numbers, read_bytes};
+use calls::{put_numbers, put_word, read_bytes};
 use letters::Writer;
 use listing::read_events;
 use octets::split_once;
@@ -23,17 +23,10 @@ pub fn answer_take(words: &[u8], rooms: &mut Rooms, output: &mut [u8]) -> usize
     requires { AnswerRoom output.old }
     ensures { result ≤ length output.old }
 {
-    let Some(handed) = read_words(words, rooms) else {
-        return bad_line(output);
-    };
-    call_take(
-        &rooms.table[..handed.table],
-        &mut rooms.store[..handed.store],
-        handed.event,
-        &mut rooms.text[..handed.piece_table],
-        &mut rooms.state[..handed.piece_state],
-        output,
-    )
+    match read_words(words, rooms) {
+        Some(handed) => call_take(&handed, rooms, output),
+        None => bad_line(output),
+    }
 }
 
 // Reads the words: a table, a store, an event and two rooms. The event is one number: there is no space in a word, which would stand between two.
@@ -61,18 +54,19 @@ fn read_words(words: &[u8], rooms: &mut Rooms) -> Option<HandedIn>
     })
 }
 
-fn call_take(
-    table: &[u8],
-    store: &mut [u8],
-    event: usize,
-    table_room: &mut [u8],
-    state_room: &mut [u8],
-    output: &mut [u8],
-) -> usize
-    requires { StoreRoom store.old × LongRoom table_room.old × StateRoom state_room.old × AnswerRoom output.old }
+fn call_take(handed: &HandedIn, rooms: &mut Rooms, output: &mut [u8]) -> usize
+    requires { (handed.now.table ≤ length rooms.old.table.now)
+        × (handed.now.store ≤ length rooms.old.store.now)
+        × (handed.now.piece_table ≤ length rooms.old.text.now)
+        × (handed.now.piece_state ≤ length rooms.old.state.now)
+        × AnswerRoom output.old }
     ensures { result ≤ length output.old }
 {
-    let taken = taking::take(table, store, event, table_room, state_room);
+    let table = &rooms.table[..handed.table];
+    let store = &mut rooms.store[..handed.store];
+    let table_room = &mut rooms.text[..handed.piece_table];
+    let state_room = &mut rooms.state[..handed.piece_state];
+    let taken = taking::take(table, store, handed.event, table_room, state_room);
     let refusal = Numbered::of(taken);
     let lengths = taken.unwrap_or_default();
     let mut out = Writer {
@@ -88,8 +82,8 @@ fn call_take(
             lengths.state as u64,
         ],
     );
-    put_bytes(&mut out, store, b' ');
-    put_bytes(&mut out, table_room, b' ');
-    put_bytes(&mut out, state_room, b'\n');
+    put_word(&mut out, store, b' ');
+    put_word(&mut out, table_room, b' ');
+    put_word(&mut out, state_room, b'\n');
     out.at
 }

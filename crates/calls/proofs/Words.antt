@@ -21,7 +21,7 @@ use Rattle.events.specs.declared.EventSet.{EventSet}
 use Rattle.std.proofs.Common.{Option, None, Some}
 use Rattle.listing.specs.Inside.{Named, NamedBy}
 use Rattle.letters.proofs.Writes.{writes_then}
-use Rattle.calls.specs.Words.{byte_at, number_at, is_dash, firsts, WordRead, BytesRead, Counted, ListRead, ListIn, spelled, word, spaced, hex_byte, hex_number}
+use Rattle.calls.specs.Words.{byte_at, number_at, is_dash, firsts, WordRead, BytesRead, Counted, ListRead, ListIn, spelled, word, spaced}
 use Rattle.calls.specs.Inside.{fitting}
 
 false≢true : {A : Type 0} → false ≡ true → A
@@ -152,26 +152,26 @@ pub list_by : (text : List ℕ) → is_dash text ≡ false → (r : Option Event
 list_by text h None n = is_list h n
 list_by text h (Some s) n = is_list h n
 
-spelled_append : (spelling : ℕ → List ℕ) (l m : List ℕ) → spelled spelling (l ++ m) ≡ spelled spelling l ++ spelled spelling m
+spelled_append : {A : Type 0} (spelling : A → List ℕ) (l m : List A) → spelled spelling (l ++ m) ≡ spelled spelling l ++ spelled spelling m
 unfolding spelled
 spelled_append spelling [] m = refl
 spelled_append spelling (n ∷ l) m =
     ap (λ (w : List ℕ). spelling n ++ w) (spelled_append spelling l m) ∙ sym (append_assoc (spelling n) (spelled spelling l) (spelled spelling m))
 
 -- one more number
-pub spelled_more : (spelling : ℕ → List ℕ) (l : List ℕ) (i : ℕ) → i < length l
-    → spelled spelling (take (i + 1) l) ≡ spelled spelling (take i l) ++ spelling (get_or l i 0)
+pub spelled_more : {A : Type 0} (spelling : A → List ℕ) (l : List A) (d : A) (i : ℕ) → i < length l
+    → spelled spelling (take (i + 1) l) ≡ spelled spelling (take i l) ++ spelling (get_or l i d)
 unfolding spelled
-spelled_more spelling l i h =
-    rw (add-one i, take-suc l i 0 h) (spelled_append spelling (take i l) (get_or l i 0 ∷ [])
-    ∙ ap (λ (w : List ℕ). spelled spelling (take i l) ++ w) (append-nil (spelling (get_or l i 0))))
+spelled_more spelling l d i h =
+    rw (add-one i, take-suc l i d h) (spelled_append spelling (take i l) (get_or l i d ∷ [])
+    ∙ ap (λ (w : List ℕ). spelled spelling (take i l) ++ w) (append-nil (spelling (get_or l i d))))
 
-word_some : (spelling : ℕ → List ℕ) (l : List ℕ) → (length l ≡ 0 → ⊥) → word spelling l ≡ spelled spelling l
+word_some : {A : Type 0} (spelling : A → List ℕ) (l : List A) → (length l ≡ 0 → ⊥) → word spelling l ≡ spelled spelling l
 unfolding word
 word_some spelling [] h = absurd (h refl)
 word_some spelling (n ∷ l) h = refl
 
-word_none : (spelling : ℕ → List ℕ) (l : List ℕ) → length l ≡ 0 → word spelling l ≡ bytes "-"
+word_none : {A : Type 0} (spelling : A → List ℕ) (l : List A) → length l ≡ 0 → word spelling l ≡ bytes "-"
 unfolding word
 word_none spelling [] h = refl
 word_none spelling (n ∷ l) h = absurd (omega arith)
@@ -187,19 +187,11 @@ unfolding spaced
 spaced_more l i h = rw (add-one i, take-suc l i 0 h) (spaced_append (take i l) (get_or l i 0 ∷ []))
 
 -- a writer that has written numbers ends their word
-pub word_ends : {a b c : Writer} (spelling : ℕ → List ℕ) (l : List ℕ) (e : ℕ) → (length l ≡ 0 → ⊥) → Writes a b (spelled spelling l)
+pub word_ends : {A : Type 0} {a b c : Writer} (spelling : A → List ℕ) (l : List A) (e : ℕ) → (length l ≡ 0 → ⊥) → Writes a b (spelled spelling l)
     → Writes b c (e ∷ []) → Writes a c (word spelling l ++ (e ∷ []))
 word_ends spelling l e some p q = rw (word_some spelling l some) (writes_then p q)
 
 -- or a dash, where there is none
-pub dash_ends : {a b c : Writer} (spelling : ℕ → List ℕ) (l : List ℕ) (e : ℕ) → length l ≡ 0 → Writes a b (45 ∷ []) → Writes b c (e ∷ [])
+pub dash_ends : {A : Type 0} {a b c : Writer} (spelling : A → List ℕ) (l : List A) (e : ℕ) → length l ≡ 0 → Writes a b (45 ∷ []) → Writes b c (e ∷ [])
     → Writes a c (word spelling l ++ (e ∷ []))
 dash_ends spelling l e none p q = rw (word_none spelling l none) (writes_then p q)
-
-pub hex_two : (b : ℕ) → length (hex_byte b) ≡ 2
-unfolding hex_byte
-hex_two b = refl
-
-pub hex_four : (n : ℕ) → length (hex_number n) ≡ 4
-unfolding hex_number hex_byte
-hex_four n = refl

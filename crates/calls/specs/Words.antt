@@ -105,12 +105,12 @@ unfoldable pub hex_number : ℕ → List ℕ
 hex_number n = hex_byte (n / 256) ++ hex_byte (n % 256)
 
 -- the spellings of numbers, one behind the other
-unfoldable pub spelled : (ℕ → List ℕ) → List ℕ → List ℕ
+unfoldable pub spelled : {A : Type 0} → (A → List ℕ) → List A → List ℕ
 spelled spelling [] = []
 spelled spelling (n ∷ l) = spelling n ++ spelled spelling l
 
 -- a word of them
-unfoldable pub word : (ℕ → List ℕ) → List ℕ → List ℕ
+unfoldable pub word : {A : Type 0} → (A → List ℕ) → List A → List ℕ
 word spelling [] = bytes "-"
 word spelling (n ∷ l) = spelled spelling (n ∷ l)
 

@@ -35,7 +35,8 @@ pub fn read_pair(text: &[u8], first: &mut [u8], second: &mut [u8]) -> Option<(us
     Some((n, m))
 }
 
-// Reads a row's numbers into the start of a room, and answers how many.
+// Reads a row's numbers into the start of a room, and answers how many. (Beside `read_bytes`: one function over the type of a number would ask of it
+// a width, a reader and two ghost members for what digits spell, more than the three lines that both share.)
 pub fn read_row(text: &[u8], room: &mut [u16]) -> Option<usize>
     ensures { RowIn text.now room.old room.new result }
 {

@@ -1,32 +1,55 @@
 // Writing words into a lent room.
-ghost use Rattle.std.specs.Prelude.{◌≡◌, ◌++◌, ◌∷◌, [], ◌+◌, ◌*◌, ◌<◌, ◌≤◌, length};
+ghost use Rattle.std.specs.Prelude.{ℕ, List, ◌≡◌, ◌++◌, ◌∷◌, [], ◌+◌, ◌*◌, ◌<◌, ◌≤◌, length};
 ghost use Rattle.letters.specs.Writing.{HasRoom, Writes};
 ghost use Rattle.calls.specs.Words.{digit, hex_byte, hex_number, word, spaced};
+ghost use Rattle.calls.specs.Inside.{two_digits, four_digits};
 
 use letters::Writer;
 
-// Writes bytes and the byte behind them.
-pub fn put_bytes(out: &mut Writer, list: &[u8], end: u8)
-    requires { HasRoom out.old (2 * length list.now + 2) }
-    ensures written { Writes out.old out.new (word hex_byte list.now ++ (end ∷ [])) }
-    ensures short { out.new.at ≤ out.old.at + 2 * length list.now + 2 }
-{
-    if list.len() == 0 {
-        out.byte(b'-');
-        out.byte(end);
-        return;
-    }
-    for byte in list {
-        put_byte(out, *byte);
-    }
-    out.byte(end);
+// A number that a word spells in hexadecimal digits, so many for each.
+pub trait Spelled: Copy {
+    ghost spelling: { Self → List ℕ };
+
+    ghost digits: { ℕ };
+
+    fn put(self, out: &mut Writer)
+        requires { HasRoom out.old digits }
+        ensures { Writes out.old out.new (spelling self) };
+
+    ghost long: { (n : Self) → length (spelling n) ≡ digits };
 }
 
-// Writes a row's numbers and the byte behind them.
-pub fn put_row(out: &mut Writer, list: &[u16], end: u8)
-    requires { HasRoom out.old (4 * length list.now + 2) }
-    ensures written { Writes out.old out.new (word hex_number list.now ++ (end ∷ [])) }
-    ensures short { out.new.at ≤ out.old.at + 4 * length list.now + 2 }
+impl Spelled for u8 {
+    ghost spelling = { hex_byte };
+
+    ghost digits = { 2 };
+
+    ghost long = { two_digits };
+
+    fn put(self, out: &mut Writer) {
+        out.byte(digit_of(self / 16));
+        out.byte(digit_of(self % 16));
+    }
+}
+
+impl Spelled for u16 {
+    ghost spelling = { hex_number };
+
+    ghost digits = { 4 };
+
+    ghost long = { four_digits };
+
+    fn put(self, out: &mut Writer) {
+        ((self / 256) as u8).put(out);
+        ((self % 256) as u8).put(out);
+    }
+}
+
+// Writes a word of numbers, and the byte behind it.
+pub fn put_word<T: Spelled>(out: &mut Writer, list: &[T], end: u8)
+    requires { HasRoom out.old (T.digits * length list.now + 2) }
+    ensures written { Writes out.old out.new (word T.spelling list.now ++ (end ∷ [])) }
+    ensures short { out.new.at ≤ out.old.at + T.digits * length list.now + 2 }
 {
     if list.len() == 0 {
         out.byte(b'-');
@@ -34,7 +57,7 @@ pub fn put_row(out: &mut Writer, list: &[u16], end: u8)
         return;
     }
     for number in list {
-        put_two_bytes(out, *number);
+        number.put(out);
     }
     out.byte(end);
 }
@@ -48,22 +71,6 @@ pub fn put_numbers(out: &mut Writer, list: &[u64])
     for number in list {
         out.number(*number, b' ');
     }
-}
-
-fn put_two_bytes(out: &mut Writer, n: u16)
-    requires { HasRoom out.old 4 }
-    ensures { Writes out.old out.new (hex_number n) }
-{
-    put_byte(out, (n / 256) as u8);
-    put_byte(out, (n % 256) as u8);
-}
-
-fn put_byte(out: &mut Writer, byte: u8)
-    requires { HasRoom out.old 2 }
-    ensures { Writes out.old out.new (hex_byte byte) }
-{
-    out.byte(digit_of(byte / 16));
-    out.byte(digit_of(byte % 16));
 }
 
 fn digit_of(d: u8) -> u8

@@ -2,7 +2,6 @@
 #![tactic(auto)]
 
 ghost use Rattle.std.specs.Prelude.{ℕ, ◌<◌, ◌≤◌, IfOk, OnErr, length, take};
-ghost use Rattle.std.specs.Bool.{OnTrue};
 ghost use Rattle.std.specs.Fmt.{decimal};
 ghost use Rattle.std.specs.Io.KnownBytes.{Appends, Consumes, IsAtEnd, ReadConsumes};
 
@@ -35,7 +34,8 @@ pub fn read_some<R: Read>(reader: &mut R, room: &mut [u8]) -> io::Result<usize>
     Err(io::Error::from(ErrorKind::Interrupted))
 }
 
-// Reads until the room is full or the input ends. The bytes that came before an error stand in the room, but how many isn't told.
+// Reads until the room is full or the input ends. The bytes that came before an error stand in the room, but how many isn't told
+// (std's `read_exact` takes an end before the room is full for an error).
 pub fn read_all<R: Read>(reader: &mut R, room: &mut [u8]) -> io::Result<usize>
     ensures bound { IfOk result (λ n. n ≤ length room.new) }
     ensures bytes { IfOk result (λ n. Consumes (R.remaining reader.old) (R.remaining reader.new) (take n room.new)) }
@@ -60,8 +60,17 @@ pub fn read_table<'a>(files: &impl Files, room: &'a mut [u8]) -> &'a [u8]
     read_named(files, "table.bin", room)
 }
 
-// The same of any file of the current folder.
-pub fn read_named<'a>(files: &impl Files, name: &str, room: &'a mut [u8]) -> &'a [u8]
+// The same of any file of the current folder. Files are named in UTF-8: any other name is of no file that can be read.
+pub fn read_file<'a>(files: &impl Files, name: &[u8], room: &'a mut [u8]) -> &'a [u8]
+    ensures { length result.now ≤ length room.old }
+{
+    match str::from_utf8(name) {
+        Ok(name) => read_named(files, name, room),
+        Err(_) => &room[..0],
+    }
+}
+
+fn read_named<'a>(files: &impl Files, name: &str, room: &'a mut [u8]) -> &'a [u8]
     ensures { length result.now ≤ length room.old }
 {
     let length = match File::open(files, name) {
@@ -71,7 +80,7 @@ pub fn read_named<'a>(files: &impl Files, name: &str, room: &'a mut [u8]) -> &'a
     &room[..length]
 }
 
-// Writes a text and answers how much of it could be written.
+// Writes a text and answers how much of it could be written. (std's `write_all` doesn't tell after an error how much that was.)
 pub fn write_out<W: Write>(out: &mut W, text: &[u8]) -> usize
     ensures bound { result ≤ length text.now }
     ensures bytes { Appends (W.contents out.old) (W.contents out.new) (take result text.now) }
@@ -87,7 +96,7 @@ pub fn write_out<W: Write>(out: &mut W, text: &[u8]) -> usize
     done
 }
 
-// Writes once, and again where a signal came first; 0 if nothing can be written.
+// Writes once, and again where a signal came first; 0 if nothing can be written: so much was, which is what `write_out` adds up.
 fn write_some<W: Write>(out: &mut W, text: &[u8]) -> usize
     ensures bound { result ≤ length text.now }
     ensures bytes { Appends (W.contents out.old) (W.contents out.new) (take result text.now) }
@@ -102,9 +111,9 @@ fn write_some<W: Write>(out: &mut W, text: &[u8]) -> usize
     0
 }
 
-// Writes a number in decimal, and answers whether that was possible.
-pub fn print_decimal<W: Write>(out: &mut W, n: u64) -> bool
-    ensures { OnTrue result (Appends (W.contents out.old) (W.contents out.new) (decimal n)) }
+// Writes a number in decimal.
+pub fn print_decimal<W: Write>(out: &mut W, n: u64) -> io::Result<()>
+    ensures { IfOk result (λ _. Appends (W.contents out.old) (W.contents out.new) (decimal n)) }
 {
-    write!(out, "{n}").is_ok()
+    write!(out, "{n}")
 }

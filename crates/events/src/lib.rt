@@ -70,7 +70,7 @@ impl EventSet {
         n
     }
 
-    // The lowest event that is present, or `PLACES` if none is.
+    // The lowest event that is present, or `PLACES` if none is: the number that an answer for C has then (include/zapper.h).
     pub fn lowest(self) -> usize
         ensures { result ≡ lowest places (members self) }
     {

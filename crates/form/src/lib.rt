@@ -7,6 +7,8 @@ pub mod names;
 ghost use Rattle.std.specs.Prelude.{◌-◌, ◌<◌, false, true, ◌≡◌, MatchOption, set};
 ghost use Rattle.form.specs.Inside.Machine.{is_digit_byte};
 
+use letters::digit;
+
 // What a text tells of its table: nodes, configuration records, and one above the highest event named.
 #[derive(Clone, Copy)]
 pub struct Sizes {
@@ -15,15 +17,11 @@ pub struct Sizes {
     pub events: usize,
 }
 
-// The value of a digit; none of another byte.
+// The value of a digit, as letters reads it, told by the machine's test of a byte; none of another byte.
 pub fn digit_value(b: u8) -> Option<usize>
     ensures { MatchOption result (is_digit_byte b ≡ false) (λ d. (is_digit_byte b ≡ true) × (d ≡ b - 48) × (d < 10)) }
 {
-    if b.is_ascii_digit() {
-        Some((b - b'0') as usize)
-    } else {
-        None
-    }
+    digit(b)
 }
 
 // Byte `at` becomes b, if there is one. (`get_mut` leaves a room of which the check doesn't know what it holds.)

@@ -41,7 +41,8 @@ const BYTES: [u8; LONG] = *b"\
     If(\x8c, \x80, \x80)\0\0\0\0\0\0\0\0\0\
     RepeatExt(\x8c, \x8d, \x80)\0\0";
 
-// The codes from 128 on: a program, a form's name, behind a later part, a configuration, behind its bracket, behind its first part, an event,
+// The codes from 128 on, bytes of the table among which those below 128 stand for themselves (so an enum would be made of each byte that is read,
+// and taken apart again): a program, a form's name, behind a later part, a configuration, behind its bracket, behind its first part, an event,
 // a number, the number of a value, a cap.
 pub const PROGRAM: u8 = 128;
 

@@ -8,7 +8,7 @@ use lib.Dec.{eqb, ltb, leb}
 use borrow.Author.Tests.{eq-eqb, leb-true, ltb-false, not-false}
 use Rattle.junior.specs.Program.{Program, One, Parts, no_part, one_part, two_parts, parts, size, kind}
 use Rattle.junior.specs.Figures.{stops, LoopsStop, G, A, W, F}
-use Rattle.std.specs.Prelude.{Ok, Err}
+use Rattle.std.specs.Prelude.{Err}
 use Rattle.table.specs.declared.Figures.{Figures}
 use Rattle.table.specs.declared.TableRefusal.TheVariants.{TooDeep, EndlessLoop, TooHeavy}
 use Rattle.table.specs.Records.{nodes}

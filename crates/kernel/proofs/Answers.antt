@@ -1,7 +1,6 @@
 -- From the state's own bytes to the whole room, and from what the parts of an instant promise to its answer.
 use Prim.Native.Nat.{ℕ, ◌+◌, ◌*◌, ◌≤◌, ◌<◌}
-use mathlib.Core.Path.{◌≡◌, refl, ap, sym, ◌∙◌}
-use mathlib.Core.Logic.{◌≢◌}
+use mathlib.Core.Path.{◌≡◌, ap, sym, ◌∙◌}
 use mathlib.Core.List.{List, [], ◌++◌, append-nil}
 use native.Mathlib.Omega.{arith}
 use lib.ListN.{length, get_or, take, drop, length-drop, drop_of_length-le}
@@ -9,16 +8,15 @@ use lib.Seq.{length-take-le, take_all}
 use Rattle.events.specs.Events.{Events}
 use Rattle.junior.specs.Values.{Values}
 use Rattle.junior.specs.Trace.{parks}
-use Rattle.std.specs.Prelude.{Ok, Err}
+use Rattle.std.specs.Prelude.{Ok}
 use Rattle.table.specs.Records.{nodes}
 use Rattle.state.specs.StateBytes.{state_bytes}
 use Rattle.state.specs.Pieces.{pieces_bytes}
 use Rattle.state.proofs.Standing.{standing}
 use Rattle.store.specs.Store.{in_use, two}
 use Rattle.store.proofs.Room.{room_fits}
-use Rattle.kernel.specs.declared.Answer.{Answer}
 use Rattle.kernel.specs.declared.passes.Ending.{Ending}
-use Rattle.kernel.specs.Answer.{Rooms, rooms, instant_outcome, Run, Answered}
+use Rattle.kernel.specs.Answer.{rooms, instant_outcome, Run, Answered}
 use Rattle.kernel.specs.Passes.{Startable, RanFree}
 use Rattle.kernel.proofs.Accepted.{admitted}
 use Rattle.kernel.proofs.FreePart.{good_fits, few_parked, begun_empty, in_store}

@@ -10,7 +10,6 @@ use Rattle.junior.specs.Values.{Values}
 use Rattle.junior.specs.Order.{often}
 use Rattle.junior.proofs.Order.{waits_in_any_order, order_free}
 use Rattle.store.proofs.OneStore.{holds}
-use Rattle.kernel.specs.declared.Answer.{Answer}
 use Rattle.kernel.specs.Answer.{Reply, Rooms, ended, node_of, event_at, Answered}
 use Rattle.kernel.specs.Demand2.{Premises}
 use Rattle.kernel.specs.AnyOrder.{AnyOrder}

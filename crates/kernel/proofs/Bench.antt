@@ -1,14 +1,13 @@
 -- The bench list holds: its tables' verdicts and trees compute, and its instants are computed by the proof that instants exist.
-use Prim.Native.Nat.{ℕ, zero, suc, ◌+◌, ◌*◌, ◌/◌}
+use Prim.Native.Nat.{ℕ, zero, suc, ◌+◌, ◌*◌}
 use mathlib.Core.Path.{◌≡◌, refl, ap, sym, subst, ◌∙◌}
 use mathlib.Core.Logic.{◌≢◌, ◌⊎◌, inl, inr}
 use mathlib.Core.List.{List, [], ◌∷◌, ◌++◌, map}
 use native.Mathlib.Omega.{arith}
 use lib.ListN.{length, drop, replicate, length-replicate}
 use Rattle.events.specs.declared.EventSet.{EventSet}
-use Rattle.events.specs.Events.{none, put, how_many, lowest}
-use Rattle.events.specs.Members.{places, marks, members}
-use Rattle.events.proofs.Words.{marks_zeros}
+use Rattle.events.specs.Events.{put, how_many, lowest}
+use Rattle.events.specs.Members.{marks, members}
 use Rattle.junior.specs.Configuration.{test, fixed, eval, early_true, early_false}
 use Rattle.junior.specs.declared.Flag.TheVariants.{SUSP}
 use Rattle.junior.specs.Program.{Stop, size, kind}
@@ -41,10 +40,10 @@ use Rattle.state.specs.Pieces.{pieces_bytes}
 use Rattle.store.specs.Store.{is_body, piece_good, pieces_good, store_good, store_room, adding}
 use Rattle.table.specs.Part.{part_table}
 use Rattle.kernel.specs.declared.Refusal.TheVariants.{Table}
-use Rattle.kernel.specs.Answer.{Outcome, no_answer, outcome_number, outcome_index, on_accepted, start_outcome, store_outcome, instant_outcome, started_room}
+use Rattle.kernel.specs.Answer.{Outcome, no_answer, outcome_number, outcome_index, start_outcome, store_outcome, instant_outcome, started_room}
 use Rattle.kernel.specs.Answer.{values_of, Started}
 use Rattle.kernel.specs.Bench.{Line, Entry, parking, refused, not_started, not_run, resumed, Checks, Starts, Answers}
-use Rattle.kernel.specs.Bench.{Follow, Alone, word_of, words_of, set, turned_down, asking, storing, Shown, All, phases, K1_to_K12}
+use Rattle.kernel.specs.Bench.{Follow, Alone, word_of, words_of, turned_down, asking, storing, Shown, All, phases, K1_to_K12}
 use Rattle.kernel.specs.Bench.{more_of_the_forms, loops, resumed_rooms, tests, figures, harmless_loops, waiting_tests, asking_the_box}
 use Rattle.kernel.specs.Bench.{parked_pieces, refused_stores}
 use Rattle.kernel.specs.Bench.{many_events, refused_tables, refused_rooms, not_at_rest, bench_list}

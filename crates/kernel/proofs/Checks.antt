@@ -17,7 +17,7 @@ use Rattle.events.proofs.Events.{before_lowest, at_lowest, lowest_is}
 use Rattle.junior.specs.Program.{Program, Loop, Parts, no_part, one_part, two_parts, parts, size, kind}
 use Rattle.junior.specs.Figures.{stops, G, A, W, F}
 use Rattle.junior.specs.Trace.{Piece}
-use Rattle.std.specs.Prelude.{Ok, Err}
+use Rattle.std.specs.Prelude.{Err}
 use Rattle.table.specs.declared.TableRefusal.TheVariants.{BadLength, BadCounts, BadDistances, BadConfiguration, BadNode}
 use Rattle.table.specs.declared.TableRefusal.TheVariants.{TooDeep, EndlessLoop, TooHeavy}
 use Rattle.table.specs.Records.{nodes, configurations, events, back_to_nodes, back_to_configurations}

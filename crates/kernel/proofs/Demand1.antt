@@ -11,19 +11,17 @@ use Rattle.events.specs.Events.{Events, none, lowest}
 use Rattle.events.specs.Members.{places}
 use Rattle.junior.specs.Program.{size}
 use Rattle.junior.specs.Figures.{G, A, W, F}
-use Rattle.std.specs.Prelude.{Result as RustResult, Ok, Err}
+use Rattle.std.specs.Prelude.{Ok, Err}
 use Rattle.table.specs.declared.TableRefusal.TheVariants.{BadLength, BadCounts, BadDistances, BadConfiguration, BadNode}
 use Rattle.table.specs.declared.TableRefusal.TheVariants.{TooDeep, EndlessLoop, TooHeavy}
 use Rattle.table.specs.Records.{nodes, configurations}
 use Rattle.table.specs.Good.{good_configuration, good_node}
 use Rattle.table.specs.Spells.{tree_of}
 use Rattle.table.specs.Inside.{Loaded}
-use Rattle.table.specs.Verdict.{Verdict, accepted_with, ending, number_of, index_of, length_good, counts_good, distances_good, preorder, first_such, deep}
+use Rattle.table.specs.Verdict.{Verdict, accepted_with, number_of, index_of, length_good, counts_good, distances_good, preorder, first_such, deep}
 use Rattle.table.specs.Verdict.{endless, light, program_verdict, nodes_verdict, records_verdict, verdict_of}
 use Rattle.state.specs.Resting.{blamed}
-use Rattle.kernel.specs.declared.Refusal.{Refusal}
-use Rattle.kernel.specs.declared.Refusal.TheVariants.{Table, StateRoom, NotAtRest, UnlistedEvent}
-use Rattle.kernel.specs.declared.Refusal.TheVariants.{AtomRoom, BadStore, StoreRoom}
+use Rattle.kernel.specs.declared.Refusal.TheVariants.{Table, StateRoom, NotAtRest}
 use Rattle.kernel.specs.Answer.{Outcome, Rooms, Bytes, outcome_number, outcome_index, on_accepted, has_room, start_outcome, started_room}
 use Rattle.kernel.specs.Answer.{unlisted, store_outcome, instant_outcome}
 use Rattle.kernel.specs.Demand1.{Handed, handed, no_rooms, Check, its_length, its_counts, its_distances}

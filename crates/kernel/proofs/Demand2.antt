@@ -39,7 +39,7 @@ use Rattle.store.proofs.Belonging.{parks_belong}
 use Rattle.store.proofs.Added.{adding_in_use, adding_long}
 use Rattle.store.proofs.Room.{room_fits, parked_holds}
 use Rattle.kernel.specs.declared.Answer.{Answer}
-use Rattle.std.specs.Prelude.{Ok, Err}
+use Rattle.std.specs.Prelude.{Ok}
 use Rattle.kernel.specs.Answer.{Reply, Rooms, unlisted, instant_outcome, ended, node_of, event_at, Run, Answered}
 use Rattle.kernel.specs.Demand2.{Premises, TermInState, Gives, Reports, GivesPrinted, Demand2}
 use Rattle.kernel.proofs.Replies.{answered}

@@ -8,7 +8,6 @@ use Rattle.junior.specs.Values.{Values}
 use Rattle.junior.proofs.Demand3.{demand_3 as by_the_rules}
 use Rattle.state.proofs.Blameless.{resting}
 use Rattle.store.proofs.Room.{parked_good}
-use Rattle.kernel.specs.declared.Answer.{Answer}
 use Rattle.kernel.specs.Answer.{Reply, Rooms, Answered}
 use Rattle.kernel.specs.Demand2.{Premises}
 use Rattle.kernel.specs.Demand3.{Demand3}

@@ -5,7 +5,6 @@ use mathlib.Core.List.{List}
 use Rattle.events.specs.Events.{Events}
 use Rattle.junior.specs.Values.{Values}
 use Rattle.junior.proofs.NeverRoundTwice.{never_round_twice as by_the_rules}
-use Rattle.kernel.specs.declared.Answer.{Answer}
 use Rattle.kernel.specs.Answer.{Reply, Rooms, Answered}
 use Rattle.kernel.specs.Demand2.{Premises}
 use Rattle.kernel.specs.NeverRoundTwice.{NeverRoundTwice}

@@ -16,7 +16,6 @@ use Rattle.table.specs.Verdict.{Verdict, accepted_with, verdict_of}
 use Rattle.table.proofs.Accepted.{chosen, passed}
 use Rattle.state.specs.Resting.{rests, blamed}
 use Rattle.store.specs.Store.{store_good, store_room}
-use Rattle.kernel.specs.declared.Refusal.{Refusal}
 use Rattle.kernel.specs.declared.Refusal.TheVariants.{Table, StateRoom, NotAtRest, UnlistedEvent}
 use Rattle.kernel.specs.declared.Refusal.TheVariants.{AtomRoom, BadStore, StoreRoom}
 use Rattle.kernel.specs.Answer.{Outcome, Rooms, on_accepted, has_room, start_outcome, unlisted, store_outcome, instant_outcome}

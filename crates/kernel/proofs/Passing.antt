@@ -1,6 +1,6 @@
 -- An instant in the code's hands: what holds before each pass, what a pass that suspends leaves of it, and what one that ends it gives.
 use Prim.Native.Nat.{ℕ, suc, ◌+◌, ◌-◌, ◌*◌, ◌≤◌, ◌<◌}
-use mathlib.Core.Bool.{Bool, true, false, cond, false≢true}
+use mathlib.Core.Bool.{Bool, true, false, cond, false≢true, not}
 use mathlib.Core.Path.{◌≡◌, refl, ap, sym, subst, ◌∙◌}
 use mathlib.Core.Logic.{◌≢◌}
 use mathlib.Core.List.{List, [], ◌∷◌, ◌++◌, append_assoc, append-nil}
@@ -11,7 +11,7 @@ use mir.Val.{bool_byte}
 use lib.Dec.{eqb, ltb}
 use lib.ListN.{length, get_or, take, drop, set, replicate, length-append, length-set, length-replicate, drop_of_length-le}
 use lib.Seq.{take_at, take_all, drop-append-add, drop-drop}
-use borrow.Author.Tests.{ltb-true, ltb-false, le-ltb, ne_eqb, eq-eqb}
+use borrow.Author.Tests.{ltb-true, ltb-false, ne_eqb, eq-eqb}
 use denote.Enum.Bare.{sameb}
 use Rattle.junior.specs.contracts.Flag.{the_type}
 use Rattle.events.specs.declared.EventSet.{EventSet}
@@ -48,14 +48,16 @@ use Rattle.store.specs.Store.{two}
 use Rattle.steps.specs.Running.{atoms_done, bytes_parked, env_of, values_in, Rooms, rooms_of, Any, Ready, Ran, Wrote, something_moved, end_declared}
 use Rattle.steps.specs.Running.{ended as ended_in}
 use Rattle.table.specs.Reading.{event_words}
-use Rattle.steps.specs.Numbers.{moved_at, ended_at, places_of_row, words_of, tally_of, first_numbers, next_numbers, Numbers}
+use Rattle.steps.specs.declared.progress.Progress.{Progress}
+use Rattle.steps.specs.Progress.{words_of, tally_of, next_progress, Holds}
 use Rattle.steps.specs.Kinds.{all_seen}
 use Rattle.steps.specs.Lent.{lent, Stands, Went, CanRun, HasRun}
 use Rattle.steps.proofs.Done.{few, room_after, values_apart}
-use Rattle.steps.proofs.Row.{still, tally_1, tally_2, first_words, first_tally, first_holds, next_words, next_holds}
+use Rattle.steps.proofs.Kept.{still}
+use Rattle.steps.proofs.Tally.{byte_read}
 use Rattle.kernel.specs.declared.passes.Ending.{Ending}
 use Rattle.kernel.specs.Answer.{ended as Ended-by, node_of, event_at}
-use Rattle.kernel.specs.Passes.{word_values, Startable, RanFree, Reported, LeadsIfStill, WaitsAfter}
+use Rattle.kernel.specs.Passes.{word_values, Startable, RanFree, NotBegun, Reported, LeadsIfStill, WaitsAfter}
 use Rattle.kernel.proofs.FreePart.{begun_empty}
 use Rattle.waiting.specs.declared.Wait as W
 use Rattle.waiting.specs.Down.{StandsAt, Leads}
@@ -423,50 +425,39 @@ run_of {t} {s} {row₀ = row₀} {free₀ = free₀} {words = words} {tally = ta
       parked_is = o.parked_is ∙ parked_after u ran;
     }
 
--- the tally of the row between two passes
-next_tallied : (m : List ℕ) → length m ≡ places_of_row → tally_of (next_numbers m) ≡ next_tally (tally_of m)
-next_tallied m l =
-    let declared = set m ended_at (bool_byte (eqb (get_or m moved_at 0) 0)) in
-    tally_1 declared 0 (length-set m ended_at _ ∙ l) ∙ ap (λ x. set x 1 0) (tally_2 m _ l)
+-- the tally between two passes
+next_tallied : (m : Progress) → tally_of (next_progress m) ≡ next_tally (tally_of m)
+next_tallied m = ap (λ (b : Bool). set (set (tally_of m) 2 (bool_byte b)) 1 0) (none m.moved)
+  where
+    none : (b : Bool) → not b ≡ eqb (bool_byte b) 0
+    none true = refl
+    none false = refl
 
--- the row before the first pass has the words handed in
-pub handed_words : (table words : List ℕ) → length words ≡ event_words → (low high base : ℕ) {m : List ℕ}
-    → m ≡ first_numbers words low high base
-    → words_of m ≡ words
-handed_words table words l low high base e = ap words_of e ∙ first_words table words l low high base
-
--- and the values
-pub handed_values : (table words : List ℕ) → length words ≡ event_words → (low high base : ℕ) {m : List ℕ}
-    → m ≡ first_numbers words low high base
-    → values_in (tally_of m) ≡ word_values low high
-handed_values table words l low high base e = ap values_in (ap tally_of e ∙ first_tally table words l low high base)
-
--- before the first pass, by the row
-pub begins_by : {table state row free : List ℕ} (words : List ℕ) (low high : ℕ) (b : Startable table state row free) → length words ≡ event_words
-    → {m : List ℕ} → m ≡ first_numbers words low high (6 * nodes table)
+-- before the first pass
+pub begins_by : {table state row free : List ℕ} (b : Startable table state row free) {m : Progress} → NotBegun table m → length (words_of m) ≡ event_words
     → (u : Underway table b.term (marks (words_of m)) (values_in (tally_of m)) (rooms_of row free) state (words_of m) (rooms_of row free) (tally_of m) 0)
-    × Numbers table m
+    × Holds table m
     × (u.named ≡ none)
 unfolding begins
-begins_by {table} words low high b l e =
-    let base = 6 * nodes table in
-    rw (e, first_words table words l low high base, first_tally table words l low high base)
-    (begins words low high b (ap (λ n. 64 * n) l), first_holds table words l low high base refl, refl)
+begins_by b {m} n l =
+    let low = get_or m.values 0 0 in
+    let high = get_or m.values 1 0 in
+    rw n (begins (words_of m) low high b (ap (λ n. 64 * n) l), record { long = l; base = refl }, refl)
 
-module _ {table : List ℕ} {t₀ : Term} {X : Events} {value : Values} {rooms₀ : Rooms} {state m : List ℕ} {rooms : Rooms} {passes : ℕ}
-    (u : Underway table t₀ X value rooms₀ state (words_of m) rooms (tally_of m) passes) (n : Numbers table m) where
+module _ {table : List ℕ} {t₀ : Term} {X : Events} {value : Values} {rooms₀ : Rooms} {state : List ℕ} {m : Progress} {rooms : Rooms} {passes : ℕ}
+    (u : Underway table t₀ X value rooms₀ state (words_of m) rooms (tally_of m) passes) (n : Holds table m) where
   -- node 0 can be run: its bytes are all of the state
   whole : Stands all_seen Any (lent table state m rooms) 0 [] state []
   whole = record {
     around = record { split = sym (append-nil state); starts = refl };
-    numbers = n;
+    holds = n;
     live = (u.term, tt, u.ready);
   }
 
   pub can_pass : CanRun all_seen Any (lent table state m rooms) 0
   can_pass = ([], state, [], whole)
 
-  module _ {state' m' : List ℕ} {rooms' : Rooms} {r : Flag}
+  module _ {state' : List ℕ} {m' : Progress} {rooms' : Rooms} {r : Flag}
       (run : HasRun all_seen Any (lent table state m rooms) 0 (lent table state' m' rooms') r) where
     went : Went all_seen Any (lent table state m rooms) 0 [] state [] (lent table state' m' rooms') r
     went = run [] state [] whole
@@ -476,39 +467,36 @@ module _ {table : List ℕ} {t₀ : Term} {X : Events} {value : Values} {rooms�
         let all : went.part' ≡ state' = sym (went.around.split ∙ append-nil went.part') in
         rw (all, e) at (went.runs u.term tt u.ready root refl)
 
-    pub row_holds : Numbers table m'
+    pub row_holds : Holds table m'
     row_holds = still n went.kept
 
     -- what is found after a pass that suspended
     module _ (ran : Ran root u.term (words_of m) rooms (tally_of m) state' (words_of m') rooms' (tally_of m') SUSP) where
       names_after : {before after : W.Wait} → Names before u.named → WaitsAfter table state' m' before after
-          → Names after (next_named u ran (ltb 0 (get_or m' moved_at 0)))
-      names_after {before} {after} n a = go (ltb 0 (get_or m' moved_at 0)) refl
+          → Names after (next_named u ran (ltb 0 (bool_byte m'.moved)))
+      names_after {before} {after} n a = go (ltb 0 (bool_byte m'.moved)) refl
         where
-          go : (b : Bool) → ltb 0 (get_or m' moved_at 0) ≡ b → Names after (next_named u ran b)
-          go true e =
-              let some_moved = ltb-true 0 (get_or m' moved_at 0) e in
-              rw (a.moved (λ z. omega arith)) n
+          go : (b : Bool) → ltb 0 (bool_byte m'.moved) ≡ b → Names after (next_named u ran b)
+          go true e = rw (a.moved (sym (byte_read m'.moved) ∙ e)) n
           go false e =
-              let none_moved = ltb-false 0 (get_or m' moved_at 0) e in
               let (w, l, first) = leads u ran e in
-              let (x, y) = a.still (omega arith) w l in
+              let (x, y) = a.still (sym (byte_read m'.moved) ∙ e) w l in
               rw first (record { node_is = x; event_is = y })
 
       leads_if : LeadsIfStill table state' m'
-      leads_if = (row_holds.long, λ z. let (w, l, first) = leads u ran (le-ltb 0 (get_or m' moved_at 0) (omega arith)) in (w, l))
+      leads_if z = let (w, l, first) = leads u ran (byte_read m'.moved ∙ z) in (w, l)
 
     pub can_look : r ≡ SUSP → LeadsIfStill table state' m'
     can_look suspended = leads_if (ran_by suspended)
 
     -- SUSP: another pass
     pub goes_by : r ≡ SUSP
-        → (v : Underway table t₀ X value rooms₀ state' (words_of (next_numbers m')) rooms' (tally_of (next_numbers m')) (passes + 1))
+        → (v : Underway table t₀ X value rooms₀ state' (words_of (next_progress m')) rooms' (tally_of (next_progress m')) (passes + 1))
         × ((before after : W.Wait) → Names before u.named → WaitsAfter table state' m' before after → Names after v.named)
     unfolding goes ran_by went
     goes_by suspended =
-        rw (next_words m', next_tallied m' row_holds.long)
+        rw (next_tallied m')
         (goes u (ran_by suspended), λ before after n a. names_after (ran_by suspended) n a)
 
-    pub next_row_holds : Numbers table (next_numbers m')
-    next_row_holds = next_holds row_holds
+    pub next_row_holds : Holds table (next_progress m')
+    next_row_holds = record { long = row_holds.long; base = row_holds.base }

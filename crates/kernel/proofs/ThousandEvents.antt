@@ -26,7 +26,6 @@ use Rattle.table.proofs.Accepted.{accepted}
 use Rattle.table.proofs.Laid.{both, Kind, event, negation, conjunction, disjunction, fine}
 use Rattle.state.specs.Resting.{blamed}
 use Rattle.store.specs.Store.{store_good}
-use Rattle.kernel.specs.declared.Answer.{Answer}
 use Rattle.events.proofs.Words.{marks_zeros}
 use Rattle.kernel.specs.Answer.{Outcome, Reply, fields_of, Rooms, has_room, instant_outcome, event_at, Answered}
 use Rattle.kernel.specs.TablesBefore.{places_before, HandedBefore, AcceptedBefore, outcome_before, event_before}

@@ -18,7 +18,9 @@ use Rattle.events.specs.Members.{places, marks}
 use Rattle.events.proofs.Bits.{digits, digits_at, digits_lowest}
 use Rattle.events.proofs.Events.{before_lowest, at_lowest, lowest_is}
 use Rattle.events.proofs.Words.{marks_at}
-use Rattle.kernel.specs.Lowest.{lowest_from, joined}
+use Rattle.std.specs.Prelude.{Some, None}
+use Rattle.std.proofs.Common.{Option}
+use Rattle.kernel.specs.Lowest.{lowest_from, Found, joined}
 
 -- a shift brings the digits down
 digits_shifted : (w k j : ℕ) → digits (w / 2 ^ k) j ≡ digits w (k + j)
@@ -58,7 +60,7 @@ module _ (l : List ℕ) (n : ℕ) where
   digit_behind h =
       rw (← digits_lowest 64 (onward l n)) (at_lowest 64 (digits (onward l n)) (rw (digits_lowest 64 (onward l n)) h))
 
-  in_word : get_or l (n / 64) 0 < 2 ^ 64 → gap l n < 64 → n % 64 + gap l n < 64
+  pub in_word : get_or l (n / 64) 0 < 2 ^ 64 → gap l n < 64 → n % 64 + gap l n < 64
   in_word f h = go (ltb (n % 64 + gap l n) 64) refl
     where
       go : (b : Bool) → ltb (n % 64 + gap l n) 64 ≡ b → n % 64 + gap l n < 64
@@ -127,6 +129,10 @@ lowest_further l v n h u = ap (lowest places) (fun_ext (λ e. go e (leb n e) ref
     go : (e : ℕ) (b : Bool) → leb n e ≡ b → (marks l e && b) ≡ (marks l e && leb v e)
     go e true t = let past = leb-true n e t in rw (le-leb v e (omega arith))
     go e false t = let before = leb-false n e t in and-false (marks l e) ∙ sym (unmarked_so l n v u n u e before)
+
+pub found_further : (l : List ℕ) (v n : ℕ) → lowest_from l n ≡ lowest_from l v → (r : Option ℕ) → Found l n r → Found l v r
+found_further l v n e None h = sym e ∙ h
+found_further l v n e (Some event) (is, listed) = (is ∙ e, listed)
 
 -- the words joined: one more, and all
 pub join_more : (w : ℕ) (l : List ℕ) (q : ℕ) → q < length l → joined (bit_or w (get_or l q 0)) (drop (q + 1) l) ≡ joined w (drop q l)

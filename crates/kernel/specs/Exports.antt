@@ -5,7 +5,6 @@ use Rattle.table.specs.Verdict.{Verdict, ending, numbered_by, number_of, index_o
 use Rattle.taking.specs.declared.Taken.{Taken}
 use Rattle.taking.specs.declared.TakeRefusal.{TakeRefusal}
 use Rattle.taking.specs.Taking.{taking_number, taking_index, Took}
-use Rattle.kernel.specs.declared.Answer.{Answer}
 use Rattle.kernel.specs.Answer.{Outcome, Reply, fields_of, Rooms, outcome_number, outcome_index, values_of, Started, Answered}
 
 -- number, index, G, A, W, F

@@ -1,5 +1,5 @@
 -- What the functions of src/passes.rt promise. Private contracts alone cite this file; no public one does.
-use Rattle.std.specs.Prelude.{ℕ, ◌+◌, ◌*◌, ◌/◌, ◌%◌, ◌^◌, ◌≤◌, ◌<◌, Bool, ◌≡◌, List, [], ◌∷◌, ◌++◌, ◌≢◌, length, get_or}
+use Rattle.std.specs.Prelude.{ℕ, ◌+◌, ◌*◌, ◌/◌, ◌%◌, ◌^◌, ◌≤◌, ◌<◌, Bool, true, false, ◌≡◌, List, [], ◌∷◌, ◌++◌, length, get_or}
 use Rattle.events.specs.declared.EventSet.{EventSet}
 use Rattle.events.specs.Events.{Events, how_many, lowest}
 use Rattle.events.specs.Members.{places, marks, members}
@@ -15,7 +15,8 @@ use Rattle.state.specs.StateBytes.{state_bytes}
 use Rattle.state.specs.Pieces.{pieces_bytes}
 use Rattle.store.specs.Store.{two}
 use Rattle.steps.specs.Running.{values_in}
-use Rattle.steps.specs.Numbers.{moved_at, places_of_row, words_of}
+use Rattle.steps.specs.declared.progress.Progress.{Progress}
+use Rattle.steps.specs.Progress.{words_of}
 use Rattle.waiting.specs.declared.Wait.{Wait}
 use Rattle.waiting.specs.Down.{SomeLeads, LeadsTo}
 use Rattle.kernel.specs.declared.passes.Ending.{Ending}
@@ -59,12 +60,19 @@ pub record Reported (events : EventSet) (atoms parked : ℕ) (finished : Bool) (
   pub waits_are : r.answer.waits ≡ waits
   pub parked_is : r.parked ≡ parked
 
--- the way from node 0 leads to a test that waits, if the row says that nothing moved
-abbrev pub LeadsIfStill : List ℕ → List ℕ → List ℕ → Type 0
-LeadsIfStill t s numbers =
-    (length numbers ≡ places_of_row) × (get_or numbers moved_at 0 ≡ 0 → SomeLeads t s 0 (marks (words_of numbers)))
+-- before the first pass: with the events and the values handed in nothing is done, moved, ended or parked
+abbrev pub first_progress : EventSet → ℕ → ℕ → ℕ → Progress
+first_progress events low high base =
+    record { events = events; done = 0; moved = false; ended = false; base = base; values = low ∷ high ∷ []; parked = 0 }
+
+abbrev pub NotBegun : List ℕ → Progress → Type 0
+NotBegun t m = m ≡ first_progress m.events (get_or m.values 0 0) (get_or m.values 1 0) (6 * nodes t)
+
+-- the way from node 0 leads to a test that waits, if nothing moved
+abbrev pub LeadsIfStill : List ℕ → List ℕ → Progress → Type 0
+LeadsIfStill t s m = m.moved ≡ false → SomeLeads t s 0 (marks (words_of m))
 
 -- then r is that test, else what was named before
-pub record WaitsAfter (t s numbers : List ℕ) (before r : Wait) : Type 0 where
-  pub still : get_or numbers moved_at 0 ≡ 0 → LeadsTo t s (marks (words_of numbers)) r
-  pub moved : get_or numbers moved_at 0 ≢ 0 → r ≡ before
+pub record WaitsAfter (t s : List ℕ) (m : Progress) (before r : Wait) : Type 0 where
+  pub still : m.moved ≡ false → LeadsTo t s (marks (words_of m)) r
+  pub moved : m.moved ≡ true → r ≡ before

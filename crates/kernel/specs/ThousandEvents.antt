@@ -1,5 +1,5 @@
 -- Request L10, "A thousand events", sentence by sentence.
-use Rattle.std.specs.Prelude.{Err, ℕ, ◌+◌, ◌*◌, ◌≤◌, ◌<◌, true, ◌≡◌, ◌≢◌, ◌⊎◌, List, [], ◌∷◌}
+use Rattle.std.specs.Prelude.{Err, ℕ, ◌+◌, ◌*◌, ◌≤◌, ◌<◌, true, ◌≡◌, ◌⊎◌, List, [], ◌∷◌}
 use Rattle.std.proofs.Math.Option.{none}
 use Rattle.events.specs.Events.{Events, none as no_event}
 use Rattle.events.specs.Members.{places, members}

@@ -2,10 +2,10 @@
 
 #![tactic(auto)]
 
-ghost use Rattle.std.specs.Prelude.{◌≡◌, ◌*◌, length, drop};
+ghost use Rattle.std.specs.Prelude.{◌≡◌, ◌*◌, length};
 ghost use Rattle.events.specs.Members.{places, members};
 ghost use Rattle.table.specs.Inside.{Loaded};
-ghost use Rattle.kernel.specs.Lowest.{lowest_from, joined};
+ghost use Rattle.kernel.specs.Lowest.{Found, joined};
 ghost use Rattle.kernel.specs.Answer.{Started, rooms, store_outcome, instant_outcome, values_of, Answered, no_answer};
 ghost use Rattle.kernel.specs.declared.Refusal.TheVariants.{Table};
 
@@ -137,13 +137,11 @@ fn outcome_of(
     if state.len() < 4 * n {
         return Err(Refusal::StateRoom);
     }
-    let i = first_blamed(table, n, state);
-    if i < n {
+    if let Some(i) = first_blamed(table, n, state) {
         return Err(Refusal::NotAtRest(i));
     }
     let v = word_at(table, table.len() - 6);
-    let e = lowest_from(events, v);
-    if e < EventSet::PLACES {
+    if let Some(e) = lowest_from(events, v) {
         return Err(Refusal::UnlistedEvent(e));
     }
     if most.atoms <= atoms.len() {
@@ -166,48 +164,44 @@ fn store_outcome(table: &[u8], store: &[u8], parked: usize) -> Result<(), Refusa
     Err(Refusal::BadStore)
 }
 
-// The lowest event of the set that is not below v; `PLACES` if none is. Seldom is one there at all, so the words behind v's are first looked at together.
-fn lowest_from(events: EventSet, v: usize) -> usize
-    ensures { result ≡ lowest_from events.words v }
+// The lowest event of the set that is not below v, if there is one, which is seldom: so the words behind v's are first looked at together.
+fn lowest_from(events: EventSet, v: usize) -> Option<usize>
+    ensures { Found events.words v result }
 {
     if v < EventSet::PLACES {
-        let low = u64::trailing_zeros(events.words[v / 64] >> (v % 64)) as usize;
+        let low = (events.words[v / 64] >> (v % 64)).trailing_zeros() as usize;
         if low < 64 {
-            return v + low;
+            return Some(v + low);
         }
         let behind = v / 64 + 1;
-        if joined_words(&events.words, behind) != 0 {
+        if joined_words(&events.words[behind..]) != 0 {
             return lowest_in(&events.words, behind);
         }
     }
-    EventSet::PLACES
+    None
 }
 
-// The words from the one at `from` on, joined by `|`.
-fn joined_words(words: &[u64], from: usize) -> u64
-    ensures { result ≡ joined 0 (drop from words.now) }
+// The words joined by `|`.
+fn joined_words(words: &[u64]) -> u64
+    ensures { result ≡ joined 0 words.now }
 {
     let mut all = 0;
-    let mut at = from;
-    while at < words.len() {
-        all |= words[at];
-        at += 1;
+    for word in words {
+        all |= *word;
     }
     all
 }
 
-// The lowest event that the words from the one at `from` on mark; `PLACES` if they mark none.
-fn lowest_in(words: &[u64], from: usize) -> usize
+// The lowest event that the words from the one at `from` on mark, if there is one. An event's number goes by the place of its word.
+fn lowest_in(words: &[u64], from: usize) -> Option<usize>
     requires { 64 * length words.now ≡ places }
-    ensures { result ≡ lowest_from words.now (64 * from) }
+    ensures { Found words.now (64 * from) result }
 {
-    let mut at = from;
-    while at < words.len() {
-        let low = u64::trailing_zeros(words[at]) as usize;
+    for at in from..words.len() {
+        let low = words[at].trailing_zeros() as usize;
         if low < 64 {
-            return 64 * at + low;
+            return Some(64 * at + low);
         }
-        at += 1;
     }
-    EventSet::PLACES
+    None
 }

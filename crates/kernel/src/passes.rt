@@ -1,17 +1,18 @@
 // An instant's passes, over the state's own bytes.
 ghost use Rattle.std.specs.Prelude.{◌≡◌, ◌<◌, length};
-ghost use Rattle.events.specs.Members.{members};
-ghost use Rattle.steps.specs.Running.{ended};
+ghost use Rattle.events.specs.Members.{marks, members};
+ghost use Rattle.steps.specs.Running.{ended, values_in};
 ghost use Rattle.steps.specs.Lent.{Named};
-ghost use Rattle.kernel.specs.Passes.{word_values, Startable, RanFree, Reported, LeadsIfStill, WaitsAfter};
+ghost use Rattle.steps.specs.Progress.{words_of, tally_of};
+ghost use Rattle.kernel.specs.Passes.{word_values, Startable, RanFree, NotBegun, Reported, LeadsIfStill, WaitsAfter};
 
 use crate::Answer;
 use events::EventSet;
 use junior::Flag;
 use runner::run_child;
 use steps::Pass;
-use steps::numbers::{ATOMS, MOVED, NUMBERS, PARKED, events_of, first_numbers, next_pass};
 use steps::phases::GONE;
+use steps::progress::Progress;
 use table::records::word_at;
 use waiting::{Wait, no_wait, waiting};
 
@@ -42,25 +43,34 @@ pub fn run_passes(
     ensures { RanFree table.now state.old (members handed.events) (word_values handed.low handed.high)
         atoms.old free.old state.new atoms.new free.new result }
 {
+    let nodes = word_at(table, table.len() - 10);
+    let progress = Progress {
+        events: handed.events,
+        done: 0,
+        moved: false,
+        ended: false,
+        base: 6 * nodes,
+        values: [handed.low, handed.high],
+        parked: 0,
+    };
     let mut pass = Pass {
         table,
         state,
-        numbers: [0; NUMBERS],
+        progress,
         atoms,
         store: free,
     };
-    run_from(&mut pass, handed)
+    run_from(&mut pass)
 }
 
 // The passes themselves.
-fn run_from(pass: &mut Pass, handed: HandedIn) -> Ending
-    requires { Startable pass.old.table.now pass.old.state.now pass.old.atoms.now pass.old.store.now }
-    ensures ran { RanFree pass.old.table.now pass.old.state.now (members handed.events) (word_values handed.low handed.high)
+fn run_from(pass: &mut Pass) -> Ending
+    requires startable { Startable pass.old.table.now pass.old.state.now pass.old.atoms.now pass.old.store.now }
+    requires not_begun { NotBegun pass.old.table.now pass.old.progress }
+    ensures ran { RanFree pass.old.table.now pass.old.state.now (marks (words_of pass.old.progress)) (values_in (tally_of pass.old.progress))
         pass.old.atoms.now pass.old.store.now pass.new.state.now pass.new.atoms.now pass.new.store.now result }
     ensures named { Named pass.old pass.new }
 {
-    let nodes = word_at(pass.table, pass.table.len() - 10);
-    pass.numbers = first_numbers(handed.events, handed.low, handed.high, 6 * nodes);
     let mut passes = 0;
     let mut waits = no_wait();
     loop {
@@ -69,16 +79,16 @@ fn run_from(pass: &mut Pass, handed: HandedIn) -> Ending
         if flag != Flag::SUSP {
             end_program(pass.state, flag);
             return report(
-                events_of(&pass.numbers),
-                pass.numbers[ATOMS] as usize,
-                pass.numbers[PARKED] as usize,
+                pass.progress.events,
+                pass.progress.done,
+                pass.progress.parked,
                 flag == Flag::TERM,
                 passes,
                 waits,
             );
         }
         waits = waits_after(pass, waits);
-        next_pass(&mut pass.numbers);
+        pass.progress.next_pass();
     }
 }
 
@@ -94,14 +104,13 @@ fn end_program(state: &mut [u8], flag: Flag)
 
 // What is waited for after a pass that suspended: if nothing moved, the end is declared now, and that is looked for.
 fn waits_after(pass: &Pass, waits: Wait) -> Wait
-    requires { LeadsIfStill pass.now.table.now pass.now.state.now pass.now.numbers }
-    ensures { WaitsAfter pass.now.table.now pass.now.state.now pass.now.numbers waits result }
+    requires { LeadsIfStill pass.now.table.now pass.now.state.now pass.now.progress }
+    ensures { WaitsAfter pass.now.table.now pass.now.state.now pass.now.progress waits result }
 {
-    if pass.numbers[MOVED] == 0 {
-        let events = events_of(&pass.numbers);
-        return waiting(pass.table, pass.state, events);
+    if pass.progress.moved {
+        return waits;
     }
-    waits
+    waiting(pass.table, pass.state, pass.progress.events)
 }
 
 // The answer of an instant that was run, and the bytes parked.

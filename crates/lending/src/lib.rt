@@ -1,3 +1,3 @@
-// No code: laws about lending, for the one function that is walked by hand.
+// No code: laws about a slice that is lent on by a thin reference, of any function whatever.
 
 #![tactic(auto)]

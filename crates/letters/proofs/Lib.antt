@@ -1,5 +1,6 @@
 -- The laws, in the order in which they lean on one another.
 pub mod Decimal
+pub mod LastDigits
 pub mod Writes
 pub mod ReadsDecimal
 pub mod Rooms

@@ -1,10 +1,11 @@
 -- Texts that are stored into a room, as far as there is room.
 use Prim.Native.Nat.{ℕ, suc, ◌+◌, ◌≤◌}
-use mathlib.Core.Path.{◌≡◌}
-use mathlib.Core.List.{List, [], ◌∷◌, ◌++◌}
+use mathlib.Core.Path.{◌≡◌, sym, ◌∙◌}
+use mathlib.Core.List.{List, [], ◌∷◌, ◌++◌, append_assoc}
 use native.Mathlib.Nat.{add-zero, add-suc, suc-add, zero-add}
-use lib.ListN.{length, set}
-use lib.Seq.{sets, sets-eq}
+use lib.ListN.{length, set, take, drop}
+use lib.Seq.{sets, sets-eq, drop-drop}
+use borrow.Rule.Slice.PartMut.{put_mid}
 use Rattle.letters.specs.Text.{beginning}
 
 -- one text behind another
@@ -15,3 +16,8 @@ sets_append l i (a ∷ u) v = rw (add-suc i (length u), ← suc-add i (length u)
 -- a room that is long enough begins with the text
 pub sets_front : (l w : List ℕ) → length w ≤ length l → sets l 0 w ≡ beginning w l
 sets_front l w h = rw (zero-add (length w)) at (sets-eq w l 0 (rw (zero-add (length w)) h))
+
+-- a text copied over a part of a room
+pub sets_part : (l w : List ℕ) (i n : ℕ) → n ≡ length w → i + length w ≤ length l → put_mid i n l w ≡ sets l i w
+sets_part l w i n e h =
+    rw (e, drop-drop (length w) i l) (sym (append_assoc (take i l) w (drop (i + length w) l)) ∙ sym (sets-eq w l i h))

@@ -2,9 +2,7 @@
 use mathlib.Core.Path.{◌≡◌, refl, ◌∙◌}
 use mathlib.Core.List.{List, [], ◌∷◌, ◌++◌}
 use Prim.Native.Nat.{ℕ, ◌+◌, ◌^◌, ◌≤◌, ◌<◌, suc}
-use native.Mathlib.Numerals.{add-one}
-use lib.ListN.{length, get_or, take}
-use lib.Seq.{take-suc}
+use lib.ListN.{length}
 use Rattle.letters.specs.Decimal.{decimal}
 use Rattle.letters.specs.Writing.{Writes}
 use Rattle.letters.specs.declared.Writer.{Writer}
@@ -16,11 +14,6 @@ writes_none w = record { same_room = refl; long = refl; puts = puts_none w.room.
 pub writes_then : {a b c : Writer} {u v : List ℕ} → Writes a b u → Writes b c v → Writes a c (u ++ v)
 writes_then p q =
     record { same_room = q.same_room ∙ p.same_room; long = q.long ∙ p.long; puts = puts_then p.puts q.puts }
-
--- one more byte of a text
-pub writes_byte : {a b c : Writer} (text : List ℕ) (i : ℕ) → i < length text → Writes a b (take i text) → Writes b c (get_or text i 0 ∷ [])
-    → Writes a c (take (i + 1) text)
-writes_byte text i h p q = rw (add-one i, take-suc text i 0 h) (writes_then p q)
 
 -- where the writer then stands
 pub writes_end : {a b : Writer} {text : List ℕ} → Writes a b text → b.at ≡ a.at + length text

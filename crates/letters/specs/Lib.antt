@@ -2,3 +2,4 @@ pub mod Text
 pub mod Decimal
 pub mod Rooms
 pub mod Writing
+pub mod Inside

@@ -1,10 +1,13 @@
 // Texts and numbers as bytes: the definitions that the listing and the written form share, and the writer that puts them into a lent room.
 #![tactic(auto)]
 
-ghost use Rattle.std.specs.Prelude.{◌∷◌, [], ◌++◌, ◌+◌, ◌≤◌, length};
+ghost use Rattle.std.specs.Prelude.{ℕ, ◌≡◌, get_or, ◌∷◌, [], ◌++◌, ◌+◌, ◌≤◌, length};
 ghost use Rattle.letters.specs.Decimal.{decimal, FigureOf};
-ghost use Rattle.letters.specs.Rooms.{Puts};
 ghost use Rattle.letters.specs.Writing.{HasRoom, Writes};
+
+mod number;
+
+use number::put_digits;
 
 // A lent room, and the place in it where the next byte goes.
 #[derive(Drop)]
@@ -28,22 +31,17 @@ impl Writer<'_> {
         requires { HasRoom self.old (length text.now) }
         ensures { Writes self.old self.new text.now }
     {
-        for byte in text {
-            self.byte(*byte);
-        }
+        let end = self.at + text.len();
+        self.room[self.at..end].copy_from_slice(text);
+        self.at = end;
     }
 
-    // Writes a number in decimal: its last digit stands behind the others.
+    // Writes a number in decimal.
     pub fn decimal(&mut self, n: u64)
         requires { HasRoom self.old (length (decimal n)) }
         ensures { Writes self.old self.new (decimal n) }
     {
-        if n < 10 {
-            self.byte(48 + n as u8);
-            return;
-        }
-        self.decimal(n / 10);
-        self.byte(48 + (n % 10) as u8);
+        self.at = put_digits(self.room, self.at, n);
     }
 
     // Writes a number and the byte behind it.
@@ -56,16 +54,6 @@ impl Writer<'_> {
     }
 }
 
-// Puts a number at a place of a room, and answers the place behind it.
-pub fn put_digits(room: &mut [u8], at: usize, n: u64) -> usize
-    requires { at + length (decimal n) ≤ length room.old }
-    ensures { Puts room.old room.new at (decimal n) result }
-{
-    let mut out = Writer { room, at };
-    out.decimal(n);
-    out.at
-}
-
 // The value of a decimal digit.
 pub fn digit(byte: u8) -> Option<usize>
     ensures { FigureOf byte result }
@@ -74,4 +62,12 @@ pub fn digit(byte: u8) -> Option<usize>
         b'0'..=b'9' => Some((byte - b'0') as usize),
         _ => None,
     }
+}
+
+// A room of zeros. So large an array gets a proof only where a contract tells its length: in a program's `main` the check runs out of stack.
+pub fn zeros<const N: usize>() -> [u8; N]
+    ensures long { length result ≡ N }
+    ensures zeros { (i : ℕ) → get_or result i 0 ≡ 0 }
+{
+    [0; N]
 }

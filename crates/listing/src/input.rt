@@ -12,6 +12,7 @@ pub fn read_events(line: &[u8], separator: u8) -> Option<EventSet>
     ensures { NamedBy separator line.now result }
 {
     let mut words = [0u64; WORDS];
+    // By places, since a number's end is known only once it is read.
     let mut at = 0;
     while at < line.len() {
         let Token { event, next } = event_at(line, at)?;

@@ -34,7 +34,8 @@ pub fn read_line(line: &[u8]) -> Option<EventSet>
     read_events(line, b' ')
 }
 
-// Each of these writes an output line at the start of a lent room and answers its length; in a room that is not `enough`, nothing and 0.
+// Each of these writes an output line at the start of a lent room and answers its length; in a room that is not `enough`, nothing and so 0
+// (an Option would be taken apart to the same length by each caller).
 // The line of an instant that ran.
 pub fn write_ran(
     room: &mut [u8],
@@ -89,7 +90,8 @@ pub fn write_refused(room: &mut [u8], number: u64, refusal: usize, index: usize)
     out.at
 }
 
-// The line of a refused table.
+// The line of a refused table. (Both refused lines share `put_refusal`; one function for both would take an Option of the number that each
+// caller has or hasn't.)
 pub fn write_table_refused(room: &mut [u8], refusal: usize, index: usize) -> usize
     ensures { Written (enough 0) (table_refused_line refusal index) room.old room.new result }
 {

@@ -50,6 +50,7 @@ fn put_word(out: &mut Writer, base: usize, word: u64)
     ensures written { Writes out.old out.new (items (events_of base word)) }
     ensures short { out.new.at ≤ out.old.at + 6 * 64 }
 {
+    // Bits are taken off until none is left: std has no iterator over a word's bits.
     let mut left = word;
     while left != 0 {
         let low = left.trailing_zeros() as usize;

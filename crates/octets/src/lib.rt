@@ -27,7 +27,7 @@ pub fn split_once(text: &[u8], byte: u8) -> Option<(&[u8], &[u8])>
         × (parts.1.now ≡ drop (index_of byte text.now + 1) text.now)) }
     ensures shorter { IfSome result (λ parts. length parts.1.now + 1 + length parts.0.now ≡ length text.now) }
 {
-    let at = memchr(byte, text)?;
+    let at = find(text, 0, text.len(), byte)?;
     Some((&text[..at], &text[at + 1..]))
 }
 

@@ -19,7 +19,7 @@ pub const STORE: usize = 32768;
 // What stays from line to line: the table and what its instants are lent, the next line's number, and whether something stands under the line of
 // an instant that ran. The rooms are arrays, so that a program never lacks memory.
 #[derive(Drop)]
-pub struct Session<'a> {
+pub struct Player<'a> {
     pub table: &'a [u8],
     pub state: [u8; STATE],
     pub row: [u16; ROW],
@@ -28,7 +28,7 @@ pub struct Session<'a> {
     pub why: bool,
 }
 
-impl Session<'_> {
+impl Player<'_> {
     // Takes the instant of a line, its newline left out, and puts its output line at the start of a lent room, under it, if `why`, what the
     // program waits for; answers the length of both.
     pub fn answer_line(&mut self, line: &[u8], room: &mut [u8]) -> usize

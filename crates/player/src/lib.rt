@@ -7,7 +7,7 @@ ghost use Rattle.std.specs.Prelude.{◌≡◌, ◌+◌, ◌<◌, ◌≤◌, ◌^
 ghost use Rattle.listing.specs.Output.{enough};
 ghost use Rattle.player.specs.Waiting.{room_under};
 
-use answer::{ROW, STATE, STORE, Session};
+use answer::{Player, ROW, STATE, STORE};
 use console::{TABLE, TURNS, keep_rest, read_some, read_table, write_out};
 use listing::{LONGEST, MORE, write_table_refused};
 use octets::split_once;
@@ -28,7 +28,7 @@ const LINE: usize = 6 * (ROW + MORE) + ROOM_UNDER;
 pub fn play(rt: &(impl Files + Input + Print), why: bool) {
     let mut room = [0u8; TABLE];
     let table = read_table(rt, &mut room);
-    let mut session = Session {
+    let mut player = Player {
         table,
         state: [0; STATE],
         row: [0; ROW],
@@ -42,14 +42,14 @@ pub fn play(rt: &(impl Files + Input + Print), why: bool) {
         filled: 0,
     };
     let mut input = [0u8; BLOCK];
-    let started = kernel::start(table, &mut session.state);
+    let started = kernel::start(table, &mut player.state);
     if let Err(why) = started {
         let refusal = Numbered::from(why);
         output.filled = write_table_refused(&mut output.block, refusal.number, refusal.index);
         output.flush();
         return;
     }
-    list_lines(&mut rt.reader(), &mut input, &mut session, &mut output);
+    list_lines(&mut rt.reader(), &mut input, &mut player, &mut output);
 }
 
 // What is printed: lines stand at the start of the block until it may have no room for one more, or the program waits for input.
@@ -63,12 +63,12 @@ struct Output<W> {
 
 impl<W: Write> Output<W> {
     // Lists a line behind those that stand there.
-    fn list_line(&mut self, session: &mut Session<'_>, line: &[u8])
-        requires { session.old.number + 1 < 2 ^ 64 }
-        ensures { session.new.number ≡ session.old.number + 1 }
+    fn list_line(&mut self, player: &mut Player<'_>, line: &[u8])
+        requires { player.old.number + 1 < 2 ^ 64 }
+        ensures { player.new.number ≡ player.old.number + 1 }
     {
         self.make_room();
-        let n = session.answer_line(line, &mut self.block[self.filled..]);
+        let n = player.answer_line(line, &mut self.block[self.filled..]);
         self.filled += n;
     }
 
@@ -93,10 +93,10 @@ impl<W: Write> Output<W> {
 fn list_lines<R: Read, W: Write>(
     reader: &mut R,
     input: &mut [u8; BLOCK],
-    session: &mut Session<'_>,
+    player: &mut Player<'_>,
     output: &mut Output<W>,
 )
-    requires { session.old.number ≡ 1 }
+    requires { player.old.number ≡ 1 }
 {
     // so many bytes of an unfinished line stand at the start of the block
     let mut held = 0;
@@ -106,25 +106,25 @@ fn list_lines<R: Read, W: Write>(
             break;
         }
         let to = held + got;
-        let left = list_whole(session, output, &input[..to]);
+        let left = list_whole(player, output, &input[..to]);
         output.flush();
         held = keep_rest(input, to - left, to, LONGEST);
     }
     if 0 < held {
-        output.list_line(session, &input[..held]);
+        output.list_line(player, &input[..held]);
         output.flush();
     }
 }
 
 // Lists the whole lines of a text, and answers how much is left behind the last of them.
-fn list_whole<W: Write>(session: &mut Session<'_>, output: &mut Output<W>, text: &[u8]) -> usize
-    requires { session.old.number + length text.now < 2 ^ 64 }
-    ensures numbered { session.new.number + result ≤ session.old.number + length text.now }
+fn list_whole<W: Write>(player: &mut Player<'_>, output: &mut Output<W>, text: &[u8]) -> usize
+    requires { player.old.number + length text.now < 2 ^ 64 }
+    ensures numbered { player.new.number + result ≤ player.old.number + length text.now }
     ensures within { result ≤ length text.now }
 {
     let mut rest = text;
     while let Some((line, behind)) = split_once(rest, b'\n') {
-        output.list_line(session, line);
+        output.list_line(player, line);
         rest = behind;
     }
     rest.len()

@@ -10,7 +10,8 @@ use waiting::{NO_NODE, Wait};
 // Enough for the line under an instant: the records of a configuration take at most 7 bytes each, all else takes at most 100.
 pub const ROOM_UNDER: usize = 14436;
 
-// Puts it behind the instant's line, which ends at `at`: nothing if the end was never declared, or if nobody asked why.
+// Puts it behind the instant's line, which ends at `at`: nothing if the end was never declared, or if nobody asked why (a bool, as it is in
+// the statement L1 about both programs; it goes with no other value).
 pub fn put_under(table: &[u8], waits: Wait, room: &mut [u8], at: usize, why: bool) -> usize
     requires one_of_its_nodes { OneOfItsNodes table.now waits }
     requires room_enough { at + room_under ≤ length room.old }

@@ -1,10 +1,11 @@
-// Putting bytes into a lent room. A byte past the room's end goes nowhere, so a text is measured by putting it into no room.
+// Putting bytes into a lent room. A byte past the room's end goes nowhere, so a text is measured by putting it into no room. (letters' writer
+// asks for room, and one that doesn't would be its twin: so a room and a place in it are handed on.)
 ghost use Rattle.letters.specs.Decimal.{decimal};
 ghost use Rattle.letters.specs.Rooms.{Puts};
 ghost use Rattle.printer.specs.Printing.{Fits};
 
 use form::store;
-use letters::put_digits;
+use letters::Writer;
 
 // The digits of the largest number.
 const DIGITS: usize = 20;
@@ -26,6 +27,11 @@ pub fn put_number(room: &mut [u8], at: usize, n: usize) -> usize
     ensures { Puts room.old room.new at (decimal n) result }
 {
     let mut digits = [0u8; DIGITS];
-    let long = put_digits(&mut digits, 0, n as u64);
-    put(room, at, &digits[..long])
+    let mut out = Writer {
+        room: &mut digits,
+        at: 0,
+    };
+    out.decimal(n as u64);
+    let long = out.at;
+    put(room, at, &out.room[..long])
 }

@@ -10,7 +10,7 @@ ghost use Rattle.printer.specs.Printing.{Fits, argument, capped_text, linked, he
 
 use crate::room::{put, put_number};
 use form::names::{CAP, EVENT, FIRST_FORM, Names, ROW, TEST};
-use table::nodes::children_of;
+use table::kinds::kind_of;
 use table::records::{argument_at, kind_at, part_event, part_kind, part_size, second_at, word_at};
 
 // Prints the program at node i.
@@ -28,7 +28,7 @@ fn put_node(names: &Names, table: &[u8], i: usize, room: &mut [u8], at: usize) -
     ensures { Shows spell table.now i room.old room.new at result }
 {
     let begun = put_head(names, table, i, room, at);
-    let count = children_of(kind_at(table, i));
+    let count = kind_of(table, i).children();
     if count == 0 {
         return put(room, begun, b")");
     }
@@ -48,7 +48,7 @@ pub fn put_outline(table: &[u8], i: usize, room: &mut [u8], at: usize) -> usize
 {
     let names = Names::new();
     let begun = put_head(&names, table, i, room, at);
-    if children_of(kind_at(table, i)) == 0 {
+    if kind_of(table, i).children() == 0 {
         return put(room, begun, b")");
     }
     put(room, begun, b"..)")
@@ -120,7 +120,7 @@ fn put_link(room: &mut [u8], at: usize, code: u8, behind: u8) -> usize
     at
 }
 
-// Prints the configuration at byte c.
+// Prints the configuration at byte c; its kind is the record's number, 0 an event, 1 a not, 2 an and, 3 an or: crate table has no names for them.
 fn put_test(table: &[u8], c: usize, room: &mut [u8], at: usize) -> usize
     requires { Testable table.now c at }
     ensures { ShowsTest table.now c room.old room.new at result }

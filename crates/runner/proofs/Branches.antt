@@ -19,6 +19,7 @@ use Rattle.steps.specs.Lent.{Lent, lent, CanRun}
 use Rattle.steps.proofs.Dispatch.{phase_is}
 use Rattle.runner.proofs.GoesOn.{GoesOnAs, goes_by_phase}
 use Rattle.runner.proofs.EitherKind.{goes_of_kind}
+use Rattle.steps.specs.declared.progress.Progress.{Progress}
 
 -- node i, of which U holds, goes into its second branch if `second` says so, else into its first
 pub record Branches (U : Term → Type 0) (L : Lent) (i : ℕ) (second : Bool) : Type 0 where
@@ -26,7 +27,7 @@ pub record Branches (U : Term → Type 0) (L : Lent) (i : ℕ) (second : Bool) :
   pub to_first : second ≡ false → GoesOnAs InThen U L i L
 
 -- whichever of the two stands there
-pub branches_of_kind : {k : ℕ} {U : Term → Type 0} {table : List ℕ} {i : ℕ} {state m : List ℕ} {rooms : Rooms} {second : Bool} → kind_at table i ≡ k
+pub branches_of_kind : {k : ℕ} {U : Term → Type 0} {table : List ℕ} {i : ℕ} {state : List ℕ} {m : Progress} {rooms : Rooms} {second : Bool} → kind_at table i ≡ k
     → Branches (OfKind k) (lent table state m rooms) i second
     → Branches U (lent table state m rooms) i second
 branches_of_kind is b = record { to_second = λ e. goes_of_kind is (b.to_second e); to_first = λ e. goes_of_kind is (b.to_first e) }
@@ -48,7 +49,7 @@ in_first : (t : Term) → Choice t → (head t).phase ≢ 3 → (head t).phase �
 in_first t (inl e) a b d = when_in_first (shape_by t e refl) a b d
 in_first t (inr e) a b d = if_in_first (shape_by t e refl) a b d
 
-module _ {U : Term → Type 0} (are : (t : Term) → U t → Choice t) {table : List ℕ} {i : ℕ} {state m : List ℕ} {rooms : Rooms}
+module _ {U : Term → Type 0} (are : (t : Term) → U t → Choice t) {table : List ℕ} {i : ℕ} {state : List ℕ} {m : Progress} {rooms : Rooms}
     (on : get_or state (4 * i) 0 ≢ 3) (chose : get_or state (4 * i) 0 ≢ 0) (o : CanRun 0 U (lent table state m rooms) i) where
   first_phase : get_or state (4 * i) 0 ≢ 2 → get_or state (4 * i) 0 ≡ 1
   first_phase other =

@@ -18,6 +18,7 @@ use Rattle.runner.proofs.GoesOn.{GoesOnAs, goes_by_phase}
 use Rattle.runner.proofs.EitherKind.{which, by_either, goes_of_kind}
 use Rattle.runner.proofs.UntilRuns.{until_first, until_stays, until_starred, starred_already}
 use Rattle.runner.proofs.FreezableRuns.{freezable_first, freezable_stays, freezable_pending, freezable_goes_on}
+use Rattle.steps.specs.declared.progress.Progress.{Progress}
 
 -- node i goes on in L₁ with its body stopped
 pub record BodyStopped (table : List ℕ) (L : Lent) (i : ℕ) (L₁ : Lent) : Type 0 where
@@ -29,13 +30,13 @@ abbrev pub StoppedIn : Pass → ℕ → Pass → Type 0
 StoppedIn p i p' = BodyStopped p.table.now (lent_of p) i (lent_then p p') × Named p p'
 
 module _ {table : List ℕ} {i : ℕ} {state : List ℕ} (on : get_or state (4 * i) 0 ≢ 3) (no_star : get_or state (4 * i) 0 ≢ 1)
-    (no_handler : get_or state (4 * i) 0 ≢ 2) {m : List ℕ} {rooms : Rooms} where
+    (no_handler : get_or state (4 * i) 0 ≢ 2) {m : Progress} {rooms : Rooms} where
   pub body_first : CanRun 0 Break (lent table state m rooms) i
       → (size_at table (i + 1) < size_at table i) × CanRun 0 Any (lent table state m rooms) (i + 1)
   body_first o =
       ⊎_elim (λ e. until_first on no_star no_handler (to_kind refl e o)) (λ e. freezable_first on no_star (to_kind refl e o)) (which o)
 
-  module _ {state₁ m₁ : List ℕ} {rooms₁ : Rooms} {f : Flag} (run : HasRun 0 Any (lent table state m rooms) (i + 1) (lent table state₁ m₁ rooms₁) f) where
+  module _ {state₁ : List ℕ} {m₁ : Progress} {rooms₁ : Rooms} {f : Flag} (run : HasRun 0 Any (lent table state m rooms) (i + 1) (lent table state₁ m₁ rooms₁) f) where
     pub body_goes_on : f ≢ STOP → HasRun 0 Break (lent table state m rooms) i (lent table state₁ m₁ rooms₁) f
     body_goes_on a = by_either (λ e. until_stays on no_star no_handler run a) (λ e. freezable_stays on no_star run a)
 
@@ -51,7 +52,7 @@ module _ {table : List ℕ} {i : ℕ} {state : List ℕ} (on : get_or state (4 *
         }
 
 -- it had stopped already
-pub stopped_already : {table : List ℕ} {i : ℕ} {state m : List ℕ} {rooms : Rooms} → get_or state (4 * i) 0 ≡ 1
+pub stopped_already : {table : List ℕ} {i : ℕ} {state : List ℕ} {m : Progress} {rooms : Rooms} → get_or state (4 * i) 0 ≡ 1
     → CanRun 0 Break (lent table state m rooms) i
     → BodyStopped table (lent table state m rooms) i (lent table state m rooms)
 stopped_already starred o =

@@ -1,6 +1,7 @@
 -- A Control, rules 26 to 28: while its event is present its body runs; otherwise it waits, and stops at the end of the instant.
 use Prim.Native.Nat.{ℕ, ◌+◌, ◌-◌, ◌<◌}
 use mathlib.Core.Bool.{true, false}
+use lib.Dec.{ltb}
 use mathlib.Core.Path.{◌≡◌, refl, subst, ◌∙◌}
 use mathlib.Core.Logic.{◌≢◌}
 use mathlib.Core.List.{List}
@@ -24,7 +25,6 @@ use Rattle.state.proofs.Shape.{Shape, is_done, is_control, shape_by}
 use Rattle.state.proofs.Frames.{control_body}
 use Rattle.steps.specs.Running.{Rooms, Ready, Ran, Live, Runs, Any, Kind, env_of, end_declared}
 use Rattle.steps.proofs.Children.{falling, only_cut, first_at}
-use Rattle.steps.proofs.Tally.{not_ended, is_ended}
 use Rattle.steps.proofs.Done.{phase_0_left, ran_alone, ran_kept}
 use Rattle.runner.proofs.Only.{only_asks, only_ran}
 
@@ -74,15 +74,15 @@ module _ {table : List ℕ} {i : ℕ} {state words : List ℕ} {rooms : Rooms} {
   -- it is not
   module _ (off : marks words a ≡ false) where
     pub control_waits : {t : Term} → Controls t → Ready 0 table i state words rooms tally t
-        → end_declared tally ≡ 0 → (P : Place) → Ran P t words rooms tally state words rooms tally SUSP
+        → ltb 0 (end_declared tally) ≡ false → (P : Place) → Ran P t words rooms tally state words rooms tally SUSP
     unfolding collect
     control_waits (controls s x) h z P =
         let e : marks words s ≡ false = rw (event_is s x h) at off in
-        ran_alone (r28 (test_event s (env_of words tally) ∙ rw (e, not_ended z))) refl h.bytes
+        ran_alone (r28 (test_event s (env_of words tally) ∙ rw (e, z))) refl h.bytes
 
     pub control_stops : {t : Term} → Controls t → Ready 0 table i state words rooms tally t
-        → end_declared tally ≢ 0 → (P : Place) → Ran P t words rooms tally state words rooms tally STOP
+        → ltb 0 (end_declared tally) ≡ true → (P : Place) → Ran P t words rooms tally state words rooms tally STOP
     unfolding collect
     control_stops (controls s x) h z P =
         let e : marks words s ≡ false = rw (event_is s x h) at off in
-        ran_alone (r27 (test_event s (env_of words tally) ∙ rw (e, is_ended z))) refl h.bytes
+        ran_alone (r27 (test_event s (env_of words tally) ∙ rw (e, z))) refl h.bytes

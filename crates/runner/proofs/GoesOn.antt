@@ -8,22 +8,22 @@ use Rattle.junior.specs.declared.Flag.{Flag}
 use Rattle.junior.specs.Term.{Term}
 use Rattle.steps.specs.Running.{Rooms, Live, Runs, Phase}
 use Rattle.steps.proofs.Children.{unseen}
-use Rattle.steps.specs.Numbers.{Kept, words_of, tally_of}
-use Rattle.steps.specs.Flags.{flag_of}
+use Rattle.steps.specs.Progress.{Kept, words_of, tally_of}
 use Rattle.steps.specs.Lent.{Lent, lent, Stands, Went, CanRun, HasRun}
-use Rattle.steps.proofs.Row.{kept_same, kept_then}
+use Rattle.steps.proofs.Kept.{kept_same, kept_then}
 use Rattle.steps.proofs.Dispatch.{phase_is}
+use Rattle.steps.specs.declared.progress.Progress.{Progress}
 
 module _ {skip skip₁ : ℕ} {W U : Term → Type 0} {L : Lent} {i : ℕ} {before part behind : List ℕ} where
   pub stands_as : Stands skip U L i before part behind
-      → Live skip₁ W L.table i part (words_of L.numbers) L.rooms (tally_of L.numbers)
+      → Live skip₁ W L.table i part (words_of L.progress) L.rooms (tally_of L.progress)
       → Stands skip₁ W L i before part behind
-  stands_as o v = record { around = o.around; numbers = o.numbers; live = v }
+  stands_as o v = record { around = o.around; holds = o.holds; live = v }
 
-  pub went_as : {L₁ L' : Lent} {part₁ : List ℕ} {r : Flag} → Kept L.numbers L₁.numbers
+  pub went_as : {L₁ L' : Lent} {part₁ : List ℕ} {r : Flag} → Kept L.progress L₁.progress
       → (g : Went skip₁ W L₁ i before part₁ behind L' r)
-      → Runs skip U L.table i part (words_of L.numbers) L.rooms (tally_of L.numbers) g.part'
-      (words_of L'.numbers) L'.rooms (tally_of L'.numbers) r
+      → Runs skip U L.table i part (words_of L.progress) L.rooms (tally_of L.progress) g.part'
+      (words_of L'.progress) L'.rooms (tally_of L'.progress) r
       → Went skip U L i before part behind L' r
   went_as k g runs = record { part' = g.part'; around = g.around; kept = kept_then k g.kept; runs = runs }
 
@@ -32,7 +32,7 @@ pub record GoesOnAs (W U : Term → Type 0) (L : Lent) (i : ℕ) (L₁ : Lent) :
   pub can : CanRun 1 W L₁ i
   pub has : {L' : Lent} {r : Flag} → HasRun 1 W L₁ i L' r → HasRun 0 U L i L' r
 
-module _ {W U : Term → Type 0} {ph : ℕ} (are : (t : Term) → U t → Phase ph t → W t) {table : List ℕ} {i : ℕ} {state m : List ℕ} {rooms : Rooms}
+module _ {W U : Term → Type 0} {ph : ℕ} (are : (t : Term) → U t → Phase ph t → W t) {table : List ℕ} {i : ℕ} {state : List ℕ} {m : Progress} {rooms : Rooms}
     (is : get_or state (4 * i) 0 ≡ ph) where
   in_phase : {before part behind : List ℕ} → Stands 0 U (lent table state m rooms) i before part behind
       → Stands 1 W (lent table state m rooms) i before part behind

@@ -26,6 +26,7 @@ use Rattle.steps.proofs.ChildContext.{child_stands, par_end_around}
 use Rattle.runner.proofs.Par.{Left, Right, par_by, left_by, right_by, par_reads, par_fits, left_flag, right_flag, first_asks}
 use Rattle.runner.proofs.Par.{left_end_asks, left_keeps, left_ran, right_asks, right_end_asks, right_ran}
 use Rattle.runner.proofs.Falling.{weigh, child_rank, lighter, smaller_by, form_rank}
+use Rattle.steps.specs.declared.progress.Progress.{Progress}
 
 -- a Par that doesn't read as Nothing is in phase 0
 par_phase : {t : Term} {ph : ℕ} → Shape t par_kind ph → ph ≢ 3 → ph ≡ 0
@@ -46,7 +47,7 @@ module _ {table : List ℕ} {i : ℕ} {state : List ℕ} (on : get_or state (4 *
   flags_in : get_or state (4 * i + 1) 0 ≡ own_flags part
   flags_in = byte_at a 1 (own_in h 1 (omega arith))
 
-module _ {table : List ℕ} {i : ℕ} {state : List ℕ} (on : get_or state (4 * i) 0 ≢ 3) {m : List ℕ} {rooms : Rooms} {before part behind : List ℕ}
+module _ {table : List ℕ} {i : ℕ} {state : List ℕ} (on : get_or state (4 * i) 0 ≢ 3) {m : Progress} {rooms : Rooms} {before part behind : List ℕ}
     (o : Stands 0 NotBoth (lent table state m rooms) i before part behind) where
   abbrev n : ℕ
   n = size_at table (i + 1)
@@ -71,13 +72,13 @@ module _ {table : List ℕ} {i : ℕ} {state : List ℕ} (on : get_or state (4 *
     pub left_stands : Stands 0 Any (lent table state m rooms) (i + 1) (before ++ take 4 part) (first_of part n)
         (drop (4 + 4 * n - 4) (drop 4 part) ++ behind)
     left_stands =
-        child_stands o.around o.numbers 4 (4 + 4 * n - 4) (own_in o.live.2 3 (omega arith)) (omega arith)
+        child_stands o.around o.holds 4 (4 + 4 * n - 4) (own_in o.live.2 3 (omega arith)) (omega arith)
         (first_asks refl the_left.2 o.live.2 1 refl).1
 
     pub left_smaller : size_at table (i + 1) < size_at table i
     left_smaller = smaller_by table i (i + 1) (first_asks refl the_left.2 o.live.2 1 refl).0
 
-    module _ {state' m' : List ℕ} {rooms' : Rooms} {f : Flag} (run : HasRun 0 Any (lent table state m rooms) (i + 1) (lent table state' m' rooms') f) where
+    module _ {state' : List ℕ} {m' : Progress} {rooms' : Rooms} {f : Flag} (run : HasRun 0 Any (lent table state m rooms) (i + 1) (lent table state' m' rooms') f) where
       pub left_went : Went 0 Any (lent table state m rooms) (i + 1) (before ++ take 4 part) (first_of part n)
           (drop (4 + 4 * n - 4) (drop 4 part) ++ behind) (lent table state' m' rooms') f
       left_went = run _ _ _ left_stands
@@ -129,13 +130,13 @@ module _ {table : List ℕ} {i : ℕ} {state : List ℕ} (on : get_or state (4 *
     pub right_stands : Stands 0 Any (lent table state m rooms) (second_child table i) (before ++ take (4 + 4 * n) part) (rest_of part n)
         (drop (length part - (4 + 4 * n)) (drop (4 + 4 * n) part) ++ behind)
     right_stands =
-        child_stands o.around o.numbers (4 + 4 * n) (length part - (4 + 4 * n)) fits (omega arith)
+        child_stands o.around o.holds (4 + 4 * n) (length part - (4 + 4 * n)) fits (omega arith)
         (right_asks refl the_right o.live.2 1 refl).1
 
     pub right_smaller : size_at table (second_child table i) < size_at table i
     right_smaller = smaller_by table i (second_child table i) (right_asks refl the_right o.live.2 1 refl).0
 
-    module _ {state' m' : List ℕ} {rooms' : Rooms} {g : Flag}
+    module _ {state' : List ℕ} {m' : Progress} {rooms' : Rooms} {g : Flag}
         (run : HasRun 0 Any (lent table state m rooms) (second_child table i) (lent table state' m' rooms') g) where
       pub right_went : Went 0 Any (lent table state m rooms) (second_child table i) (before ++ take (4 + 4 * n) part) (rest_of part n)
           (drop (length part - (4 + 4 * n)) (drop (4 + 4 * n) part) ++ behind) (lent table state' m' rooms') g
@@ -168,7 +169,7 @@ module _ {table : List ℕ} {i : ℕ} {state : List ℕ} (on : get_or state (4 *
           }
 
 -- in the words of the needs
-module _ {table : List ℕ} {i : ℕ} {state m : List ℕ} {rooms : Rooms} (on : get_or state (4 * i) 0 ≢ 3) where
+module _ {table : List ℕ} {i : ℕ} {state : List ℕ} {m : Progress} {rooms : Rooms} (on : get_or state (4 * i) 0 ≢ 3) where
   pub half_second_in : CanRun 0 NotBoth (lent table state m rooms) i → 6 * i + 11 < length table
   half_second_in (before, part, behind, o) = omega (arith, half_reads_in on o)
 
@@ -183,7 +184,7 @@ module _ {table : List ℕ} {i : ℕ} {state m : List ℕ} {rooms : Rooms} (on :
         (lighter form_rank child_rank (lit< tt) (left_smaller on o suspended) e, (_, _, _, left_stands on o suspended))
 
     module _ {second : ℕ} (is : second ≡ second_child table i)
-        {state' m' : List ℕ} {rooms' : Rooms} {f : Flag} (run : HasRun 0 Any (lent table state m rooms) (i + 1) (lent table state' m' rooms') f) where
+        {state' : List ℕ} {m' : Progress} {rooms' : Rooms} {f : Flag} (run : HasRun 0 Any (lent table state m rooms) (i + 1) (lent table state' m' rooms') f) where
       pub half_left_joins : CanRun 0 NotBoth (lent table state m rooms) i
           → (4 * i + 4 < length state') × (4 * second < length state')
       half_left_joins (before, part, behind, o) = rw is (left_joins on o suspended run)
@@ -202,7 +203,7 @@ module _ {table : List ℕ} {i : ℕ} {state m : List ℕ} {rooms : Rooms} (on :
         → (size_at table second < size_at table i) × CanRun 0 Any (lent table state m rooms) second
     half_right (before, part, behind, o) = rw is (right_smaller on o stood, (_, _, _, right_stands on o stood))
 
-    module _ {state' m' : List ℕ} {rooms' : Rooms} {g : Flag} (run : HasRun 0 Any (lent table state m rooms) second (lent table state' m' rooms') g) where
+    module _ {state' : List ℕ} {m' : Progress} {rooms' : Rooms} {g : Flag} (run : HasRun 0 Any (lent table state m rooms) second (lent table state' m' rooms') g) where
       pub half_right_joins : CanRun 0 NotBoth (lent table state m rooms) i
           → (4 * i + 4 < length state') × (4 * second < length state')
       half_right_joins (before, part, behind, o) = rw is (right_joins on o stood (run_at is run))

@@ -9,6 +9,7 @@ use Rattle.steps.specs.Running.{Rooms}
 use Rattle.steps.specs.Lent.{lent, lent_of, lent_then, CanRun, HasRun, HasPassed, Named}
 use Rattle.steps.proofs.Slices.{all_same}
 use Rattle.runner.proofs.Falling.{weigh}
+use Rattle.steps.specs.declared.progress.Progress.{Progress}
 
 -- a child is run, or another form of the node, and its flag is handed up
 pub handed : {skip skip' : ℕ} {W W' : Term → Type 0} {p p' : Pass} {i i' : ℕ} {r : Flag}
@@ -27,15 +28,15 @@ passed run named = record { has_run = run; named = named }
 -- t' is the table of a pass after a call, which is the one of before
 module _ {t t' : List ℕ} (same : t' ≡ t) where
   -- a call that follows
-  pub can_then : {skip : ℕ} {W : Term → Type 0} {s m : List ℕ} {rooms : Rooms} {i : ℕ}
+  pub can_then : {skip : ℕ} {W : Term → Type 0} {s : List ℕ} {m : Progress} {rooms : Rooms} {i : ℕ}
       → CanRun skip W (lent t s m rooms) i → CanRun skip W (lent t' s m rooms) i
   can_then can = rw same can
 
-  pub falls_then : {skip : ℕ} {W : Term → Type 0} {s m : List ℕ} {rooms : Rooms} {i k : ℕ} (rank : ℕ)
+  pub falls_then : {skip : ℕ} {W : Term → Type 0} {s : List ℕ} {m : Progress} {rooms : Rooms} {i k : ℕ} (rank : ℕ)
       → (weigh t i rank < k) × CanRun skip W (lent t s m rooms) i → (weigh t' i rank < k) × CanRun skip W (lent t' s m rooms) i
   falls_then rank (l, can) = (rw same l, can_then can)
 
   -- and what it did
-  pub ran_then : {skip : ℕ} {W : Term → Type 0} {s m s' m' : List ℕ} {rooms rooms' : Rooms} {i : ℕ} {r : Flag}
+  pub ran_then : {skip : ℕ} {W : Term → Type 0} {s : List ℕ} {m : Progress} {s' : List ℕ} {m' : Progress} {rooms rooms' : Rooms} {i : ℕ} {r : Flag}
       → HasRun skip W (lent t' s m rooms) i (lent t' s' m' rooms') r → HasRun skip W (lent t s m rooms) i (lent t s' m' rooms') r
   ran_then run = rw same at run

@@ -6,22 +6,23 @@ use mathlib.Core.Logic.{◌≢◌}
 use mathlib.Core.List.{List}
 use native.Mathlib.Omega.{arith}
 use lib.Dec.{eqb}
-use lib.ListN.{length, get_or}
+use lib.ListN.{get_or}
 use borrow.Author.Tests.{eqb-true, eqb-false, le-leb, lt-leb}
 use Rattle.junior.specs.declared.Flag.{Flag}
 use Rattle.junior.specs.Term.{Term}
 use Rattle.table.specs.Records.{argument_at, kind_at}
 use Rattle.state.specs.Kinds.{if_kind}
 use Rattle.steps.specs.Running.{Rooms, Ready, values_in}
-use Rattle.steps.specs.Numbers.{tally_of, places_of_row}
+use Rattle.steps.specs.Progress.{tally_of}
 use Rattle.steps.specs.Kinds.{OfKind, InSecond, Choice}
 use Rattle.runner.proofs.Stages.{InThen}
 use Rattle.steps.specs.Lent.{Lent, lent, Around, Stands, CanRun, HasRun}
-use Rattle.steps.proofs.Row.{kept_same}
+use Rattle.steps.proofs.Kept.{kept_same}
 use Rattle.steps.proofs.Dispatch.{phase_is, to_kind}
 use Rattle.runner.proofs.If.{If0, if0_by, if_names, first_live, second_live, first_goes, second_goes}
 use Rattle.runner.proofs.GoesOn.{stands_as, went_as}
 use Rattle.runner.proofs.Branches.{Branches, branches_of_kind}
+use Rattle.steps.specs.declared.progress.Progress.{Progress}
 
 -- the value that its argument names
 read_of : (tally : List ℕ) {a b value : ℕ} → a ≡ b → value ≡ values_in tally a → value ≡ values_in tally b
@@ -33,7 +34,7 @@ module _ {table : List ℕ} {i : ℕ} {state : List ℕ} (is : get_or state (4 *
       → {words : List ℕ} {rooms : Rooms} {tally : List ℕ} → Ready 0 table i part words rooms tally t → If0 t
   choosing a {t} w h = if0_by t (w, sym (phase_is a h) ∙ is)
 
-  module _ {m : List ℕ} {rooms : Rooms} where
+  module _ {m : Progress} {rooms : Rooms} where
     first_stands : {before part behind : List ℕ} → Stands 0 (OfKind if_kind) (lent table state m rooms) i before part behind
         → Stands 1 InThen (lent table state m rooms) i before part behind
     first_stands o = let (t, w, h) = o.live in stands_as o (first_live (choosing o.around w h) h)
@@ -44,9 +45,9 @@ module _ {table : List ℕ} {i : ℕ} {state : List ℕ} (is : get_or state (4 *
 
     -- its value can be read
     pub if_asks : CanRun 0 (OfKind if_kind) (lent table state m rooms) i → {a : ℕ} → a ≡ argument_at table i
-        → (length m ≡ places_of_row) × (a < 16)
+        → a < 16
     if_asks (before, part, behind, o) e =
-        let (t, w, h) = o.live in (o.numbers.long, omega (arith, if_names (choosing o.around w h) h))
+        let (t, w, h) = o.live in omega (arith, if_names (choosing o.around w h) h)
 
     now_first : CanRun 0 (OfKind if_kind) (lent table state m rooms) i → CanRun 1 InThen (lent table state m rooms) i
     now_first (before, part, behind, o) = (_, _, _, first_stands o)
@@ -78,7 +79,7 @@ module _ {table : List ℕ} {i : ℕ} {state : List ℕ} (is : get_or state (4 *
           }
 
 -- the same of a node of either kind that is read to be an If
-pub if_branches : {table : List ℕ} {i : ℕ} {state m : List ℕ} {rooms : Rooms} {n : ℕ} → n ≡ kind_at table i → n ≡ if_kind → get_or state (4 * i) 0 ≡ 0
+pub if_branches : {table : List ℕ} {i : ℕ} {state : List ℕ} {m : Progress} {rooms : Rooms} {n : ℕ} → n ≡ kind_at table i → n ≡ if_kind → get_or state (4 * i) 0 ≡ 0
     → {a value : ℕ} → a ≡ argument_at table i → value ≡ values_in (tally_of m) a → {second : Bool} → second ≡ eqb value 0
     → CanRun 0 Choice (lent table state m rooms) i
     → Branches Choice (lent table state m rooms) i second

@@ -8,8 +8,9 @@ use Rattle.junior.specs.Term.{Term}
 use Rattle.steps.specs.Running.{Rooms}
 use Rattle.steps.specs.Lent.{lent, CanRun}
 use Rattle.steps.proofs.Dispatch.{few_nodes}
+use Rattle.steps.specs.declared.progress.Progress.{Progress}
 
-module _ {skip : ℕ} {W : Term → Type 0} {table : List ℕ} {i : ℕ} {state m : List ℕ} {rooms : Rooms} (o : CanRun skip W (lent table state m rooms) i) where
+module _ {skip : ℕ} {W : Term → Type 0} {table : List ℕ} {i : ℕ} {state : List ℕ} {m : Progress} {rooms : Rooms} (o : CanRun skip W (lent table state m rooms) i) where
   -- where a node's own bytes begin, and each of them
   pub own_fits : Fits w64 (4 * i)
   own_fits = omega (arith, few_nodes o)

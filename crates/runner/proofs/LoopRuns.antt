@@ -19,16 +19,17 @@ use Rattle.steps.specs.Kinds.{OfKind}
 use Rattle.runner.proofs.Stages.{Beginning}
 use Rattle.steps.specs.Lent.{Lent, lent, Around, Stands, Went, CanRun, HasRun}
 use Rattle.steps.proofs.Context.{outer, phase_at_lem, phase_in, put_phase}
-use Rattle.steps.proofs.Row.{kept_same, kept_then, still}
+use Rattle.steps.proofs.Kept.{kept_same, kept_then, still}
 use Rattle.steps.proofs.Dispatch.{phase_is}
 use Rattle.steps.proofs.ChildContext.{child_stands}
 use Rattle.runner.proofs.Loop.{Begins, begins_by, begin_asks, begin_writes, begin_ran}
 use Rattle.runner.proofs.Loop.{Loops, loops_by, loop_asks, loop_waits, anew_asks, loop_again}
 use Rattle.runner.proofs.Falling.{weigh, child_rank, form_rank, smaller_by}
 use Rattle.runner.proofs.GoesOn.{GoesOnAs, went_as}
+use Rattle.steps.specs.declared.progress.Progress.{Progress}
 
 -- the body begins
-module _ {table : List ℕ} {i : ℕ} {state m : List ℕ} {rooms : Rooms} {before part behind : List ℕ}
+module _ {table : List ℕ} {i : ℕ} {state : List ℕ} {m : Progress} {rooms : Rooms} {before part behind : List ℕ}
     (o : Stands 1 Beginning (lent table state m rooms) i before part behind) where
   the_begun : Begins o.live.0
   the_begun = begins_by o.live.0 o.live.1
@@ -36,13 +37,13 @@ module _ {table : List ℕ} {i : ℕ} {state m : List ℕ} {rooms : Rooms} {befo
   pub begun_stands : Stands 0 Any (lent table state m rooms) (i + 1) (before ++ take 4 part) (mid_of 4 (length part - 4) part)
       (drop (length part - 4) (drop 4 part) ++ behind)
   begun_stands =
-      child_stands o.around o.numbers 4 (length part - 4) (own_in o.live.2 3 (lit< tt)) (omega arith)
+      child_stands o.around o.holds 4 (length part - 4) (own_in o.live.2 3 (lit< tt)) (omega arith)
       (begin_asks the_begun o.live.2 1 refl).1
 
   pub begun_smaller : size_at table (i + 1) < size_at table i
   begun_smaller = smaller_by table i (i + 1) (begin_asks the_begun o.live.2 1 refl).0
 
-  module _ {state₁ m₁ : List ℕ} {rooms₁ : Rooms} {f : Flag} (run : HasRun 0 Any (lent table state m rooms) (i + 1) (lent table state₁ m₁ rooms₁) f) where
+  module _ {state₁ : List ℕ} {m₁ : Progress} {rooms₁ : Rooms} {f : Flag} (run : HasRun 0 Any (lent table state m rooms) (i + 1) (lent table state₁ m₁ rooms₁) f) where
     pub begun_went : Went 0 Any (lent table state m rooms) (i + 1) (before ++ take 4 part) (mid_of 4 (length part - 4) part)
         (drop (length part - 4) (drop 4 part) ++ behind) (lent table state₁ m₁ rooms₁) f
     begun_went = run _ _ _ begun_stands
@@ -80,12 +81,12 @@ module _ {table : List ℕ} {i : ℕ} {state : List ℕ} (on : get_or state (4 *
   begins_at a t w h =
       (w, not_begun (shape_by t w refl) (λ e. on (phase_is a h ∙ e)) (λ e. fresh (phase_is a h ∙ e)))
 
-module _ {table : List ℕ} {i : ℕ} {state m : List ℕ} {rooms : Rooms} (on : get_or state (4 * i) 0 ≢ 3) (fresh : get_or state (4 * i) 0 ≢ 1) where
+module _ {table : List ℕ} {i : ℕ} {state : List ℕ} {m : Progress} {rooms : Rooms} (on : get_or state (4 * i) 0 ≢ 3) (fresh : get_or state (4 * i) 0 ≢ 1) where
   begin_stands : {before part behind : List ℕ} → Stands 0 (OfKind loop_kind) (lent table state m rooms) i before part behind
       → Stands 1 Beginning (lent table state m rooms) i before part behind
   begin_stands o =
       let (t, w, h) = o.live in
-      record { around = o.around; numbers = o.numbers; live = (t, begins_at on fresh o.around t w h, unseen h 1) }
+      record { around = o.around; holds = o.holds; live = (t, begins_at on fresh o.around t w h, unseen h 1) }
 
   by_begin : {L' : Lent} {r : Flag} → HasRun 1 Beginning (lent table state m rooms) i L' r
       → HasRun 0 (OfKind loop_kind) (lent table state m rooms) i L' r
@@ -98,7 +99,7 @@ module _ {table : List ℕ} {i : ℕ} {state m : List ℕ} {rooms : Rooms} (on :
   loop_begins (before, part, behind, o) = record { can = (before, part, behind, begin_stands o); has = λ run. by_begin run }
 
 -- in the rest of its body
-module _ {table : List ℕ} {i : ℕ} {state : List ℕ} (begun : get_or state (4 * i) 0 ≡ 1) {m : List ℕ} {rooms : Rooms} {before part behind : List ℕ}
+module _ {table : List ℕ} {i : ℕ} {state : List ℕ} (begun : get_or state (4 * i) 0 ≡ 1) {m : Progress} {rooms : Rooms} {before part behind : List ℕ}
     (o : Stands 0 (OfKind loop_kind) (lent table state m rooms) i before part behind) where
   in_rest : {t : Term} → OfKind loop_kind t → {words tally : List ℕ} → Ready 0 table i part words rooms tally t → Loops t
   in_rest w h =
@@ -111,13 +112,13 @@ module _ {table : List ℕ} {i : ℕ} {state : List ℕ} (begun : get_or state (
   pub rest_stands : Stands 0 Any (lent table state m rooms) (i + 1) (before ++ take 4 part) (mid_of 4 (length part - 4) part)
       (drop (length part - 4) (drop 4 part) ++ behind)
   rest_stands =
-      child_stands o.around o.numbers 4 (length part - 4) (own_in o.live.2 3 (lit< tt)) (omega arith)
+      child_stands o.around o.holds 4 (length part - 4) (own_in o.live.2 3 (lit< tt)) (omega arith)
       (loop_asks the o.live.2 1 refl).1
 
   pub rest_smaller : size_at table (i + 1) < size_at table i
   rest_smaller = smaller_by table i (i + 1) (loop_asks the o.live.2 1 refl).0
 
-  module _ {state₁ m₁ : List ℕ} {rooms₁ : Rooms} {f : Flag} (run : HasRun 0 Any (lent table state m rooms) (i + 1) (lent table state₁ m₁ rooms₁) f) where
+  module _ {state₁ : List ℕ} {m₁ : Progress} {rooms₁ : Rooms} {f : Flag} (run : HasRun 0 Any (lent table state m rooms) (i + 1) (lent table state₁ m₁ rooms₁) f) where
     pub rest_went : Went 0 Any (lent table state m rooms) (i + 1) (before ++ take 4 part) (mid_of 4 (length part - 4) part)
         (drop (length part - 4) (drop 4 part) ++ behind) (lent table state₁ m₁ rooms₁) f
     rest_went = run _ _ _ rest_stands
@@ -142,7 +143,7 @@ module _ {table : List ℕ} {i : ℕ} {state : List ℕ} (begun : get_or state (
       anew_stands =
           record {
             around = around₁;
-            numbers = still o.numbers rest_went.kept;
+            holds = still o.holds rest_went.kept;
             live = anew_asks rest_went.runs the o.live.2 ended;
           }
 
@@ -158,12 +159,12 @@ module _ {table : List ℕ} {i : ℕ} {state : List ℕ} (begun : get_or state (
           }
 
 -- in the words of the needs
-module _ {table : List ℕ} {i : ℕ} {state m : List ℕ} {rooms : Rooms} where
+module _ {table : List ℕ} {i : ℕ} {state : List ℕ} {m : Progress} {rooms : Rooms} where
   pub begin_body : CanRun 1 Beginning (lent table state m rooms) i → {k : ℕ} → weigh table i form_rank ≡ k
       → (weigh table (i + 1) child_rank < k) × CanRun 0 Any (lent table state m rooms) (i + 1)
   begin_body (before, part, behind, o) e = (omega (arith, begun_smaller o), (_, _, _, begun_stands o))
 
-  module _ {state₁ m₁ : List ℕ} {rooms₁ : Rooms} {f : Flag} (run : HasRun 0 Any (lent table state m rooms) (i + 1) (lent table state₁ m₁ rooms₁) f) where
+  module _ {state₁ : List ℕ} {m₁ : Progress} {rooms₁ : Rooms} {f : Flag} (run : HasRun 0 Any (lent table state m rooms) (i + 1) (lent table state₁ m₁ rooms₁) f) where
     pub begin_writes_in : CanRun 1 Beginning (lent table state m rooms) i → 4 * i < length state₁
     begin_writes_in (before, part, behind, o) = begun_writes o run
 
@@ -175,7 +176,7 @@ module _ {table : List ℕ} {i : ℕ} {state m : List ℕ} {rooms : Rooms} where
         → (weigh table (i + 1) child_rank < k) × CanRun 0 Any (lent table state m rooms) (i + 1)
     loop_body (before, part, behind, o) e = (omega (arith, rest_smaller begun o), (_, _, _, rest_stands begun o))
 
-    module _ {state₁ m₁ : List ℕ} {rooms₁ : Rooms} {f : Flag} (run : HasRun 0 Any (lent table state m rooms) (i + 1) (lent table state₁ m₁ rooms₁) f) where
+    module _ {state₁ : List ℕ} {m₁ : Progress} {rooms₁ : Rooms} {f : Flag} (run : HasRun 0 Any (lent table state m rooms) (i + 1) (lent table state₁ m₁ rooms₁) f) where
       pub loop_stays : f ≢ TERM → HasRun 0 (OfKind loop_kind) (lent table state m rooms) i (lent table state₁ m₁ rooms₁) f
       loop_stays n before part behind o = loop_went begun o run n
 

@@ -14,14 +14,15 @@ use Rattle.state.proofs.Parts.{first_of, with_first, rest_of, with_rest, own_fla
 use Rattle.steps.specs.Running.{Rooms, Ready, Any, Kind, par_end}
 use Rattle.steps.proofs.Children.{byte_is, own_in}
 use Rattle.steps.specs.Kinds.{BothSuspended}
-use Rattle.steps.specs.Flags.{flag_of, ParEnds}
+use Rattle.steps.specs.Flags.{ParEnds}
 use Rattle.steps.specs.Lent.{lent, Around, Stands, Went, CanRun, HasRun}
 use Rattle.steps.proofs.Context.{byte_at, byte_in, outer}
-use Rattle.steps.proofs.Row.{kept_then, still}
+use Rattle.steps.proofs.Kept.{kept_then, still}
 use Rattle.steps.proofs.Dispatch.{run_at}
 use Rattle.steps.proofs.ChildContext.{child_stands, front_stays, par_end_around}
 use Rattle.runner.proofs.Par.{First, par_by, both_by, par_reads, first_asks, both_fits, then_asks, both_end_asks, both_ran}
 use Rattle.runner.proofs.Falling.{weigh, child_rank, lighter, smaller_by, form_rank}
+use Rattle.steps.specs.declared.progress.Progress.{Progress}
 
 module _ {table : List ℕ} {i : ℕ} {part words : List ℕ} {rooms : Rooms} {tally : List ℕ} {t : Term} (w : BothSuspended t)
     (h : Ready 0 table i part words rooms tally t) where
@@ -34,7 +35,7 @@ module _ {table : List ℕ} {i : ℕ} {part words : List ℕ} {rooms : Rooms} {t
   pub both_of : First SUSP t
   both_of = both_by h as_par no_flags
 
-module _ {table : List ℕ} {i : ℕ} {state m : List ℕ} {rooms : Rooms} {before part behind : List ℕ}
+module _ {table : List ℕ} {i : ℕ} {state : List ℕ} {m : Progress} {rooms : Rooms} {before part behind : List ℕ}
     (o : Stands 0 BothSuspended (lent table state m rooms) i before part behind) where
   abbrev n : ℕ
   n = size_at table (i + 1)
@@ -48,13 +49,13 @@ module _ {table : List ℕ} {i : ℕ} {state m : List ℕ} {rooms : Rooms} {befo
   pub first_stands : Stands 0 Any (lent table state m rooms) (i + 1) (before ++ take 4 part) (first_of part n)
       (drop (4 + 4 * n - 4) (drop 4 part) ++ behind)
   first_stands =
-      child_stands o.around o.numbers 4 (4 + 4 * n - 4) (own_in o.live.2 3 (omega arith)) (omega arith)
+      child_stands o.around o.holds 4 (4 + 4 * n - 4) (own_in o.live.2 3 (omega arith)) (omega arith)
       (first_asks refl the o.live.2 1 refl).1
 
   pub first_smaller : size_at table (i + 1) < size_at table i
   first_smaller = smaller_by table i (i + 1) (first_asks refl the o.live.2 1 refl).0
 
-  module _ {state₁ m₁ : List ℕ} {rooms₁ : Rooms} {f : Flag} (run : HasRun 0 Any (lent table state m rooms) (i + 1) (lent table state₁ m₁ rooms₁) f) where
+  module _ {state₁ : List ℕ} {m₁ : Progress} {rooms₁ : Rooms} {f : Flag} (run : HasRun 0 Any (lent table state m rooms) (i + 1) (lent table state₁ m₁ rooms₁) f) where
     pub first_went : Went 0 Any (lent table state m rooms) (i + 1) (before ++ take 4 part) (first_of part n)
         (drop (4 + 4 * n - 4) (drop 4 part) ++ behind) (lent table state₁ m₁ rooms₁) f
     first_went = run _ _ _ first_stands
@@ -71,13 +72,13 @@ module _ {table : List ℕ} {i : ℕ} {state m : List ℕ} {rooms : Rooms} {befo
     pub second_stands : Stands 0 Any (lent table state₁ m₁ rooms₁) (second_child table i) (before ++ take (4 + 4 * n) part₁) (rest_of part₁ n)
         (drop (length part₁ - (4 + 4 * n)) (drop (4 + 4 * n) part₁) ++ behind)
     second_stands =
-        child_stands around₁ (still o.numbers first_went.kept) (4 + 4 * n) (length part₁ - (4 + 4 * n)) fits (omega arith)
+        child_stands around₁ (still o.holds first_went.kept) (4 + 4 * n) (length part₁ - (4 + 4 * n)) fits (omega arith)
         (then_asks refl first_went.runs the o.live.2 1 refl).1
 
     pub second_smaller : size_at table (second_child table i) < size_at table i
     second_smaller = smaller_by table i (second_child table i) (then_asks refl first_went.runs the o.live.2 1 refl).0
 
-    module _ {state₂ m₂ : List ℕ} {rooms₂ : Rooms} {g : Flag}
+    module _ {state₂ : List ℕ} {m₂ : Progress} {rooms₂ : Rooms} {g : Flag}
         (then : HasRun 0 Any (lent table state₁ m₁ rooms₁) (second_child table i) (lent table state₂ m₂ rooms₂) g) where
       pub second_went : Went 0 Any (lent table state₁ m₁ rooms₁) (second_child table i) (before ++ take (4 + 4 * n) part₁) (rest_of part₁ n)
           (drop (length part₁ - (4 + 4 * n)) (drop (4 + 4 * n) part₁) ++ behind) (lent table state₂ m₂ rooms₂) g
@@ -117,7 +118,7 @@ module _ {table : List ℕ} {i : ℕ} {state m : List ℕ} {rooms : Rooms} {befo
           }
 
 -- in the words of the needs
-module _ {table : List ℕ} {i : ℕ} {state m : List ℕ} {rooms : Rooms} where
+module _ {table : List ℕ} {i : ℕ} {state : List ℕ} {m : Progress} {rooms : Rooms} where
   pub par_first : CanRun 0 BothSuspended (lent table state m rooms) i → {k : ℕ} → weigh table i 2 ≡ k
       → (weigh table (i + 1) child_rank < k) × CanRun 0 Any (lent table state m rooms) (i + 1)
   par_first (before, part, behind, o) e = (lighter form_rank child_rank (lit< tt) (first_smaller o) e, (_, _, _, first_stands o))
@@ -125,13 +126,13 @@ module _ {table : List ℕ} {i : ℕ} {state m : List ℕ} {rooms : Rooms} where
   pub par_second_in : CanRun 0 BothSuspended (lent table state m rooms) i → 6 * i + 11 < length table
   par_second_in (before, part, behind, o) = omega (arith, par_reads_in o)
 
-  module _ {state₁ m₁ : List ℕ} {rooms₁ : Rooms} {f : Flag} (run : HasRun 0 Any (lent table state m rooms) (i + 1) (lent table state₁ m₁ rooms₁) f)
+  module _ {state₁ : List ℕ} {m₁ : Progress} {rooms₁ : Rooms} {f : Flag} (run : HasRun 0 Any (lent table state m rooms) (i + 1) (lent table state₁ m₁ rooms₁) f)
       {second : ℕ} (is : second ≡ second_child table i) where
     pub par_second : CanRun 0 BothSuspended (lent table state m rooms) i
         → (size_at table second < size_at table i) × CanRun 0 Any (lent table state₁ m₁ rooms₁) second
     par_second (before, part, behind, o) = rw is (second_smaller o run, (_, _, _, second_stands o run))
 
-    module _ {state₂ m₂ : List ℕ} {rooms₂ : Rooms} {g : Flag} (then : HasRun 0 Any (lent table state₁ m₁ rooms₁) second (lent table state₂ m₂ rooms₂) g) where
+    module _ {state₂ : List ℕ} {m₂ : Progress} {rooms₂ : Rooms} {g : Flag} (then : HasRun 0 Any (lent table state₁ m₁ rooms₁) second (lent table state₂ m₂ rooms₂) g) where
       pub par_joins : CanRun 0 BothSuspended (lent table state m rooms) i
           → ((4 * i + 4 < length state₂) × (4 * second < length state₂)) × (get_or state₂ (4 * i + 1) 0 ≡ 0)
       par_joins (before, part, behind, o) = rw is (join_asks o run (run_at is then), still_no_flags o run (run_at is then))

@@ -18,14 +18,15 @@ use Rattle.steps.specs.Running.{Rooms, Ready, Ran, Live, Runs, Any, Times, value
 use Rattle.steps.proofs.Children.{falling, own_in, unseen}
 use Rattle.runner.proofs.Repeat.{InRun, in_run_by, times_asks, times_below, times_writes, times_waits, times_ends, next_live, next_flags, times_again}
 use Rattle.runner.proofs.Repeat.{Unbegun, begins, repeat_ends, repeat_asks, repeat_ran, counts, counts_asks}
-use Rattle.steps.specs.Numbers.{tally_of, places_of_row}
+use Rattle.steps.specs.Progress.{tally_of}
 use Rattle.steps.specs.Kinds.{Repetition}
 use Rattle.steps.specs.Lent.{Lent, lent, Around, Stands, Went, CanRun, HasRun}
 use Rattle.steps.proofs.Context.{byte_at, byte_in, phase_at_lem, put_byte, put_phase, outer}
-use Rattle.steps.proofs.Row.{kept_same, still}
+use Rattle.steps.proofs.Kept.{kept_same, still}
 use Rattle.runner.proofs.GoesOn.{stands_as, went_as}
 use Rattle.steps.proofs.Dispatch.{phase_is}
 use Rattle.steps.proofs.ChildContext.{child_stands}
+use Rattle.steps.specs.declared.progress.Progress.{Progress}
 
 -- three of a node's own bytes written anew
 own_put : {state : List ℕ} {i : ℕ} {before part behind : List ℕ} → Around state i before part behind → 4 ≤ length part → (a b c : ℕ)
@@ -36,7 +37,7 @@ own_put {part = part} o l a b c =
     put_byte (put_byte (put_phase o a (omega arith)) 2 b (omega arith)) 3 c (omega arith)
 
 -- one in a run of its body, k runs being still to begin
-module _ {k : ℕ} {table : List ℕ} {i : ℕ} {state m : List ℕ} {rooms : Rooms} {before part behind : List ℕ}
+module _ {k : ℕ} {table : List ℕ} {i : ℕ} {state : List ℕ} {m : Progress} {rooms : Rooms} {before part behind : List ℕ}
     (o : Stands 4 (Times k) (lent table state m rooms) i before part behind) where
   the : InRun k o.live.0
   the = in_run_by o.live.0 o.live.1
@@ -44,7 +45,7 @@ module _ {k : ℕ} {table : List ℕ} {i : ℕ} {state m : List ℕ} {rooms : Ro
   pub body_stands : Stands 0 Any (lent table state m rooms) (i + 1) (before ++ take 4 part) (mid_of 4 (length part - 4) part)
       (drop (length part - 4) (drop 4 part) ++ behind)
   body_stands =
-      child_stands o.around o.numbers 4 (length part - 4) (own_in o.live.2 3 (lit< tt)) (omega arith)
+      child_stands o.around o.holds 4 (length part - 4) (own_in o.live.2 3 (lit< tt)) (omega arith)
       (times_asks the o.live.2 refl).1
 
   pub body_smaller : size_at table (i + 1) < size_at table i
@@ -56,7 +57,7 @@ module _ {k : ℕ} {table : List ℕ} {i : ℕ} {state m : List ℕ} {rooms : Ro
   flags_in : get_or state (4 * i + 1) 0 ≡ own_flags part
   flags_in = byte_at o.around 1 (own_in o.live.2 1 (lit< tt))
 
-  module _ {state₁ m₁ : List ℕ} {rooms₁ : Rooms} {f : Flag} (run : HasRun 0 Any (lent table state m rooms) (i + 1) (lent table state₁ m₁ rooms₁) f) where
+  module _ {state₁ : List ℕ} {m₁ : Progress} {rooms₁ : Rooms} {f : Flag} (run : HasRun 0 Any (lent table state m rooms) (i + 1) (lent table state₁ m₁ rooms₁) f) where
     pub body_went : Went 0 Any (lent table state m rooms) (i + 1) (before ++ take 4 part) (mid_of 4 (length part - 4) part)
         (drop (length part - 4) (drop 4 part) ++ behind) (lent table state₁ m₁ rooms₁) f
     body_went = run _ _ _ body_stands
@@ -103,7 +104,7 @@ module _ {k : ℕ} {table : List ℕ} {i : ℕ} {state m : List ℕ} {rooms : Ro
       next_stands =
           record {
             around = around₁;
-            numbers = still o.numbers body_went.kept;
+            holds = still o.holds body_went.kept;
             live = next_live body_went.runs the o.live.2 e l;
           }
 
@@ -117,12 +118,12 @@ module _ {k : ℕ} {table : List ℕ} {i : ℕ} {state m : List ℕ} {rooms : Ro
           went_as body_went.kept g (λ t w h. times_again body_went.runs (in_run_by t w) h e l g.runs)
 
 -- in the words of the needs
-module _ {k : ℕ} {table : List ℕ} {i : ℕ} {state m : List ℕ} {rooms : Rooms} where
+module _ {k : ℕ} {table : List ℕ} {i : ℕ} {state : List ℕ} {m : Progress} {rooms : Rooms} where
   pub times_body : CanRun 4 (Times k) (lent table state m rooms) i
       → (size_at table (i + 1) < size_at table i) × CanRun 0 Any (lent table state m rooms) (i + 1)
   times_body (before, part, behind, o) = (body_smaller o, (_, _, _, body_stands o))
 
-  module _ {state₁ m₁ : List ℕ} {rooms₁ : Rooms} {f : Flag} (run : HasRun 0 Any (lent table state m rooms) (i + 1) (lent table state₁ m₁ rooms₁) f) where
+  module _ {state₁ : List ℕ} {m₁ : Progress} {rooms₁ : Rooms} {f : Flag} (run : HasRun 0 Any (lent table state m rooms) (i + 1) (lent table state₁ m₁ rooms₁) f) where
     pub times_own : CanRun 4 (Times k) (lent table state m rooms) i → (4 * i + 3 < length state₁) × (k < 65536)
     times_own (before, part, behind, o) = (own_there o run, left_below o)
 
@@ -154,8 +155,8 @@ pub record Turn (L₀ : Lent) (i k : ℕ) (L : Lent) (left : ℕ) : Type 0 where
 pub first_turn : {i k : ℕ} {L : Lent} → CanRun 4 (Times k) L i → get_or L.state (4 * i + 1) 0 ≡ 0 → Turn L i k L k
 first_turn o z = record { can = o; no_flags_yet = z; goes_on = λ run. run }
 
-pub next_turn : {i k : ℕ} {L₀ : Lent} {table state m : List ℕ} {rooms : Rooms} {left : ℕ} → Turn L₀ i k (lent table state m rooms) left
-    → {state₁ m₁ : List ℕ} {rooms₁ : Rooms} {f : Flag} → HasRun 0 Any (lent table state m rooms) (i + 1) (lent table state₁ m₁ rooms₁) f → f ≡ TERM → left ≢ 0
+pub next_turn : {i k : ℕ} {L₀ : Lent} {table state : List ℕ} {m : Progress} {rooms : Rooms} {left : ℕ} → Turn L₀ i k (lent table state m rooms) left
+    → {state₁ : List ℕ} {m₁ : Progress} {rooms₁ : Rooms} {f : Flag} → HasRun 0 Any (lent table state m rooms) (i + 1) (lent table state₁ m₁ rooms₁) f → f ≡ TERM → left ≢ 0
     → Turn L₀ i k (lent table state₁ m₁ rooms₁) (left - 1)
 next_turn u run e l =
     let (o, z) = times_next run e l u.can u.no_flags_yet in
@@ -168,7 +169,7 @@ Turns table i state tally turns =
     ⊎ ((get_or state (4 * i) 0 ≢ 0) × (turns ≡ get_or state (4 * i + 2) 0 * 256 + get_or state (4 * i + 2 + 1) 0 + 1))
 
 abbrev pub TurnsIn : Lent → ℕ → ℕ → Type 0
-TurnsIn L i turns = Turns L.table i L.state (tally_of L.numbers) turns
+TurnsIn L i turns = Turns L.table i L.state (tally_of L.progress) turns
 
 module _ {table : List ℕ} {i : ℕ} {state : List ℕ} (on : get_or state (4 * i) 0 ≢ 3) {before part behind : List ℕ} (a : Around state i before part behind)
     {words : List ℕ} {rooms : Rooms} {tally : List ℕ} {t : Term} (w : Repetition t) (h : Ready 0 table i part words rooms tally t) where
@@ -209,7 +210,7 @@ module _ {table : List ℕ} {i : ℕ} {state : List ℕ} (on : get_or state (4 *
     turn_ran (inr (ph, is)) some run P at = run t (counts (w, no_3) h (λ e. ph (phase_there ∙ e)) (count_is is)) (unseen h 4) P at
 
 -- in the words of the needs: one not begun, or begun
-module _ {table : List ℕ} {i : ℕ} {state m : List ℕ} {rooms : Rooms} (on : get_or state (4 * i) 0 ≢ 3) {turns : ℕ}
+module _ {table : List ℕ} {i : ℕ} {state : List ℕ} {m : Progress} {rooms : Rooms} (on : get_or state (4 * i) 0 ≢ 3) {turns : ℕ}
     (is : Turns table i state (tally_of m) turns) where
   pub repeat_none : turns ≡ 0 → HasRun 0 Repetition (lent table state m rooms) i (lent table state m rooms) TERM
   repeat_none z before part behind o =
@@ -236,8 +237,3 @@ module _ {table : List ℕ} {i : ℕ} {state m : List ℕ} {rooms : Rooms} (on :
     repeat_by run before part behind o =
         let g = run before part behind (turn_stands o) in
         went_as (kept_same m) g (λ t w h P at. turn_ran on o.around w h is some g.runs P at)
-
--- the row of numbers of what can run
-pub numbers_long : {W : Term → Type 0} {table : List ℕ} {i : ℕ} {state m : List ℕ} {rooms : Rooms} → CanRun 0 W (lent table state m rooms) i
-    → length m ≡ places_of_row
-numbers_long (before, part, behind, o) = o.numbers.long

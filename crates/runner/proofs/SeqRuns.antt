@@ -15,19 +15,19 @@ use Rattle.state.proofs.Parts.{first_of, with_first, rest_of, with_rest}
 use Rattle.steps.specs.Running.{Rooms, Ready, Any, phase_after}
 use Rattle.steps.proofs.Children.{own_in}
 use Rattle.steps.specs.Kinds.{OfKind, InSecond}
-use Rattle.steps.specs.Flags.{flag_of}
 use Rattle.steps.specs.Lent.{Lent, lent, Around, Stands, Went, CanRun, HasRun}
 use Rattle.steps.proofs.Context.{outer, phase_at_lem, phase_in, put_phase}
-use Rattle.steps.proofs.Row.{still}
+use Rattle.steps.proofs.Kept.{still}
 use Rattle.steps.proofs.Dispatch.{run_at, phase_is}
 use Rattle.steps.proofs.ChildContext.{child_stands}
 use Rattle.runner.proofs.Seq.{Second, second_by, second_reads, second_fits, second_asks, second_writes, second_ran}
 use Rattle.runner.proofs.Seq.{Seq0, seq0_by, first_reads, first_asks, seq_waits, over_asks, seq_goes_over}
 use Rattle.runner.proofs.GoesOn.{GoesOnAs, to_phase, by_phase, went_as}
 use Rattle.runner.proofs.Falling.{weigh, child_rank, lighter, smaller_by, form_rank}
+use Rattle.steps.specs.declared.progress.Progress.{Progress}
 
 -- gone over: the second child runs
-module _ {table : List ℕ} {i : ℕ} {state m : List ℕ} {rooms : Rooms} {before part behind : List ℕ}
+module _ {table : List ℕ} {i : ℕ} {state : List ℕ} {m : Progress} {rooms : Rooms} {before part behind : List ℕ}
     (o : Stands 1 InSecond (lent table state m rooms) i before part behind) where
   abbrev n : ℕ
   n = size_at table (i + 1)
@@ -38,13 +38,13 @@ module _ {table : List ℕ} {i : ℕ} {state m : List ℕ} {rooms : Rooms} {befo
   pub over_stands : Stands 0 Any (lent table state m rooms) (second_child table i) (before ++ take (4 + 4 * n) part) (rest_of part n)
       (drop (length part - (4 + 4 * n)) (drop (4 + 4 * n) part) ++ behind)
   over_stands =
-      child_stands o.around o.numbers (4 + 4 * n) (length part - (4 + 4 * n)) (second_fits refl the_second o.live.2) (omega arith)
+      child_stands o.around o.holds (4 + 4 * n) (length part - (4 + 4 * n)) (second_fits refl the_second o.live.2) (omega arith)
       (second_asks refl the_second o.live.2 1 refl).1
 
   pub over_smaller : size_at table (second_child table i) < size_at table i
   over_smaller = smaller_by table i (second_child table i) (second_asks refl the_second o.live.2 1 refl).0
 
-  module _ {state' m' : List ℕ} {rooms' : Rooms} {f : Flag}
+  module _ {state' : List ℕ} {m' : Progress} {rooms' : Rooms} {f : Flag}
       (run : HasRun 0 Any (lent table state m rooms) (second_child table i) (lent table state' m' rooms') f) where
     pub over_went : Went 0 Any (lent table state m rooms) (second_child table i) (before ++ take (4 + 4 * n) part) (rest_of part n)
         (drop (length part - (4 + 4 * n)) (drop (4 + 4 * n) part) ++ behind) (lent table state' m' rooms') f
@@ -72,7 +72,7 @@ module _ {table : List ℕ} {i : ℕ} {state m : List ℕ} {rooms : Rooms} {befo
           runs = λ t w h. second_ran refl over_went.runs (second_by t w) h e;
         }
 
-module _ {table : List ℕ} {i : ℕ} {state m : List ℕ} {rooms : Rooms} where
+module _ {table : List ℕ} {i : ℕ} {state : List ℕ} {m : Progress} {rooms : Rooms} where
   pub second_in : CanRun 1 InSecond (lent table state m rooms) i → 6 * i + 11 < length table
   second_in (before, part, behind, o) = omega (arith, second_reads (second_by o.live.0 o.live.1) o.live.2)
 
@@ -81,7 +81,7 @@ module _ {table : List ℕ} {i : ℕ} {state m : List ℕ} {rooms : Rooms} where
         → (size_at table second < size_at table i) × CanRun 0 Any (lent table state m rooms) second
     goes_into (before, part, behind, o) = rw is (over_smaller o, (_, _, _, over_stands o))
 
-    module _ {state' m' : List ℕ} {rooms' : Rooms} {f : Flag} (run : HasRun 0 Any (lent table state m rooms) second (lent table state' m' rooms') f) where
+    module _ {state' : List ℕ} {m' : Progress} {rooms' : Rooms} {f : Flag} (run : HasRun 0 Any (lent table state m rooms) second (lent table state' m' rooms') f) where
       pub second_writes_in : CanRun 1 InSecond (lent table state m rooms) i → 4 * i < length state'
       second_writes_in (before, part, behind, o) = over_writes o (run_at is run)
 
@@ -90,7 +90,7 @@ module _ {table : List ℕ} {i : ℕ} {state m : List ℕ} {rooms : Rooms} where
       second_done e before part behind o = second_went o (run_at is run) e
 
 -- a node that has gone over, by its phase
-module _ {table : List ℕ} {i : ℕ} {state m : List ℕ} {rooms : Rooms} {W : Term → Type 0} (gone_over : get_or state (4 * i) 0 ≡ 2) where
+module _ {table : List ℕ} {i : ℕ} {state : List ℕ} {m : Progress} {rooms : Rooms} {W : Term → Type 0} (gone_over : get_or state (4 * i) 0 ≡ 2) where
   pub to_second : CanRun 0 W (lent table state m rooms) i → CanRun 1 InSecond (lent table state m rooms) i
   to_second o = to_phase (λ t w p. p) gone_over o
 
@@ -98,7 +98,7 @@ module _ {table : List ℕ} {i : ℕ} {state m : List ℕ} {rooms : Rooms} {W : 
   by_second run = by_phase (λ t w p. p) gone_over run
 
 -- in its first child
-module _ {table : List ℕ} {i : ℕ} {state : List ℕ} (on : get_or state (4 * i) 0 ≢ 3) (in_first : get_or state (4 * i) 0 ≢ 2) {m : List ℕ} {rooms : Rooms}
+module _ {table : List ℕ} {i : ℕ} {state : List ℕ} (on : get_or state (4 * i) 0 ≢ 3) (in_first : get_or state (4 * i) 0 ≢ 2) {m : Progress} {rooms : Rooms}
     {before part behind : List ℕ}
     (o : Stands 0 (OfKind seq_kind) (lent table state m rooms) i before part behind) where
   own : 0 < length part
@@ -116,13 +116,13 @@ module _ {table : List ℕ} {i : ℕ} {state : List ℕ} (on : get_or state (4 *
   pub first_stands : Stands 0 Any (lent table state m rooms) (i + 1) (before ++ take 4 part) (first_of part (size_at table (i + 1)))
       (drop (4 + 4 * size_at table (i + 1) - 4) (drop 4 part) ++ behind)
   first_stands =
-      child_stands o.around o.numbers 4 (4 + 4 * size_at table (i + 1) - 4) (own_in o.live.2 3 (lit< tt)) (omega arith)
+      child_stands o.around o.holds 4 (4 + 4 * size_at table (i + 1) - 4) (own_in o.live.2 3 (lit< tt)) (omega arith)
       (first_asks refl the o.live.2 1 refl).1
 
   pub first_smaller : size_at table (i + 1) < size_at table i
   first_smaller = smaller_by table i (i + 1) (first_asks refl the o.live.2 1 refl).0
 
-  module _ {state₁ m₁ : List ℕ} {rooms₁ : Rooms} {f : Flag} (run : HasRun 0 Any (lent table state m rooms) (i + 1) (lent table state₁ m₁ rooms₁) f) where
+  module _ {state₁ : List ℕ} {m₁ : Progress} {rooms₁ : Rooms} {f : Flag} (run : HasRun 0 Any (lent table state m rooms) (i + 1) (lent table state₁ m₁ rooms₁) f) where
     pub first_went : Went 0 Any (lent table state m rooms) (i + 1) (before ++ take 4 part) (first_of part (size_at table (i + 1)))
         (drop (4 + 4 * size_at table (i + 1) - 4) (drop 4 part) ++ behind) (lent table state₁ m₁ rooms₁) f
     first_went = run _ _ _ first_stands
@@ -147,7 +147,7 @@ module _ {table : List ℕ} {i : ℕ} {state : List ℕ} (on : get_or state (4 *
       now_over =
           record {
             around = around₁;
-            numbers = still o.numbers first_went.kept;
+            holds = still o.holds first_went.kept;
             live = over_asks refl first_went.runs the o.live.2 ended;
           }
 
@@ -157,7 +157,7 @@ module _ {table : List ℕ} {i : ℕ} {state : List ℕ} (on : get_or state (4 *
           let g = then before part₁ behind now_over in
           went_as first_went.kept g (λ t w h. seq_goes_over refl first_went.runs (seq0 w h) h ended g.runs)
 
-module _ {table : List ℕ} {i : ℕ} {state m : List ℕ} {rooms : Rooms} (on : get_or state (4 * i) 0 ≢ 3) (in_first : get_or state (4 * i) 0 ≢ 2) where
+module _ {table : List ℕ} {i : ℕ} {state : List ℕ} {m : Progress} {rooms : Rooms} (on : get_or state (4 * i) 0 ≢ 3) (in_first : get_or state (4 * i) 0 ≢ 2) where
   pub seq_first : CanRun 0 (OfKind seq_kind) (lent table state m rooms) i → {k : ℕ} → weigh table i 2 ≡ k
       → (weigh table (i + 1) child_rank < k) × CanRun 0 Any (lent table state m rooms) (i + 1)
   seq_first (before, part, behind, o) e =
@@ -166,7 +166,7 @@ module _ {table : List ℕ} {i : ℕ} {state m : List ℕ} {rooms : Rooms} (on :
   pub seq_second_in : CanRun 0 (OfKind seq_kind) (lent table state m rooms) i → 6 * i + 11 < length table
   seq_second_in (before, part, behind, o) = omega (arith, first_reads_in on in_first o)
 
-  module _ {state₁ m₁ : List ℕ} {rooms₁ : Rooms} {f : Flag} (run : HasRun 0 Any (lent table state m rooms) (i + 1) (lent table state₁ m₁ rooms₁) f) where
+  module _ {state₁ : List ℕ} {m₁ : Progress} {rooms₁ : Rooms} {f : Flag} (run : HasRun 0 Any (lent table state m rooms) (i + 1) (lent table state₁ m₁ rooms₁) f) where
     pub seq_stays : f ≢ TERM → HasRun 0 (OfKind seq_kind) (lent table state m rooms) i (lent table state₁ m₁ rooms₁) f
     seq_stays n before part behind o = seq_went on in_first o run n
 

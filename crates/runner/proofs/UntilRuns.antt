@@ -1,5 +1,6 @@
 -- An Until in its body, rules 29 and 30, and Until*, rules 31 to 34, over all that is lent.
 use Prim.Native.Nat.{ℕ, ◌+◌, ◌-◌, ◌*◌, ◌≤◌, ◌<◌}
+use mathlib.Core.Bool.{true, false}
 use mathlib.Core.Path.{◌≡◌, refl, ap, sym, ◌∙◌}
 use mathlib.Core.Logic.{◌≢◌}
 use mathlib.Core.List.{List, ◌++◌}
@@ -18,14 +19,14 @@ use Rattle.state.specs.Kinds.{until_kind}
 use Rattle.state.proofs.Parts.{first_of, with_first}
 use Rattle.steps.specs.Running.{Rooms, Ready, Any, TestRead}
 use Rattle.steps.proofs.Children.{own_in}
-use Rattle.steps.proofs.Tally.{not_ended, is_ended}
-use Rattle.steps.specs.Numbers.{ended_at, words_of, tally_of}
+use Rattle.steps.proofs.Tally.{byte_read}
+use Rattle.steps.specs.Progress.{words_of, tally_of}
 use Rattle.steps.specs.Kinds.{OfKind, InSecond}
 use Rattle.runner.proofs.Stages.{Starred}
 use Rattle.steps.specs.Tests.{CanTest, TestIs, body_cleared, StarRead, waits, refused, satisfied_late, satisfied}
 use Rattle.steps.specs.Lent.{Lent, lent, Around, Stands, Went, CanRun, HasRun}
 use Rattle.steps.proofs.Context.{inner, outer, phase_at_lem, put_phase, byte_in, put_part}
-use Rattle.steps.proofs.Row.{kept_same, still}
+use Rattle.steps.proofs.Kept.{kept_same, still}
 use Rattle.steps.proofs.Dispatch.{phase_is}
 use Rattle.steps.proofs.ChildContext.{child_stands}
 use Rattle.runner.proofs.Until.{Until0, until0_by, body_asks, until_waits, star_asks, until_stops}
@@ -33,6 +34,7 @@ use Rattle.runner.proofs.Until.{Star, star_by, star_has, star_waits, star_fails,
 use Rattle.runner.proofs.Until.{handler_live, handler_goes, handler_later, handler_writes}
 use Rattle.runner.proofs.Falling.{smaller_by}
 use Rattle.runner.proofs.GoesOn.{GoesOnAs, went_as, goes_by_phase}
+use Rattle.steps.specs.declared.progress.Progress.{Progress}
 
 -- in its body: that runs
 module _ {table : List ℕ} {i : ℕ} {state : List ℕ} (on : get_or state (4 * i) 0 ≢ 3) (no_star : get_or state (4 * i) 0 ≢ 1)
@@ -43,7 +45,7 @@ module _ {table : List ℕ} {i : ℕ} {state : List ℕ} (on : get_or state (4 *
       let at = phase_at_lem a (own_in h 0 (lit< tt)) in
       until0_by (w, λ e. on (phase_is a h ∙ e)) h (λ e. no_star (at ∙ e)) (λ e. no_handler (at ∙ e))
 
-  module _ {m : List ℕ} {rooms : Rooms} {before part behind : List ℕ} (o : Stands 0 (OfKind until_kind) (lent table state m rooms) i before part behind) where
+  module _ {m : Progress} {rooms : Rooms} {before part behind : List ℕ} (o : Stands 0 (OfKind until_kind) (lent table state m rooms) i before part behind) where
     abbrev n : ℕ
     n = size_at table (i + 1)
 
@@ -53,13 +55,13 @@ module _ {table : List ℕ} {i : ℕ} {state : List ℕ} (on : get_or state (4 *
     body_stands : Stands 0 Any (lent table state m rooms) (i + 1) (before ++ take 4 part) (first_of part n)
         (drop (4 + 4 * n - 4) (drop 4 part) ++ behind)
     body_stands =
-        child_stands o.around o.numbers 4 (4 + 4 * n - 4) (own_in o.live.2 3 (lit< tt)) (omega arith)
+        child_stands o.around o.holds 4 (4 + 4 * n - 4) (own_in o.live.2 3 (lit< tt)) (omega arith)
         (body_asks refl the o.live.2 1 refl).1
 
     body_smaller : size_at table (i + 1) < size_at table i
     body_smaller = smaller_by table i (i + 1) (body_asks refl the o.live.2 1 refl).0
 
-    module _ {state₁ m₁ : List ℕ} {rooms₁ : Rooms} {f : Flag} (run : HasRun 0 Any (lent table state m rooms) (i + 1) (lent table state₁ m₁ rooms₁) f) where
+    module _ {state₁ : List ℕ} {m₁ : Progress} {rooms₁ : Rooms} {f : Flag} (run : HasRun 0 Any (lent table state m rooms) (i + 1) (lent table state₁ m₁ rooms₁) f) where
       body_went : Went 0 Any (lent table state m rooms) (i + 1) (before ++ take 4 part) (first_of part n)
           (drop (4 + 4 * n - 4) (drop 4 part) ++ behind) (lent table state₁ m₁ rooms₁) f
       body_went = run _ _ _ body_stands
@@ -84,7 +86,7 @@ module _ {table : List ℕ} {i : ℕ} {state : List ℕ} (on : get_or state (4 *
         now_star =
             record {
               around = around₁;
-              numbers = still o.numbers body_went.kept;
+              holds = still o.holds body_went.kept;
               live = star_asks refl body_went.runs the o.live.2 stopped;
             }
 
@@ -96,12 +98,12 @@ module _ {table : List ℕ} {i : ℕ} {state : List ℕ} (on : get_or state (4 *
             (λ t w h. until_stops refl body_went.runs (in_body o.around w h) h stopped g.runs)
 
   -- in the words of the needs
-  module _ {m : List ℕ} {rooms : Rooms} where
+  module _ {m : Progress} {rooms : Rooms} where
     pub until_first : CanRun 0 (OfKind until_kind) (lent table state m rooms) i
         → (size_at table (i + 1) < size_at table i) × CanRun 0 Any (lent table state m rooms) (i + 1)
     until_first (before, part, behind, o) = (body_smaller o, (_, _, _, body_stands o))
 
-    module _ {state₁ m₁ : List ℕ} {rooms₁ : Rooms} {f : Flag} (run : HasRun 0 Any (lent table state m rooms) (i + 1) (lent table state₁ m₁ rooms₁) f) where
+    module _ {state₁ : List ℕ} {m₁ : Progress} {rooms₁ : Rooms} {f : Flag} (run : HasRun 0 Any (lent table state m rooms) (i + 1) (lent table state₁ m₁ rooms₁) f) where
       pub until_stays : f ≢ STOP → HasRun 0 (OfKind until_kind) (lent table state m rooms) i (lent table state₁ m₁ rooms₁) f
       until_stays a before part behind o = until_went o run a
 
@@ -111,13 +113,13 @@ module _ {table : List ℕ} {i : ℕ} {state : List ℕ} (on : get_or state (4 *
           record { can = (_, _, _, now_star o run e); has = λ then before part behind o. star_went o run e then }
 
 -- one that is Until* already
-pub starred_already : {table : List ℕ} {i : ℕ} {state m : List ℕ} {rooms : Rooms} → get_or state (4 * i) 0 ≡ 1
+pub starred_already : {table : List ℕ} {i : ℕ} {state : List ℕ} {m : Progress} {rooms : Rooms} → get_or state (4 * i) 0 ≡ 1
     → CanRun 0 (OfKind until_kind) (lent table state m rooms) i
     → GoesOnAs Starred (OfKind until_kind) (lent table state m rooms) i (lent table state m rooms)
 starred_already starred o = goes_by_phase (λ t k p. (k, p)) starred o
 
 -- Until*
-module _ {table : List ℕ} {i : ℕ} {state m : List ℕ} {rooms : Rooms} {before part behind : List ℕ}
+module _ {table : List ℕ} {i : ℕ} {state : List ℕ} {m : Progress} {rooms : Rooms} {before part behind : List ℕ}
     (o : Stands 1 Starred (lent table state m rooms) i before part behind) where
   abbrev size : ℕ
   size = size_at table (i + 1)
@@ -158,17 +160,17 @@ module _ {table : List ℕ} {i : ℕ} {state m : List ℕ} {rooms : Rooms} {befo
     module _ {v : Verdict} (reads : TestRead table i (words_of m) (tally_of m) v) where
       handler_stands : Stands 1 InSecond (lent table (body_cleared (4 * i) (4 * second) state) m rooms) i before cleared behind
       handler_stands =
-          record { around = around_cleared; numbers = o.numbers; live = handler_live reads refl zeros_are the_star o.live.2 }
+          record { around = around_cleared; holds = o.holds; live = handler_live reads refl zeros_are the_star o.live.2 }
 
       module _ (sat : v ≡ Sat) where
-        handler_went : get_or m ended_at 0 ≡ 0 → {L' : Lent} {r : Flag}
+        handler_went : m.ended ≡ false → {L' : Lent} {r : Flag}
             → HasRun 1 InSecond (lent table (body_cleared (4 * i) (4 * second) state) m rooms) i L' r
             → Went 1 Starred (lent table state m rooms) i before part behind L' r
         handler_went z run =
             let g = run before cleared behind handler_stands in
-            went_as (kept_same m) g (λ t w h. handler_goes reads refl zeros_are (star_by t w) h sat (not_ended z) g.runs)
+            went_as (kept_same m) g (λ t w h. handler_goes reads refl zeros_are (star_by t w) h sat (byte_read m.ended ∙ z) g.runs)
 
-        next_went : get_or m ended_at 0 ≢ 0
+        next_went : m.ended ≡ true
             → Went 1 Starred (lent table state m rooms) i before part behind
             (lent table (set (body_cleared (4 * i) (4 * second) state) (4 * i) 2) m rooms) STOP
         next_went z =
@@ -176,7 +178,7 @@ module _ {table : List ℕ} {i : ℕ} {state m : List ℕ} {rooms : Rooms} {befo
               part' = set cleared 0 2;
               around = put_phase around_cleared 2 (handler_writes reads refl zeros_are the_star o.live.2);
               kept = kept_same m;
-              runs = λ t w h. handler_later reads refl zeros_are (star_by t w) h sat (is_ended z);
+              runs = λ t w h. handler_later reads refl zeros_are (star_by t w) h sat (byte_read m.ended ∙ z);
             }
 
 -- node i, of which U holds in L and whose test has been read, has answered f in L₁; where f is TERM, it goes on there in its handler
@@ -188,10 +190,10 @@ answered : {U : Term → Type 0} {L : Lent} {i : ℕ} {L₁ : Lent} {f : Flag} �
 answered n run = record { answers = λ _. run; to_handler = λ e. absurd (n e) }
 
 -- in the words of the needs
-module _ {table : List ℕ} {i : ℕ} {state m : List ℕ} {rooms : Rooms} where
+module _ {table : List ℕ} {i : ℕ} {state : List ℕ} {m : Progress} {rooms : Rooms} where
   pub star_tests : CanRun 1 Starred (lent table state m rooms) i → CanTest table i m
   star_tests (before, part, behind, o) =
-      let (t, w, h) = o.live in record { has = star_has (star_by t w) h; row = o.numbers }
+      let (t, w, h) = o.live in record { has = star_has (star_by t w) h; holds = o.holds }
 
   pub star_second_in : CanRun 1 Starred (lent table state m rooms) i → 6 * i + 11 < length table
   star_second_in (before, part, behind, o) = let (t, w, h) = o.live in omega (arith, star_reads (star_by t w) h)
@@ -226,7 +228,7 @@ module _ {table : List ℕ} {i : ℕ} {state m : List ℕ} {rooms : Rooms} where
   -- by the rules: it answers, or the handler begins
   module _ {U : Term → Type 0} {L : Lent} (on : GoesOnAs Starred U L i (lent table state m rooms)) {v : Verdict} (reads : TestIs table i m v)
       {second : ℕ} (is : second ≡ second_child table i) where
-    pub star_read : {state₁ : List ℕ} {f : Flag} → StarRead v (get_or m ended_at 0) (4 * i) (4 * second) state state₁ f
+    pub star_read : {state₁ : List ℕ} {f : Flag} → StarRead v m.ended (4 * i) (4 * second) state state₁ f
         → AfterTest U L i (lent table state₁ m rooms) f
     star_read (waits e) = answered (λ n. search rules) (on.has (star_suspends reads e))
     star_read (refused e) = answered (λ n. search rules) (on.has (star_refused reads e))

@@ -19,14 +19,14 @@ use Rattle.state.specs.Kinds.{when_kind, if_kind}
 use Rattle.state.proofs.Parts.{first_of, with_first}
 use Rattle.steps.specs.Running.{Rooms, Ready, Any, TestRead, phase_after}
 use Rattle.steps.proofs.Children.{own_in}
-use Rattle.steps.proofs.Tally.{not_ended, is_ended}
-use Rattle.steps.specs.Numbers.{ended_at, words_of, tally_of}
+use Rattle.steps.proofs.Tally.{byte_read}
+use Rattle.steps.specs.Progress.{words_of, tally_of}
 use Rattle.steps.specs.Kinds.{OfKind, InSecond, Choice}
 use Rattle.runner.proofs.Stages.{InThen}
 use Rattle.steps.specs.Tests.{CanTest, TestIs}
 use Rattle.steps.specs.Lent.{Lent, lent, Around, Stands, Went, CanRun, HasRun}
 use Rattle.steps.proofs.Context.{outer, phase_in, put_phase}
-use Rattle.steps.proofs.Row.{kept_same}
+use Rattle.steps.proofs.Kept.{kept_same}
 use Rattle.steps.proofs.Dispatch.{phase_is, to_kind}
 use Rattle.steps.proofs.ChildContext.{child_stands}
 use Rattle.runner.proofs.When.{Then, then_by, then_asks, then_writes, then_ran}
@@ -35,9 +35,10 @@ use Rattle.runner.proofs.Falling.{smaller_by}
 use Rattle.runner.proofs.GoesOn.{stands_as, went_as}
 use Rattle.runner.proofs.EitherKind.{the_first}
 use Rattle.runner.proofs.Branches.{Branches, branches_of_kind}
+use Rattle.steps.specs.declared.progress.Progress.{Progress}
 
 -- in its first branch: that runs
-module _ {table : List ℕ} {i : ℕ} {state m : List ℕ} {rooms : Rooms} {before part behind : List ℕ}
+module _ {table : List ℕ} {i : ℕ} {state : List ℕ} {m : Progress} {rooms : Rooms} {before part behind : List ℕ}
     (o : Stands 1 InThen (lent table state m rooms) i before part behind) where
   abbrev n : ℕ
   n = size_at table (i + 1)
@@ -48,13 +49,13 @@ module _ {table : List ℕ} {i : ℕ} {state m : List ℕ} {rooms : Rooms} {befo
   branch_stands : Stands 0 Any (lent table state m rooms) (i + 1) (before ++ take 4 part) (first_of part n)
       (drop (4 + 4 * n - 4) (drop 4 part) ++ behind)
   branch_stands =
-      child_stands o.around o.numbers 4 (4 + 4 * n - 4) (own_in o.live.2 3 (lit< tt)) (omega arith)
+      child_stands o.around o.holds 4 (4 + 4 * n - 4) (own_in o.live.2 3 (lit< tt)) (omega arith)
       (then_asks refl the o.live.2 1 refl).1
 
   branch_smaller : size_at table (i + 1) < size_at table i
   branch_smaller = smaller_by table i (i + 1) (then_asks refl the o.live.2 1 refl).0
 
-  module _ {state' m' : List ℕ} {rooms' : Rooms} {f : Flag} (run : HasRun 0 Any (lent table state m rooms) (i + 1) (lent table state' m' rooms') f) where
+  module _ {state' : List ℕ} {m' : Progress} {rooms' : Rooms} {f : Flag} (run : HasRun 0 Any (lent table state m rooms) (i + 1) (lent table state' m' rooms') f) where
     branch_went : Went 0 Any (lent table state m rooms) (i + 1) (before ++ take 4 part) (first_of part n)
         (drop (4 + 4 * n - 4) (drop 4 part) ++ behind) (lent table state' m' rooms') f
     branch_went = run _ _ _ branch_stands
@@ -79,12 +80,12 @@ module _ {table : List ℕ} {i : ℕ} {state m : List ℕ} {rooms : Rooms} {befo
         }
 
 -- in the words of the needs
-module _ {table : List ℕ} {i : ℕ} {state m : List ℕ} {rooms : Rooms} where
+module _ {table : List ℕ} {i : ℕ} {state : List ℕ} {m : Progress} {rooms : Rooms} where
   pub then_first : CanRun 1 InThen (lent table state m rooms) i
       → (size_at table (i + 1) < size_at table i) × CanRun 0 Any (lent table state m rooms) (i + 1)
   then_first (before, part, behind, o) = (branch_smaller o, (_, _, _, branch_stands o))
 
-  module _ {state' m' : List ℕ} {rooms' : Rooms} {f : Flag} (run : HasRun 0 Any (lent table state m rooms) (i + 1) (lent table state' m' rooms') f) where
+  module _ {state' : List ℕ} {m' : Progress} {rooms' : Rooms} {f : Flag} (run : HasRun 0 Any (lent table state m rooms) (i + 1) (lent table state' m' rooms') f) where
     pub then_writes_in : CanRun 1 InThen (lent table state m rooms) i → 4 * i < length state'
     then_writes_in (before, part, behind, o) = phase_in (around_back o run) (own_back o run)
 
@@ -110,7 +111,7 @@ module _ {table : List ℕ} {i : ℕ} {state : List ℕ} (untested : get_or stat
       → {words : List ℕ} {rooms : Rooms} {tally : List ℕ} → Ready 0 table i part words rooms tally t → When0 t
   testing a {t} w h = when0_by t (w, sym (phase_is a h) ∙ untested)
 
-  module _ {m : List ℕ} {rooms : Rooms} where
+  module _ {m : Progress} {rooms : Rooms} where
     then_stands : {before part behind : List ℕ} → Stands 0 (OfKind when_kind) (lent table state m rooms) i before part behind
         → Stands 1 InThen (lent table state m rooms) i before part behind
     then_stands o = let (t, w, h) = o.live in stands_as o (then_live (testing o.around w h) h)
@@ -121,7 +122,7 @@ module _ {table : List ℕ} {i : ℕ} {state : List ℕ} (untested : get_or stat
 
     pub when_tests : CanRun 0 (OfKind when_kind) (lent table state m rooms) i → CanTest table i m
     when_tests (before, part, behind, o) =
-        let (t, w, h) = o.live in record { has = when_has (testing o.around w h) h; row = o.numbers }
+        let (t, w, h) = o.live in record { has = when_has (testing o.around w h) h; holds = o.holds }
 
     now_then : CanRun 0 (OfKind when_kind) (lent table state m rooms) i → CanRun 1 InThen (lent table state m rooms) i
     now_then (before, part, behind, o) = (_, _, _, then_stands o)
@@ -141,42 +142,42 @@ module _ {table : List ℕ} {i : ℕ} {state : List ℕ} (untested : get_or stat
 
       -- a branch begins, or waits for the next instant
       module _ (is : v ≡ Sat) where
-        then_begins : get_or m ended_at 0 ≡ 0 → {L' : Lent} {r : Flag} → HasRun 1 InThen (lent table state m rooms) i L' r
+        then_begins : m.ended ≡ false → {L' : Lent} {r : Flag} → HasRun 1 InThen (lent table state m rooms) i L' r
             → HasRun 0 (OfKind when_kind) (lent table state m rooms) i L' r
         then_begins z run before part behind o =
             let g = run before part behind (then_stands o) in
-            went_as (kept_same m) g (λ t w h. then_goes reads (testing o.around w h) h is (not_ended z) g.runs)
+            went_as (kept_same m) g (λ t w h. then_goes reads (testing o.around w h) h is (byte_read m.ended ∙ z) g.runs)
 
-        then_next : get_or m ended_at 0 ≢ 0
+        then_next : m.ended ≡ true
             → HasRun 0 (OfKind when_kind) (lent table state m rooms) i (lent table (set state (4 * i) 1) m rooms) STOP
         then_next z before part behind o =
             record {
               part' = set part 0 1;
               around = put_phase o.around 1 (own_in o.live.2 0 (lit< tt));
               kept = kept_same m;
-              runs = λ t w h. then_later reads (testing o.around w h) h is (is_ended z);
+              runs = λ t w h. then_later reads (testing o.around w h) h is (byte_read m.ended ∙ z);
             }
 
       module _ (is : v ≡ Unsat) where
-        else_begins : get_or m ended_at 0 ≡ 0 → {L' : Lent} {r : Flag} → HasRun 1 InSecond (lent table state m rooms) i L' r
+        else_begins : m.ended ≡ false → {L' : Lent} {r : Flag} → HasRun 1 InSecond (lent table state m rooms) i L' r
             → HasRun 0 (OfKind when_kind) (lent table state m rooms) i L' r
         else_begins z run before part behind o =
             let g = run before part behind (else_stands o) in
-            went_as (kept_same m) g (λ t w h. else_goes reads (testing o.around w h) h is (not_ended z) g.runs)
+            went_as (kept_same m) g (λ t w h. else_goes reads (testing o.around w h) h is (byte_read m.ended ∙ z) g.runs)
 
-        else_next : get_or m ended_at 0 ≢ 0
+        else_next : m.ended ≡ true
             → HasRun 0 (OfKind when_kind) (lent table state m rooms) i (lent table (set state (4 * i) 2) m rooms) STOP
         else_next z before part behind o =
             record {
               part' = set part 0 2;
               around = put_phase o.around 2 (own_in o.live.2 0 (lit< tt));
               kept = kept_same m;
-              runs = λ t w h. else_later reads (testing o.around w h) h is (is_ended z);
+              runs = λ t w h. else_later reads (testing o.around w h) h is (byte_read m.ended ∙ z);
             }
 
     -- by what its test is read as
     module _ {v : Verdict} (reads : TestIs table i m v) (known : v ≢ Unknown) {second : Bool} (says : second ≡ sameb the_type v Unsat) where
-      pub when_chooses : get_or m ended_at 0 ≡ 0 → CanRun 0 (OfKind when_kind) (lent table state m rooms) i
+      pub when_chooses : m.ended ≡ false → CanRun 0 (OfKind when_kind) (lent table state m rooms) i
           → Branches (OfKind when_kind) (lent table state m rooms) i second
       when_chooses z o =
           record {
@@ -184,18 +185,18 @@ module _ {table : List ℕ} {i : ℕ} {state : List ℕ} (untested : get_or stat
             to_first = λ e. record { can = now_then o; has = λ run. then_begins reads (sat_by v known says e) z run };
           }
 
-      waits : get_or m ended_at 0 ≢ 0 → (b : Bool) → second ≡ b
+      waits : m.ended ≡ true → (b : Bool) → second ≡ b
           → HasRun 0 (OfKind when_kind) (lent table state m rooms) i (lent table (set state (4 * i) (cond b 2 1)) m rooms) STOP
       waits z true e = else_next reads (unsat_by v says e) z
       waits z false e = then_next reads (sat_by v known says e) z
 
-      pub when_stops : get_or m ended_at 0 ≢ 0 → {ph : ℕ} → ph ≡ cond second 2 1
+      pub when_stops : m.ended ≡ true → {ph : ℕ} → ph ≡ cond second 2 1
           → HasRun 0 (OfKind when_kind) (lent table state m rooms) i (lent table (set state (4 * i) ph) m rooms) STOP
       when_stops z is = rw is (waits z second refl)
 
 -- the same of a node of either kind that is read to be no If
-pub when_branches : {table : List ℕ} {i : ℕ} {state m : List ℕ} {rooms : Rooms} {n : ℕ} → n ≡ kind_at table i → n ≢ if_kind → get_or state (4 * i) 0 ≡ 0
-    → {v : Verdict} → TestIs table i m v → v ≢ Unknown → {second : Bool} → second ≡ sameb the_type v Unsat → get_or m ended_at 0 ≡ 0
+pub when_branches : {table : List ℕ} {i : ℕ} {state : List ℕ} {m : Progress} {rooms : Rooms} {n : ℕ} → n ≡ kind_at table i → n ≢ if_kind → get_or state (4 * i) 0 ≡ 0
+    → {v : Verdict} → TestIs table i m v → v ≢ Unknown → {second : Bool} → second ≡ sameb the_type v Unsat → m.ended ≡ false
     → CanRun 0 Choice (lent table state m rooms) i
     → Branches Choice (lent table state m rooms) i second
 when_branches read other zero reads known says z o =

@@ -13,7 +13,6 @@ use steps::flags::{
     both_ran, first_ran, flag_at, heard_above, par_end, phase_after, second_ran, sign_after,
 };
 use steps::leaves::{read_star, run_atom, run_await, run_generate, run_nothing, run_stop, test_at};
-use steps::numbers::{ENDED, exchange_event, has_event, times_at, value_of};
 use steps::parking::{run_pending, stays_pending};
 use steps::phases::{
     BEGUN, COUNT, FLAGS, GONE, PLUS, SECOND, STARRED, THEN, begin_turn, both_suspended, chosen,
@@ -53,7 +52,7 @@ pub fn run_child(pass: &mut Pass, i: usize) -> Flag
         kinds::UNTIL => run_until(pass, i),
         kinds::CONTROL => run_control(pass, i),
         kinds::FREEZABLE => {
-            if stays_pending(pass.table, i, pass.state[4 * i], &pass.numbers) {
+            if stays_pending(pass.table, i, pass.state[4 * i], &pass.progress) {
                 return Flag::SUSP;
             }
             run_until(pass, i)
@@ -197,7 +196,7 @@ fn run_repeat(pass: &mut Pass, i: usize) -> Flag
         return Flag::TERM;
     }
     let turns = if phase == 0 {
-        times_at(pass.table, i, &pass.numbers)
+        pass.progress.times_at(pass.table, i)
     } else {
         turns_left(pass.state[4 * i + COUNT], pass.state[4 * i + COUNT + 1])
     };
@@ -238,14 +237,14 @@ fn run_when(pass: &mut Pass, i: usize) -> Flag
     let mut second = phase == SECOND;
     if phase == 0 {
         if kind_at(pass.table, i) == kinds::IF {
-            second = value_of(&pass.numbers, argument_at(pass.table, i)) == 0;
+            second = pass.progress.value_of(argument_at(pass.table, i)) == 0;
         } else {
-            let verdict = test_at(&pass.table, i, &pass.numbers);
+            let verdict = test_at(pass.table, i, &pass.progress);
             if verdict == Verdict::Unknown {
                 return Flag::SUSP;
             }
             second = verdict == Verdict::Unsat;
-            if pass.numbers[ENDED] != 0 {
+            if pass.progress.ended {
                 pass.state[4 * i] = chosen(second);
                 return Flag::STOP;
             }
@@ -282,9 +281,9 @@ fn run_until(pass: &mut Pass, i: usize) -> Flag
     if kind_at(pass.table, i) == kinds::FREEZABLE {
         return run_pending(pass, i);
     }
-    let verdict = test_at(&pass.table, i, &pass.numbers);
+    let verdict = test_at(pass.table, i, &pass.progress);
     let second = second_at(pass.table, i);
-    let ended = pass.numbers[ENDED];
+    let ended = pass.progress.ended;
     let f = read_star(pass.state, 4 * i, 4 * second, verdict, ended);
     if f != Flag::TERM {
         return f;
@@ -302,10 +301,10 @@ fn run_control(pass: &mut Pass, i: usize) -> Flag
         pass.state[4 * i] = 0;
         return Flag::TERM;
     }
-    if has_event(&pass.numbers, argument_at(pass.table, i)) {
+    if pass.progress.has_event(argument_at(pass.table, i)) {
         return run_child(pass, i + 1);
     }
-    if pass.numbers[ENDED] == 0 {
+    if !pass.progress.ended {
         return Flag::SUSP;
     }
     Flag::STOP
@@ -323,9 +322,9 @@ fn run_local(pass: &mut Pass, i: usize) -> Flag
         return Flag::TERM;
     }
     let event = argument_at(pass.table, i);
-    let outside = exchange_event(&mut pass.numbers, event, phase == PLUS);
+    let outside = pass.progress.exchange_event(event, phase == PLUS);
     let f = run_child(pass, i + 1);
-    let inside = exchange_event(&mut pass.numbers, event, outside);
+    let inside = pass.progress.exchange_event(event, outside);
     pass.state[4 * i] = sign_after(f, inside);
     f
 }

@@ -1,11 +1,14 @@
 -- Searches in the table of names, step by step: for the row that goes on with a byte, and for the level that a name tells.
-use Prim.Native.Nat.{ℕ, suc, ◌+◌, ◌-◌, ◌%◌, ◌<◌, ◌≤◌}
+use Prim.Native.Nat.{ℕ, zero, suc, ◌+◌, ◌-◌, ◌%◌, ◌<◌, ◌≤◌}
 use mathlib.Core.Bool.{Bool, true, false, ◌&&◌}
-use mathlib.Core.Path.{◌≡◌}
+use mathlib.Core.Path.{◌≡◌, refl, ap}
 use native.Mathlib.Omega.{arith}
 use lib.Dec.{eqb}
-use borrow.Author.Tests.{eq-eqb, ne_eqb}
-use Rattle.form.specs.Inside.Rows.{row_at, form_row, form_count, code_at, name_end, agree, place_from}
+use lib.ListN.{get_or, take, drop}
+use lib.Seq.{drop-cons}
+use lib.Pointwise.{pointwise}
+use Rattle.form.specs.Inside.Rows.{names, long, row_at, form_row, form_count, code_at, name_end, agree, place_from}
+use Rattle.form.proofs.Rows.{length_names}
 use Rattle.scanner.specs.declared.levels.Level.TheVariants.{One}
 use Rattle.scanner.specs.Levels.{level_in, level_from}
 
@@ -15,22 +18,15 @@ one_fewer n j h = omega arith
 none_left : (n j : ℕ) → n ≤ j → n - j ≡ 0
 none_left n j h = omega arith
 
--- code against code
-module _ (n a c j : ℕ) where
-  pub agree_not : j < n → (code_at (a + j) ≡ code_at (c + j) → ⊥) → agree (n - j) (a + j) (c + j) ≡ false
-  unfolding agree
-  agree_not h e = rw (one_fewer n j h, ne_eqb (code_at (a + j)) (code_at (c + j)) e)
-
-  pub agree_next : j < n → code_at (a + j) ≡ code_at (c + j) → agree (n - j) (a + j) (c + j) ≡ agree (n - suc j) (a + suc j) (c + suc j)
-  unfolding agree
-  agree_next h e =
-      let x : a + suc j ≡ suc (a + j) = omega arith in
-      let y : c + suc j ≡ suc (c + j) = omega arith in
-      rw (one_fewer n j h, x, y, eq-eqb (code_at (a + j)) (code_at (c + j)) e)
-
-  pub agree_done : n ≤ j → agree (n - j) (a + j) (c + j) ≡ true
-  unfolding agree
-  agree_done h = rw (none_left n j h)
+-- two parts of the table are the same where their codes agree
+pub parts_agree : (n a c : ℕ) → a + n ≤ long → c + n ≤ long
+    → pointwise eqb (take n (drop a names)) (take n (drop c names)) ≡ agree n a c
+unfolding agree code_at
+parts_agree zero a c h k = refl
+parts_agree (suc n) a c h k =
+    let l = length_names in
+    rw (drop-cons names a 0 (omega arith), drop-cons names c 0 (omega arith))
+    (ap (λ (b : Bool). eqb (get_or names a 0) (get_or names c 0) && b) (parts_agree n (suc a) (suc c) (omega arith) (omega arith)))
 
 -- row by row
 module _ (p b r : ℕ) where

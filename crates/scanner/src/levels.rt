@@ -58,6 +58,7 @@ pub fn around(text: &[u8], from: usize) -> Bracket
 {
     let mut closed: usize = 0;
     let mut spaces: usize = 0;
+    // A range: over `text[..from].iter().enumerate().rev()` the loop's invariant would go by the iterator, which names no place.
     for at in (0..from).rev() {
         let b = text[at];
         if opens(b, closed) {

@@ -60,12 +60,7 @@ fn same_codes(names: &Names, a: usize, c: usize, n: usize) -> bool
     requires in_the_table { (a + n ≤ long) × (c + n ≤ long) }
     ensures { result ≡ agree n a c }
 {
-    for j in 0..n {
-        if names.code(a + j) != names.code(c + j) {
-            return false;
-        }
-    }
-    true
+    names.part(a, a + n) == names.part(c, c + n)
 }
 
 // Whether a row begins with the letters before a place, and has b behind them.

@@ -10,7 +10,7 @@ ghost use Rattle.state.specs.Resting.{zero_node, zero_nodes, second_zero, repeat
 ghost use Rattle.state.specs.Inside.{own, Number, one_ended, counted_below, TwosFrom, ZeroFrom, Tells, Judged, Judging, Blamed};
 
 use table::kinds::{Kind, kind_of};
-use table::records::{argument_at, second_at, size_at, wide, word_at};
+use table::records::{argument_at, second_at, size_at, wide};
 
 // A phase of 1 and a flags byte of 1, in a node's own bytes as one number.
 const PHASE: usize = 16777216;
@@ -34,7 +34,9 @@ fn own_at(state: &[u8], i: usize) -> usize
     requires { 4 * i + 3 < length state.now }
     ensures { Number state.now i result }
 {
-    wide(state[4 * i]) * PHASE + wide(state[4 * i + 1]) * FLAGS + word_at(state, 4 * i + 2)
+    let mut own = [0; 4];
+    own.copy_from_slice(&state[4 * i..4 * i + 4]);
+    u32::from_be_bytes(own) as usize
 }
 
 // Those of nodes i and i + 1.
@@ -42,7 +44,9 @@ fn two_at(state: &[u8], i: usize) -> usize
     requires { 4 * i + 7 < length state.now }
     ensures { result ≡ own state.now i * 4294967296 + own state.now (i + 1) }
 {
-    own_at(state, i) * 4294967296 + own_at(state, i + 1)
+    let mut two = [0; 8];
+    two.copy_from_slice(&state[4 * i..4 * i + 8]);
+    u64::from_be_bytes(two) as usize
 }
 
 // Whether node i has no byte but zeros.
@@ -307,12 +311,26 @@ fn zero_from(state: &[u8], near: usize) -> usize
     i - 1
 }
 
-// The lowest node to blame for a state that isn't at rest; n if none is. The table's first n records are a subtree: all of a table's, or those of a
-// part of it from its first record on.
-pub fn first_blamed(table: &[u8], n: usize, state: &[u8]) -> usize
+// The lowest node to blame for a state that isn't at rest, if there is one. The table's first n records are a subtree: all of a table's, or those of
+// a part of it from its first record on.
+pub fn first_blamed(table: &[u8], n: usize, state: &[u8]) -> Option<usize>
     requires rooted { Rooted table.now n }
     requires state_long { 4 * n ≤ length state.now }
-    ensures { result ≡ lowest n (λ i. not (rests table.now state.now i)) }
+    ensures { MatchOption result (lowest n (λ i. not (rests table.now state.now i)) ≡ n)
+        (λ i. (i ≡ lowest n (λ i. not (rests table.now state.now i))) × (i < n)) }
+{
+    let low = lowest_blamed(table, n, state);
+    if low < n {
+        return Some(low);
+    }
+    None
+}
+
+// The same, n if there is none: so the walk, which goes backwards, has a number for those behind it from the start.
+fn lowest_blamed(table: &[u8], n: usize, state: &[u8]) -> usize
+    requires rooted { Rooted table.now n }
+    requires state_long { 4 * n ≤ length state.now }
+    ensures { Blamed table.now state.now 0 result }
 {
     let mut near = n;
     let mut low = n;

@@ -1,34 +1,34 @@
 -- An Await, rules 22 to 25, over all that is lent; what reading a node's test comes to.
-use Prim.Native.Nat.{ℕ, zero, suc, ◌*◌, ◌<◌}
+use Prim.Native.Nat.{ℕ, ◌*◌}
 use mathlib.Core.Bool.{Bool, true, false, ◌||◌}
-use mathlib.Core.Path.{◌≡◌, refl, ◌∙◌}
+use mir.Val.{bool_byte}
+use mathlib.Core.Path.{◌≡◌, refl, sym, ap, ◌∙◌}
 use mathlib.Core.Logic.{◌≢◌}
 use mathlib.Core.List.{List}
 use native.Mathlib.Omega.{arith}
 use lib.Dec.{lit<, ltb}
 use lib.ListN.{get_or, set}
-use borrow.Author.Tests.{eqb-true, ne_eqb}
+use borrow.Author.Tests.{eqb-true}
 use Rattle.events.specs.Members.{marks}
 use Rattle.junior.specs.declared.Flag.TheVariants.{SUSP, STOP, TERM}
-use Rattle.junior.specs.declared.Verdict.{Verdict}
 use Rattle.junior.specs.declared.Verdict.TheVariants.{Sat, Unsat, Unknown}
 use Rattle.junior.specs.Configuration.{Config, Event, Not, And, Or, test, fixed, eval, verdict}
 use Rattle.table.specs.Records.{part_kind, part_event}
 use Rattle.table.specs.Spells.{Configured, tested}
 use Rattle.state.specs.Kinds.{await_kind}
 use Rattle.state.proofs.Shape.{shape_by}
-use Rattle.steps.specs.Running.{Rooms, TestRead, Runs}
+use Rattle.steps.specs.Running.{Rooms, TestRead}
 use Rattle.steps.proofs.Children.{own_in}
 use Rattle.steps.proofs.LeafParts.{await_has, await_waits, await_fails, await_ends, await_stops}
-use Rattle.steps.proofs.Tally.{not_ended, is_ended}
-use Rattle.steps.specs.Numbers.{ended_at, words_of, tally_of}
+use Rattle.steps.proofs.Tally.{byte_read}
+use Rattle.steps.specs.Progress.{words_of, tally_of}
 use Rattle.steps.specs.Kinds.{OfKind}
 use Rattle.steps.specs.Tests.{CanTest, TestIs, lone_event}
-use Rattle.steps.specs.Flags.{flag_of}
 use Rattle.steps.specs.Lent.{lent, CanRun, HasRun}
 use Rattle.steps.proofs.Context.{put_phase}
-use Rattle.steps.proofs.Row.{kept_same}
+use Rattle.steps.proofs.Kept.{kept_same}
 use Rattle.steps.proofs.Dispatch.{phase_is}
+use Rattle.steps.specs.declared.progress.Progress.{Progress}
 
 -- a lone event is read by its presence and by whether the end is declared
 lone_read : (table : List ℕ) (c : ℕ) (words : List ℕ) (d : Config) → Configured table c d → part_kind table c ≡ 0
@@ -40,37 +40,25 @@ lone_read table c words (Not d) h k b a eoi moved = absurd (omega (arith, h.0))
 lone_read table c words (And d e) h k b a eoi moved = absurd (omega (arith, h.0))
 lone_read table c words (Or d e) h k b a eoi moved = absurd (omega (arith, h.0))
 
-lone_ranked : (table : List ℕ) (i : ℕ) (m : List ℕ) → lone_event table i ≡ true
+lone_ranked : (table : List ℕ) (i : ℕ) (m : Progress) → lone_event table i ≡ true
     → (b : Bool) → marks (words_of m) (part_event table (tested table i)) ≡ b
-    → TestRead table i (words_of m) (tally_of m) (verdict (b || ltb 0 (get_or m ended_at 0)) b)
+    → TestRead table i (words_of m) (tally_of m) (verdict (b || ltb 0 (bool_byte m.ended)) b)
 lone_ranked table i m lone b a d h = lone_read table (tested table i) (words_of m) d h (eqb-true _ _ lone) b a _ _
 
-lone_sat : (table : List ℕ) (i : ℕ) (m : List ℕ) → lone_event table i ≡ true
+lone_sat : (table : List ℕ) (i : ℕ) (m : Progress) → lone_event table i ≡ true
     → marks (words_of m) (part_event table (tested table i)) ≡ true → TestIs table i m Sat
 lone_sat table i m lone here = lone_ranked table i m lone true here
 
-module _ {table : List ℕ} {i : ℕ} {state m : List ℕ} {rooms : Rooms} (on : get_or state (4 * i) 0 ≢ 3) where
+lone_absent : (table : List ℕ) (i : ℕ) (m : Progress) → lone_event table i ≡ true
+    → marks (words_of m) (part_event table (tested table i)) ≡ false → {b : Bool} → m.ended ≡ b → TestIs table i m (verdict b false)
+lone_absent table i m lone off z d h =
+    ap (λ (b : Bool). verdict b false) (sym (byte_read m.ended ∙ z)) ∙ lone_ranked table i m lone false off d h
+
+module _ {table : List ℕ} {i : ℕ} {state : List ℕ} {m : Progress} {rooms : Rooms} (on : get_or state (4 * i) 0 ≢ 3) where
   pub await_tests : CanRun 0 (OfKind await_kind) (lent table state m rooms) i → CanTest table i m
   await_tests (before, part, behind, o) =
       let (t, w, h) = o.live in
-      record { has = await_has (shape_by t w refl) (λ e. on (phase_is o.around h ∙ e)) h; row = o.numbers }
-
-  -- a lone event that is absent: it answers whether the end is declared
-  pub lone_run : lone_event table i ≡ true → marks (words_of m) (part_event table (tested table i)) ≡ false
-      → HasRun 0 (OfKind await_kind) (lent table state m rooms) i (lent table state m rooms) (flag_of (get_or m ended_at 0))
-  lone_run lone a before part behind o =
-      record {
-        part' = part;
-        around = o.around;
-        kept = kept_same m;
-        runs = go (get_or m ended_at 0) o.numbers.ended_below (lone_ranked table i m lone false a);
-      }
-    where
-      go : (n : ℕ) → n < 2 → TestRead table i (words_of m) (tally_of m) (verdict (ltb 0 n) false)
-          → Runs 0 (OfKind await_kind) table i part (words_of m) rooms (tally_of m) part (words_of m) rooms (tally_of m) (flag_of n)
-      go zero l reads t w h P at = await_waits reads (shape_by t w refl) (λ e. on (phase_is o.around h ∙ e)) h refl
-      go (suc zero) l reads t w h P at = await_fails reads (shape_by t w refl) (λ e. on (phase_is o.around h ∙ e)) h refl
-      go (suc (suc n)) l reads t w h P at = absurd (omega arith)
+      record { has = await_has (shape_by t w refl) (λ e. on (phase_is o.around h ∙ e)) h; holds = o.holds }
 
   pub await_suspends : TestIs table i m Unknown → HasRun 0 (OfKind await_kind) (lent table state m rooms) i (lent table state m rooms) SUSP
   await_suspends reads before part behind o =
@@ -90,17 +78,17 @@ module _ {table : List ℕ} {i : ℕ} {state m : List ℕ} {rooms : Rooms} (on :
         runs = λ t w h P at. await_fails reads (shape_by t w refl) (λ e. on (phase_is o.around h ∙ e)) h refl;
       }
 
-  pub await_met : TestIs table i m Sat → get_or m ended_at 0 ≡ 0 → HasRun 0 (OfKind await_kind) (lent table state m rooms) i (lent table state m rooms) TERM
+  pub await_met : TestIs table i m Sat → m.ended ≡ false → HasRun 0 (OfKind await_kind) (lent table state m rooms) i (lent table state m rooms) TERM
   await_met reads z before part behind o =
       record {
         part' = part;
         around = o.around;
         kept = kept_same m;
         runs = λ t w h P at.
-            await_ends reads (shape_by t w refl) (λ e. on (phase_is o.around h ∙ e)) h refl (not_ended z);
+            await_ends reads (shape_by t w refl) (λ e. on (phase_is o.around h ∙ e)) h refl (byte_read m.ended ∙ z);
       }
 
-  pub await_met_late : TestIs table i m Sat → get_or m ended_at 0 ≢ 0
+  pub await_met_late : TestIs table i m Sat → m.ended ≡ true
       → HasRun 0 (OfKind await_kind) (lent table state m rooms) i (lent table (set state (4 * i) 3) m rooms) STOP
   await_met_late reads z before part behind o =
       record {
@@ -108,14 +96,22 @@ module _ {table : List ℕ} {i : ℕ} {state m : List ℕ} {rooms : Rooms} (on :
         around = put_phase o.around 3 (own_in o.live.2 0 (lit< tt));
         kept = kept_same m;
         runs = λ t w h P at.
-            await_stops reads (shape_by t w refl) (λ e. on (phase_is o.around h ∙ e)) h refl (is_ended z);
+            await_stops reads (shape_by t w refl) (λ e. on (phase_is o.around h ∙ e)) h refl (byte_read m.ended ∙ z);
       }
 
   -- one that is present
   module _ (lone : lone_event table i ≡ true) (here : marks (words_of m) (part_event table (tested table i)) ≡ true) where
-    pub lone_met : get_or m ended_at 0 ≡ 0 → HasRun 0 (OfKind await_kind) (lent table state m rooms) i (lent table state m rooms) TERM
+    pub lone_met : m.ended ≡ false → HasRun 0 (OfKind await_kind) (lent table state m rooms) i (lent table state m rooms) TERM
     lone_met z = await_met (lone_sat table i m lone here) z
 
-    pub lone_met_late : get_or m ended_at 0 ≢ 0
+    pub lone_met_late : m.ended ≡ true
         → HasRun 0 (OfKind await_kind) (lent table state m rooms) i (lent table (set state (4 * i) 3) m rooms) STOP
     lone_met_late z = await_met_late (lone_sat table i m lone here) z
+
+  -- one that is absent: whether the end is declared decides
+  module _ (lone : lone_event table i ≡ true) (absent : marks (words_of m) (part_event table (tested table i)) ≡ false) where
+    pub lone_waits : m.ended ≡ false → HasRun 0 (OfKind await_kind) (lent table state m rooms) i (lent table state m rooms) SUSP
+    lone_waits z = await_suspends (lone_absent table i m lone absent z)
+
+    pub lone_refused : m.ended ≡ true → HasRun 0 (OfKind await_kind) (lent table state m rooms) i (lent table state m rooms) STOP
+    lone_refused z = await_refused (lone_absent table i m lone absent z)

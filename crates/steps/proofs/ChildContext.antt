@@ -12,16 +12,17 @@ use Rattle.junior.specs.declared.Flag.TheVariants.{SUSP, STOP, TERM}
 use Rattle.junior.specs.Flags.{γ, δ₁, δ₂}
 use Rattle.state.specs.StateBytes.{code}
 use Rattle.steps.specs.Running.{Rooms, Live, Any, flag_is_term, gone, ended, par_end}
-use Rattle.steps.specs.Numbers.{Numbers, words_of, tally_of}
+use Rattle.steps.specs.Progress.{Holds, words_of, tally_of}
 use Rattle.steps.specs.Flags.{par_end_at}
 use Rattle.steps.specs.Lent.{lent, Around, Stands}
 use Rattle.steps.proofs.Context.{put_byte, inner}
+use Rattle.steps.specs.declared.progress.Progress.{Progress}
 
-pub child_stands : {table : List ℕ} {i : ℕ} {state m : List ℕ} {rooms : Rooms} {before part behind : List ℕ} → Around state i before part behind
-    → Numbers table m → (a k : ℕ) {j : ℕ} → a ≤ length part → 4 * i + a ≡ 4 * j
+pub child_stands : {table : List ℕ} {i : ℕ} {state : List ℕ} {m : Progress} {rooms : Rooms} {before part behind : List ℕ} → Around state i before part behind
+    → Holds table m → (a k : ℕ) {j : ℕ} → a ≤ length part → 4 * i + a ≡ 4 * j
     → Live 0 Any table j (mid_of a k part) (words_of m) rooms (tally_of m)
     → Stands 0 Any (lent table state m rooms) j (before ++ take a part) (mid_of a k part) (drop k (drop a part) ++ behind)
-child_stands o n a k l e v = record { around = inner o a k l e; numbers = n; live = v }
+child_stands o n a k l e v = record { around = inner o a k l e; holds = n; live = v }
 
 -- the bytes before a part stay when it is back
 pub front_stays : (a k : ℕ) (l s : List ℕ) (j : ℕ) → j < a → a ≤ length l → get_or (put_mid a k l s) j 0 ≡ get_or l j 0

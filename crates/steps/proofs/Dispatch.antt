@@ -20,16 +20,17 @@ use Rattle.state.specs.StateBytes.{head}
 use Rattle.steps.specs.Running.{Rooms, Ready}
 use Rattle.steps.proofs.LoadedNode.{control_argument, freezable_argument}
 use Rattle.steps.proofs.Children.{byte_is, own_in}
-use Rattle.steps.specs.Numbers.{places_of_row, words_of, tally_of}
+use Rattle.steps.specs.Progress.{words_of, tally_of}
 use Rattle.steps.specs.Kinds.{OfKind, BothSuspended, NotBoth}
 use Rattle.steps.specs.Lent.{Lent, lent, Around, Stands, CanRun, HasRun}
 use Rattle.steps.proofs.Context.{byte_at, byte_in, phase_at_lem, phase_in}
+use Rattle.steps.specs.declared.progress.Progress.{Progress}
 
 -- the terms of the kinds that are not told apart first
 abbrev pub Others : Term → Type 0
 Others t = (kind (prog t) ≢ par_kind) × (kind (prog t) ≢ await_kind) × (kind (prog t) ≢ seq_kind)
 
-module _ {skip : ℕ} {W : Term → Type 0} {table : List ℕ} {i : ℕ} {state m : List ℕ} {rooms : Rooms} (o : CanRun skip W (lent table state m rooms) i) where
+module _ {skip : ℕ} {W : Term → Type 0} {table : List ℕ} {i : ℕ} {state : List ℕ} {m : Progress} {rooms : Rooms} (o : CanRun skip W (lent table state m rooms) i) where
   own_long : (k : ℕ) → k < 4 → k < length o.1
   own_long k l = own_in o.3.live.2 k l
 
@@ -55,24 +56,22 @@ module _ {skip : ℕ} {W : Term → Type 0} {table : List ℕ} {i : ℕ} {state 
   phase_reads = phase_in o.3.around (own_long 0 (omega arith))
 
 -- what is asked where the event of a Control or of a Freezable is looked up
-module _ {table : List ℕ} {i : ℕ} {state m : List ℕ} {rooms : Rooms} where
-  pub control_event : CanRun 0 (OfKind control_kind) (lent table state m rooms) i
-      → (length m ≡ places_of_row) × (6 * i + 3 < length table) × (argument_at table i < places)
-  control_event o = (o.3.numbers.long, argument_reads o, control_argument o.3.live.2.placed o.3.live.1)
+module _ {table : List ℕ} {i : ℕ} {state : List ℕ} {m : Progress} {rooms : Rooms} where
+  pub control_event : CanRun 0 (OfKind control_kind) (lent table state m rooms) i → argument_at table i < places
+  control_event o = control_argument o.3.live.2.placed o.3.live.1
 
-  pub freezable_event : CanRun 0 (OfKind freezable_kind) (lent table state m rooms) i
-      → (length m ≡ places_of_row) × (6 * i + 3 < length table) × (argument_at table i < places)
-  freezable_event o = (o.3.numbers.long, argument_reads o, freezable_argument o.3.live.2.placed o.3.live.1)
+  pub freezable_event : CanRun 0 (OfKind freezable_kind) (lent table state m rooms) i → (6 * i + 3 < length table) × (argument_at table i < places)
+  freezable_event o = (argument_reads o, freezable_argument o.3.live.2.placed o.3.live.1)
 
 -- a function that runs the terms of W runs those of U, if all of U that stand there are of W
-module _ {W U : Term → Type 0} {table : List ℕ} {i : ℕ} {state m : List ℕ} {rooms : Rooms}
+module _ {W U : Term → Type 0} {table : List ℕ} {i : ℕ} {state : List ℕ} {m : Progress} {rooms : Rooms}
     (are : (before part behind : List ℕ) → Around state i before part behind → (t : Term)
     → Ready 0 table i part (words_of m) rooms (tally_of m) t → W t) where
   pub narrow : {before part behind : List ℕ} → Stands 0 U (lent table state m rooms) i before part behind
       → Stands 0 W (lent table state m rooms) i before part behind
   narrow o =
       let (t, u, h) = o.live in
-      record { around = o.around; numbers = o.numbers; live = (t, are _ _ _ o.around t h, h) }
+      record { around = o.around; holds = o.holds; live = (t, are _ _ _ o.around t h, h) }
 
   pub can_narrow : CanRun 0 U (lent table state m rooms) i → CanRun 0 W (lent table state m rooms) i
   can_narrow (before, part, behind, o) = (before, part, behind, narrow o)
@@ -116,7 +115,7 @@ module _ {state : List ℕ} {i : ℕ} {before part behind : List ℕ} (a : Aroun
   other x y z =
       (λ e. x (sym (kind_is read h) ∙ e), λ e. y (sym (kind_is read h) ∙ e), λ e. z (sym (kind_is read h) ∙ e))
 
-module _ {U : Term → Type 0} {table : List ℕ} {i : ℕ} {state m : List ℕ} {rooms : Rooms} {n : ℕ} (read : n ≡ kind_at table i) where
+module _ {U : Term → Type 0} {table : List ℕ} {i : ℕ} {state : List ℕ} {m : Progress} {rooms : Rooms} {n : ℕ} (read : n ≡ kind_at table i) where
   pub to_kind : {k : ℕ} → n ≡ k → CanRun 0 U (lent table state m rooms) i → CanRun 0 (OfKind k) (lent table state m rooms) i
   to_kind is o = can_narrow (λ b p q a t h. of_kind a h read is) o
 
@@ -158,7 +157,7 @@ past : {k n : ℕ} → k ≤ n → n ≢ k → suc k ≤ n
 past l d = omega arith
 
 -- what no arm before the last takes, and is none of the kinds told apart first, is a Local
-pub the_last : {table : List ℕ} {i : ℕ} {state m : List ℕ} {rooms : Rooms} → CanRun 0 Others (lent table state m rooms) i → {n : ℕ} → n ≡ kind_at table i
+pub the_last : {table : List ℕ} {i : ℕ} {state : List ℕ} {m : Progress} {rooms : Rooms} → CanRun 0 Others (lent table state m rooms) i → {n : ℕ} → n ≡ kind_at table i
     → none_of (15 ∷ 14 ∷ 13 ∷ 11 ∷ 10 ∷ 9 ∷ 7 ∷ 6 ∷ 5 ∷ 2 ∷ 1 ∷ 0 ∷ []) n → n ≡ local_kind
 the_last (before, part, behind, o) {n} read ((((((((((((z, n0), n1), n2), n5), n6), n7), n9), n10), n11), n13), n14), n15) =
     let (t, w, h) = o.live in

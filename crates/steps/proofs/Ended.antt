@@ -12,9 +12,10 @@ use Rattle.steps.proofs.LeafParts.{done_ran}
 use Rattle.steps.specs.Running.{Rooms}
 use Rattle.steps.specs.Lent.{lent, HasRun}
 use Rattle.steps.proofs.Context.{phase_at_lem, put_phase}
-use Rattle.steps.proofs.Row.{kept_same}
+use Rattle.steps.proofs.Kept.{kept_same}
+use Rattle.steps.specs.declared.progress.Progress.{Progress}
 
-pub done_run : {W : Term → Type 0} {table : List ℕ} {i : ℕ} {state m : List ℕ} {rooms : Rooms} → get_or state (4 * i) 0 ≡ 3
+pub done_run : {W : Term → Type 0} {table : List ℕ} {i : ℕ} {state : List ℕ} {m : Progress} {rooms : Rooms} → get_or state (4 * i) 0 ≡ 3
     → HasRun 0 W (lent table state m rooms) i (lent table (set state (4 * i) 0) m rooms) TERM
 done_run {m = m} e before part behind o =
     let l = own_in o.live.2 0 (lit< tt) in

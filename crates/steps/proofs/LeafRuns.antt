@@ -26,12 +26,13 @@ use Rattle.steps.proofs.LoadedNode.{generate_placed}
 use Rattle.steps.proofs.Children.{own_in}
 use Rattle.steps.proofs.Done.{ran_alone}
 use Rattle.steps.proofs.LeafParts.{done_ran, stop_ran, atom_room, atom_ran, generate_ran}
-use Rattle.steps.specs.Numbers.{atoms_at, moved_at, words_of, Put}
+use Rattle.steps.specs.Progress.{words_of, Put}
 use Rattle.steps.specs.Kinds.{OfKind}
 use Rattle.steps.specs.Lent.{lent, CanRun, HasRun}
 use Rattle.steps.proofs.Context.{put_phase}
-use Rattle.steps.proofs.Row.{kept_same, kept_then, kept_but, words_stay, words_wide, tally_0, tally_1}
+use Rattle.steps.proofs.Kept.{kept_same, kept_then, words_wide}
 use Rattle.steps.proofs.Dispatch.{phase_is}
+use Rattle.steps.specs.declared.progress.Progress.{Progress}
 
 -- by words and a tally that are the same
 pub ran_in : {P : Place} {t : Term} {words : List ℕ} {rooms : Rooms} {tally state' words' : List ℕ} {rooms' : Rooms} {tally' words'' tally'' : List ℕ} {α : Flag}
@@ -60,7 +61,7 @@ unfolding prog Spells
 event_of (is_done p k) n h = absurd (n refl)
 event_of (is_generate s) n h = omega (arith, generate_placed h.placed, h.placed.spelled.1)
 
-module _ {table : List ℕ} {i : ℕ} {state m : List ℕ} {rooms : Rooms} where
+module _ {table : List ℕ} {i : ℕ} {state : List ℕ} {m : Progress} {rooms : Rooms} where
   pub nothing_run : HasRun 0 (OfKind nothing_kind) (lent table state m rooms) i (lent table (set state (4 * i) 0) m rooms) TERM
   nothing_run before part behind o =
       record {
@@ -80,39 +81,37 @@ module _ {table : List ℕ} {i : ℕ} {state m : List ℕ} {rooms : Rooms} where
           runs = λ t w h P at. stop_ran (shape_by t w refl) (λ e. on (phase_is o.around h ∙ e)) h;
         }
 
-    pub atom_fits : CanRun 0 (OfKind atom_kind) (lent table state m rooms) i → get_or m atoms_at 0 < length rooms.row
+    pub atom_fits : CanRun 0 (OfKind atom_kind) (lent table state m rooms) i → m.done < length rooms.row
     atom_fits (before, part, behind, o) =
         let (t, w, h) = o.live in atom_room (shape_by t w refl) (λ e. on (phase_is o.around h ∙ e)) h
 
     -- the atom a goes into the row, which then has d
-    pub atom_run : (a d : ℕ) → a ≡ argument_at table i → d ≡ get_or m atoms_at 0 + 1
-        → {row' : List ℕ} → row' ≡ set rooms.row (get_or m atoms_at 0) a
-        → HasRun 0 (OfKind atom_kind) (lent table state m rooms) i (lent table state (set m atoms_at d) (rooms_of row' rooms.store)) TERM
+    pub atom_run : (a d : ℕ) → a ≡ argument_at table i → d ≡ m.done + 1
+        → {row' : List ℕ} → row' ≡ set rooms.row (m.done) a
+        → HasRun 0 (OfKind atom_kind) (lent table state m rooms) i (lent table state (record m { done = d }) (rooms_of row' rooms.store)) TERM
     atom_run a d names counts {row'} is before part behind o =
         record {
           part' = part;
           around = o.around;
-          kept = kept_but m atoms_at d (λ e. omega arith) (λ e. omega arith);
+          kept = record { long = refl; ended = refl; base = refl };
           runs = λ t w h P at.
-              ran_in (words_stay m atoms_at d (lit< tt)) (tally_0 m d o.numbers.long)
-              (rw (is, counts) (atom_ran (shape_by t w refl) (λ e. on (phase_is o.around h ∙ e)) h a names));
+              rw (is, counts) (atom_ran (shape_by t w refl) (λ e. on (phase_is o.around h ∙ e)) h a names);
         }
 
     pub event_placed : CanRun 0 (OfKind generate_kind) (lent table state m rooms) i → argument_at table i < places
     event_placed (before, part, behind, o) =
         let (t, w, h) = o.live in event_of (shape_by t w refl) (λ e. on (phase_is o.around h ∙ e)) h
 
-    pub generate_run : (e : ℕ) → e ≡ argument_at table i → e < places → {m₁ : List ℕ} → Put e true m m₁
-        → HasRun 0 (OfKind generate_kind) (lent table state m rooms) i (lent table state (set m₁ moved_at 1) rooms) TERM
+    pub generate_run : (e : ℕ) → e ≡ argument_at table i → e < places → {m₁ : Progress} → Put e true m m₁
+        → HasRun 0 (OfKind generate_kind) (lent table state m rooms) i (lent table state (record m₁ { moved = true }) rooms) TERM
     generate_run e names there {m₁} q before part behind o =
-        let long = q.kept.long ∙ o.numbers.long in
         let in_set : put e true (marks (words_of m)) ≡ put e (ltb e (64 * length (words_of m))) (marks (words_of m)) =
-        rw (lt-ltb e (64 * length (words_of m)) (omega (arith, words_wide o.numbers))) in
+        rw (lt-ltb e (64 * length (words_of m)) (omega (arith, words_wide o.holds))) in
         record {
           part' = part;
           around = o.around;
-          kept = kept_then q.kept (kept_but m₁ moved_at 1 (λ e. omega arith) (λ e. omega arith));
+          kept = kept_then q.kept (record { long = refl; ended = refl; base = refl });
           runs = λ t w h P at.
-              ran_in (words_stay m₁ moved_at 1 (lit< tt)) (tally_1 m₁ 1 long ∙ ap (λ (l : List ℕ). set l 1 1) q.tally)
+              ran_in refl (ap (λ (l : List ℕ). set l 1 1) q.tally)
               (generate_ran (shape_by t w refl) (λ z. on (phase_is o.around h ∙ z)) h e names (words_of m₁) q.wide (q.events ∙ in_set));
         }

@@ -7,7 +7,7 @@ pub mod LoadedNode
 pub mod LeafParts
 pub mod Tally
 pub mod Context
-pub mod Row
+pub mod Kept
 pub mod FlagNumbers
 pub mod Tested
 pub mod Dispatch

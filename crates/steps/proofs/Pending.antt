@@ -1,8 +1,8 @@
 -- A pending Freezable, rules 42 to 45: its body is parked if its event is present, else it waits, and stops at the end of the instant.
 use Prim.Native.Nat.{ℕ, suc, ◌+◌, ◌-◌, ◌*◌, ◌≤◌}
 use mathlib.Core.Bool.{true, false}
+use lib.Dec.{ltb}
 use mathlib.Core.Path.{◌≡◌, refl, ap, sym, subst, ◌∙◌}
-use mathlib.Core.Logic.{◌≢◌}
 use mathlib.Core.List.{List, ◌∷◌, ◌++◌, append-nil}
 use native.Mathlib.Omega.{arith}
 use lib.ListN.{length, take, drop, set, replicate, length-set}
@@ -29,7 +29,6 @@ use Rattle.steps.specs.Running.{Rooms, rooms_of, Ready, Wrote, Ran, left, values
 use Rattle.steps.specs.Kinds.{Pending}
 use Rattle.steps.specs.Parking.{piece_from}
 use Rattle.steps.proofs.Children.{byte_is, own_and_below}
-use Rattle.steps.proofs.Tally.{not_ended, is_ended}
 use Rattle.steps.proofs.Done.{ran_alone, row_stays, values_apart}
 
 pub data Pends : Term → Type 0 where
@@ -118,35 +117,35 @@ module _ {table : List ℕ} {i : ℕ} {state words : List ℕ} {rooms : Rooms} {
             lengths = record { of_words = refl; of_tally = length-set tally 3 n; of_values = values_apart tally 3 n (omega arith) };
           }
 
-      pub pending_freezes : {t : Term} → Pends t → Ready 1 table i state words rooms tally t → end_declared tally ≡ 0
+      pub pending_freezes : {t : Term} → Pends t → Ready 1 table i state words rooms tally t → ltb 0 (end_declared tally) ≡ false
           → (P : Place) → P.node ≡ i
           → Ran P t words rooms tally (replicate (length state) 0) words (rooms_of rooms.row store') (counted tally state) TERM
       unfolding prog
       pending_freezes (pends s x) h z P at =
           let e : marks words s ≡ true = rw (event_is s x h) at on in
-          parked s x h at (r42 (test_event s (env_of words tally) ∙ rw e) (not_ended z)) (ap (λ k. replicate k 0) h.long)
+          parked s x h at (r42 (test_event s (env_of words tally) ∙ rw e) z) (ap (λ k. replicate k 0) h.long)
 
-      pub pending_freezes_late : {t : Term} → Pends t → Ready 1 table i state words rooms tally t → end_declared tally ≢ 0
+      pub pending_freezes_late : {t : Term} → Pends t → Ready 1 table i state words rooms tally t → ltb 0 (end_declared tally) ≡ true
           → (P : Place) → P.node ≡ i
           → Ran P t words rooms tally (set (replicate (length state) 0) 0 3) words (rooms_of rooms.row store') (counted tally state) STOP
       unfolding prog
       pending_freezes_late (pends s x) h z P at =
           let e : marks words s ≡ true = rw (event_is s x h) at on in
-          parked s x h at (r43 (test_event s (env_of words tally) ∙ rw e) (is_ended z))
+          parked s x h at (r43 (test_event s (env_of words tally) ∙ rw e) z)
           (ap (λ k. set (replicate k 0) 0 3) h.long ∙ zeros_done (Freezable s (prog x)))
 
     -- it is not
     module _ (off : marks words a ≡ false) where
-      pub pending_waits : {t : Term} → Pends t → Ready 1 table i state words rooms tally t → end_declared tally ≡ 0
+      pub pending_waits : {t : Term} → Pends t → Ready 1 table i state words rooms tally t → ltb 0 (end_declared tally) ≡ false
           → (P : Place) → Ran P t words rooms tally (set state 0 1) words rooms tally SUSP
       unfolding collect below
       pending_waits (pends s x) h z P =
           let e : marks words s ≡ false = rw (event_is s x h) at off in
-          ran_alone (r45 (test_event s (env_of words tally) ∙ rw (e, not_ended z))) refl (pending_bytes s x h 1)
+          ran_alone (r45 (test_event s (env_of words tally) ∙ rw (e, z))) refl (pending_bytes s x h 1)
 
-      pub pending_stops : {t : Term} → Pends t → Ready 1 table i state words rooms tally t → end_declared tally ≢ 0
+      pub pending_stops : {t : Term} → Pends t → Ready 1 table i state words rooms tally t → ltb 0 (end_declared tally) ≡ true
           → (P : Place) → Ran P t words rooms tally (set state 0 0) words rooms tally STOP
       unfolding collect below
       pending_stops (pends s x) h z P =
           let e : marks words s ≡ false = rw (event_is s x h) at off in
-          ran_alone (r44 (test_event s (env_of words tally) ∙ rw (e, is_ended z))) refl (pending_bytes s x h 0)
+          ran_alone (r44 (test_event s (env_of words tally) ∙ rw (e, z))) refl (pending_bytes s x h 0)

@@ -1,11 +1,11 @@
 -- A piece is copied from the state to the store, a node's four bytes at a time, and labelled.
-use Prim.Native.Nat.{ℕ, suc, ◌+◌, ◌*◌, ◌/◌, ◌%◌, ◌≤◌}
+use Prim.Native.Nat.{ℕ, ◌+◌, ◌*◌, ◌/◌, ◌%◌, ◌≤◌}
 use mathlib.Core.Path.{◌≡◌, refl, ap, sym, ◌∙◌}
 use mathlib.Core.List.{List, [], ◌∷◌, ◌++◌, append_assoc}
 use native.Mathlib.Omega.{arith}
 use native.Mathlib.Nat.{add-zero}
-use lib.ListN.{length, get_or, take, drop, set, length-append, length-drop}
-use lib.Seq.{sets-eq, get_or-drop, drop-drop, take-add, take_all, take_at, drop_at, drop-append-le, length-take-le}
+use lib.ListN.{length, get_or, take, drop, length-append, length-drop}
+use lib.Seq.{get_or-drop, drop-drop, take-add, take_at, drop_at, drop-append-le, length-take-le}
 use borrow.Rule.Slice.PartMut.{mid_of, post_of, put_mid, same_len_mid, put_same}
 use Rattle.steps.specs.declared.Pass.{Pass}
 use Rattle.steps.specs.Parking.{piece_from, Copied}
@@ -72,7 +72,7 @@ put_front a n k l ys zs h e =
 
 -- none is copied at first
 pub copied_none : (from to : ℕ) (p : Pass) → Copied from to 0 p p
-copied_none from to p = record { state_is = refl; store_is = sym (put_same to 0 p.store.now); numbers_is = refl; atoms_is = refl; named = all_same }
+copied_none from to p = record { state_is = refl; store_is = sym (put_same to 0 p.store.now); progress_is = refl; atoms_is = refl; named = all_same }
 
 module _ {from to n : ℕ} {p p' : Pass} (o : Copied from to n p p') where
   -- the store is as long as it was

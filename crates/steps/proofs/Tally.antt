@@ -1,14 +1,9 @@
--- Whether the end is declared, by the tally.
-use Prim.Native.Nat.{ℕ}
-use mathlib.Core.Bool.{true, false}
-use mathlib.Core.Path.{◌≡◌}
-use mathlib.Core.Logic.{◌≢◌}
-use native.Mathlib.Omega.{arith}
+-- Whether the end is declared, read off the tally.
+use mathlib.Core.Bool.{Bool, true, false}
+use mathlib.Core.Path.{◌≡◌, refl}
 use lib.Dec.{ltb}
-use borrow.Author.Tests.{lt-ltb, le-ltb}
+use mir.Val.{bool_byte}
 
-pub not_ended : {n : ℕ} → n ≡ 0 → ltb 0 n ≡ false
-not_ended {n} e = le-ltb 0 n (omega arith)
-
-pub is_ended : {n : ℕ} → n ≢ 0 → ltb 0 n ≡ true
-is_ended {n} e = lt-ltb 0 n (omega arith)
+pub byte_read : (b : Bool) → ltb 0 (bool_byte b) ≡ b
+byte_read true = refl
+byte_read false = refl

@@ -1,5 +1,5 @@
 -- The flag that stands in a byte, 0 SUSP, 1 STOP, 2 TERM; and a Par's branches joined, by the bytes of the whole state.
-use Rattle.std.specs.Prelude.{ℕ, zero, suc, ◌+◌, ◌*◌, ◌<◌, cond, ◌≡◌, ◌≢◌, List, set}
+use Rattle.std.specs.Prelude.{ℕ, zero, suc, ◌+◌, ◌*◌, cond, ◌≡◌, ◌≢◌, List, set}
 use Rattle.junior.specs.declared.Flag.{Flag}
 use Rattle.junior.specs.declared.Flag.TheVariants.{SUSP, STOP, TERM}
 use Rattle.junior.specs.Flags.{γ, δ₁, δ₂}

@@ -1,28 +1,29 @@
 -- What the functions of a pass promise one another, over one record of all that is lent. No contract of a customer's call cites this file.
-use Rattle.std.specs.Prelude.{ℕ, ◌*◌, ◌<◌, ◌≡◌, List, ◌++◌, length}
+use Rattle.std.specs.Prelude.{ℕ, ◌*◌, ◌≡◌, List, ◌++◌, length}
 use Rattle.junior.specs.Term.{Term}
 use Rattle.junior.specs.declared.Flag.{Flag}
 use Rattle.steps.specs.declared.Pass.{Pass}
+use Rattle.steps.specs.declared.progress.Progress.{Progress}
 use Rattle.steps.specs.Running.{Rooms, rooms_of, Live, Runs}
-use Rattle.steps.specs.Numbers.{Numbers, Kept, words_of, tally_of}
+use Rattle.steps.specs.Progress.{Holds, Kept, words_of, tally_of}
 
--- all that is lent; a room more changes `Rooms` and `held`
+-- all that is lent; a room more changes `Rooms`, and what is read of a pass
 pub record Lent : Type 0 where
   pub table : List ℕ
   pub state : List ℕ
-  pub numbers : List ℕ
+  pub progress : Progress
   pub rooms : Rooms
 
-abbrev pub lent : List ℕ → List ℕ → List ℕ → Rooms → Lent
-lent table state numbers rooms = record { table = table; state = state; numbers = numbers; rooms = rooms }
+abbrev pub lent : List ℕ → List ℕ → Progress → Rooms → Lent
+lent table state m rooms = record { table = table; state = state; progress = m; rooms = rooms }
 
 -- what a pass runs over
 abbrev pub lent_of : Pass → Lent
-lent_of p = lent p.table.now p.state.now p.numbers (rooms_of p.atoms.now p.store.now)
+lent_of p = lent p.table.now p.state.now p.progress (rooms_of p.atoms.now p.store.now)
 
 -- what stands behind the references of pass p' later on, over the table of p
 abbrev pub lent_then : Pass → Pass → Lent
-lent_then p p' = lent p.table.now p'.state.now p'.numbers (rooms_of p'.atoms.now p'.store.now)
+lent_then p p' = lent p.table.now p'.state.now p'.progress (rooms_of p'.atoms.now p'.store.now)
 
 -- the bytes `part` of node i and all below it stand in the whole state
 pub record Around (state : List ℕ) (i : ℕ) (before part behind : List ℕ) : Type 0 where
@@ -32,17 +33,17 @@ pub record Around (state : List ℕ) (i : ℕ) (before part behind : List ℕ) :
 -- a term that W holds of can be run at node i
 pub record Stands (skip : ℕ) (W : Term → Type 0) (L : Lent) (i : ℕ) (before part behind : List ℕ) : Type 0 where
   pub around : Around L.state i before part behind
-  pub numbers : Numbers L.table L.numbers
-  pub live : Live skip W L.table i part (words_of L.numbers) L.rooms (tally_of L.numbers)
+  pub holds : Holds L.table L.progress
+  pub live : Live skip W L.table i part (words_of L.progress) L.rooms (tally_of L.progress)
 
 -- whatever such term stands there was run once, all around it is as it was, and r is its flag
 pub record Went (skip : ℕ) (W : Term → Type 0) (L : Lent) (i : ℕ) (before part behind : List ℕ) (L' : Lent) (r : Flag) : Type 0 where
   pub part' : List ℕ
   pub around : Around L'.state i before part' behind
-  pub kept : Kept L.numbers L'.numbers
+  pub kept : Kept L.progress L'.progress
   pub runs :
-      Runs skip W L.table i part (words_of L.numbers) L.rooms (tally_of L.numbers)
-      part' (words_of L'.numbers) L'.rooms (tally_of L'.numbers) r
+      Runs skip W L.table i part (words_of L.progress) L.rooms (tally_of L.progress)
+      part' (words_of L'.progress) L'.rooms (tally_of L'.progress) r
 
 -- what each function of the cycle asks, and what it gives
 abbrev pub CanRun : ℕ → (Term → Type 0) → Lent → ℕ → Type 0

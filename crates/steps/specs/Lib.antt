@@ -1,5 +1,5 @@
 pub mod Running
-pub mod Numbers
+pub mod Progress
 pub mod Kinds
 pub mod Flags
 pub mod Tests

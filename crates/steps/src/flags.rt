@@ -29,16 +29,20 @@ pub fn flag_at(byte: u8) -> Flag
     }
 }
 
-// A Par at byte `at` whose branches have both been run. Where both are suspended or both stop, its bytes are as they were.
+// A Par at byte `at` whose branches have both been run. Where both are suspended or both stop, its bytes are as they were; where both have ended,
+// the flags stand in the call, which then compiles to no tables.
 pub fn both_ran(state: &mut [u8], at: usize, second: usize, f: Flag, g: Flag) -> Flag
     requires in_bounds { (at + 4 < length state.old) × (second < length state.old) }
     requires flags_before { get_or state.old (at + 1) 0 ≡ 0 }
     ensures { ParEnds f g at second state.old state.new result }
 {
-    if f == g && f != Flag::TERM {
+    if f != g {
+        return par_end(state, at, second, f, g);
+    }
+    if f != Flag::TERM {
         return f;
     }
-    par_end(state, at, second, f, g)
+    par_end(state, at, second, Flag::TERM, Flag::TERM)
 }
 
 // A Par at byte `at` whose first branch is suspended and whose second has answered g. It is suspended itself, whatever g is.

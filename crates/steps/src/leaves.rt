@@ -6,8 +6,8 @@ ghost use Rattle.steps.specs.Lent.{CanPass, HasPassed};
 ghost use Rattle.steps.specs.Tests.{CanTest, TestIs, StarRead, lone_event};
 
 use crate::Pass;
-use crate::numbers::{ATOMS, BASE, ENDED, MOVED, NUMBERS, put_event};
 use crate::phases::{GONE, SECOND, STARRED, clear_part};
+use crate::progress::Progress;
 use events::marked;
 use junior::{Flag, Verdict};
 use table::reading::read_configuration;
@@ -45,12 +45,7 @@ pub fn run_atom(pass: &mut Pass, i: usize) -> Flag
         pass.state[4 * i] = 0;
         return Flag::TERM;
     }
-    let done = put_atom(
-        pass.atoms,
-        pass.numbers[ATOMS] as usize,
-        argument_at(pass.table, i),
-    );
-    pass.numbers[ATOMS] = done as u64;
+    pass.progress.done = put_atom(pass.atoms, pass.progress.done, argument_at(pass.table, i));
     Flag::TERM
 }
 
@@ -73,8 +68,8 @@ pub fn run_generate(pass: &mut Pass, i: usize) -> Flag
         pass.state[4 * i] = 0;
         return Flag::TERM;
     }
-    put_event(&mut pass.numbers, argument_at(pass.table, i), true);
-    pass.numbers[MOVED] = 1;
+    pass.progress.put_event(argument_at(pass.table, i), true);
+    pass.progress.moved = true;
     Flag::TERM
 }
 
@@ -86,13 +81,14 @@ pub fn run_await(pass: &mut Pass, i: usize) -> Flag
     if pass.state[4 * i] == GONE {
         return run_tested(pass, i);
     }
-    if lone_event(pass.table, i, &pass.numbers) {
+    if lone_event(pass.table, i, &pass.progress) {
         return run_lone(pass, i);
     }
     run_tested(pass, i)
 }
 
 // Any Await, by what its test is read as.
+#[inline(never)]
 fn run_tested(pass: &mut Pass, i: usize) -> Flag
     requires { CanPass all_seen (OfKind await_kind) pass.old i }
     ensures { HasPassed all_seen (OfKind await_kind) pass.old i pass.new result }
@@ -101,25 +97,25 @@ fn run_tested(pass: &mut Pass, i: usize) -> Flag
         pass.state[4 * i] = 0;
         return Flag::TERM;
     }
-    match read_test(&pass.table, i, &pass.numbers) {
+    match read_test(pass.table, i, &pass.progress) {
         Verdict::Unknown => Flag::SUSP,
         Verdict::Unsat => Flag::STOP,
         Verdict::Sat => {
-            if pass.numbers[ENDED] == 0 {
-                return Flag::TERM;
+            if pass.progress.ended {
+                pass.state[4 * i] = GONE;
+                return Flag::STOP;
             }
-            pass.state[4 * i] = GONE;
-            Flag::STOP
+            Flag::TERM
         }
     }
 }
 
 // Whether node i tests a lone event.
-fn lone_event(table: &[u8], i: usize, numbers: &[u64; NUMBERS]) -> bool
-    requires { CanTest table.now i numbers.now }
+fn lone_event(table: &[u8], i: usize, progress: &Progress) -> bool
+    requires { CanTest table.now i progress.now }
     ensures { result ≡ lone_event table.now i }
 {
-    part_kind(table, numbers[BASE] as usize + 4 * argument_at(table, i)) == 0
+    part_kind(table, progress.base + 4 * argument_at(table, i)) == 0
 }
 
 // An Await of a lone event: absent, it leaves the Await waiting, or stopped once the end is declared.
@@ -128,31 +124,30 @@ fn run_lone(pass: &mut Pass, i: usize) -> Flag
     requires lone_and_there { (get_or pass.old.state.now (4 * i) 0 ≢ 3) × (lone_event pass.old.table.now i ≡ true) }
     ensures { HasPassed all_seen (OfKind await_kind) pass.old i pass.new result }
 {
-    let c = pass.numbers[BASE] as usize + 4 * argument_at(pass.table, i);
-    if marked(&pass.numbers, part_event(pass.table, c)) {
-        if pass.numbers[ENDED] != 0 {
+    let c = pass.progress.base + 4 * argument_at(pass.table, i);
+    if marked(&pass.progress.events.words, part_event(pass.table, c)) {
+        if pass.progress.ended {
             pass.state[4 * i] = GONE;
             return Flag::STOP;
         }
         return Flag::TERM;
     }
-    if pass.numbers[ENDED] == 0 {
-        Flag::SUSP
-    } else {
-        Flag::STOP
+    if !pass.progress.ended {
+        return Flag::SUSP;
     }
+    Flag::STOP
 }
 
 // What the configuration that node i tests is read as now.
-pub fn test_at(table: &&[u8], i: usize, numbers: &[u64; NUMBERS]) -> Verdict
-    requires { CanTest table.now.now i numbers.now }
-    ensures { TestIs table.now.now i numbers.now result }
+pub fn test_at(table: &[u8], i: usize, progress: &Progress) -> Verdict
+    requires { CanTest table.now i progress.now }
+    ensures { TestIs table.now i progress.now result }
 {
-    read_test(table, i, numbers)
+    read_test(table, i, progress)
 }
 
 // An Until* at byte `at`, its handler at byte `second`, by what its test has been read as: rules 31 to 34. TERM where the handler is now to be run.
-pub fn read_star(state: &mut [u8], at: usize, second: usize, verdict: Verdict, ended: u64) -> Flag
+pub fn read_star(state: &mut [u8], at: usize, second: usize, verdict: Verdict, ended: bool) -> Flag
     requires { (at + 4 ≤ second) × (second ≤ length state.old) }
     ensures { StarRead verdict ended at second state.old state.new result }
 {
@@ -167,21 +162,20 @@ pub fn read_star(state: &mut [u8], at: usize, second: usize, verdict: Verdict, e
         }
         Verdict::Sat => {
             clear_part(state, at + 4, second);
-            if ended == 0 {
-                return Flag::TERM;
+            if ended {
+                state[at] = SECOND;
+                return Flag::STOP;
             }
-            state[at] = SECOND;
-            Flag::STOP
+            Flag::TERM
         }
     }
 }
 
 // The same. An Await reads its test by this and not by `test_at`: so the compiler puts the reading into `run_tested`, and that into nothing.
-fn read_test(table: &&[u8], i: usize, numbers: &[u64; NUMBERS]) -> Verdict
-    requires { CanTest table.now.now i numbers.now }
-    ensures { TestIs table.now.now i numbers.now result }
+fn read_test(table: &[u8], i: usize, progress: &Progress) -> Verdict
+    requires { CanTest table.now i progress.now }
+    ensures { TestIs table.now i progress.now result }
 {
-    let c = numbers[BASE] as usize + 4 * argument_at(*table, i);
-    let ended = numbers[ENDED] != 0;
-    read_configuration(*table, c, numbers, ended)
+    let c = progress.base + 4 * argument_at(table, i);
+    read_configuration(table, c, &progress.events.words, progress.ended)
 }

@@ -5,18 +5,18 @@
 pub mod flags;
 pub mod kinds;
 pub mod leaves;
-pub mod numbers;
 pub mod parking;
 pub mod phases;
+pub mod progress;
 
-use numbers::NUMBERS;
+use progress::Progress;
 
-// All that a pass runs over: the table, and what it writes: the state, the row of numbers, the row of atoms and the free part of the store.
+// All that a pass runs over: the table, and what it writes: the state, how far the instant has come, the row of atoms and the free part of the store.
 #[derive(Drop)]
 pub struct Pass<'a> {
     pub table: &'a [u8],
     pub state: &'a mut [u8],
-    pub numbers: [u64; NUMBERS],
+    pub progress: Progress,
     pub atoms: &'a mut [u16],
     pub store: &'a mut [u8],
 }

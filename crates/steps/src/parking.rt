@@ -5,21 +5,20 @@ ghost use Rattle.events.specs.Members.{places};
 ghost use Rattle.table.specs.Records.{argument_at, size_at};
 ghost use Rattle.steps.specs.Kinds.{phase_unseen, Pending};
 ghost use Rattle.steps.specs.Lent.{CanPass, HasPassed, Named};
-ghost use Rattle.steps.specs.Numbers.{places_of_row, parked_at};
 ghost use Rattle.steps.specs.Parking.{stays_pending, Parked, Copied};
 
 use crate::Pass;
-use crate::numbers::{ENDED, NUMBERS, PARKED, has_event};
 use crate::phases::{GONE, STARRED, clear_part};
+use crate::progress::Progress;
 use junior::Flag;
 use table::records::{argument_at, size_at};
 
 // Whether node i, in this phase, is a pending Freezable that stays so: rule 45.
-pub fn stays_pending(table: &[u8], i: usize, phase: u8, numbers: &[u64; NUMBERS]) -> bool
-    requires { (length numbers.now ≡ places_of_row) × (6 * i + 3 < length table.now) × (argument_at table.now i < places) }
-    ensures { result ≡ stays_pending table.now i phase numbers.now }
+pub fn stays_pending(table: &[u8], i: usize, phase: u8, progress: &Progress) -> bool
+    requires { (6 * i + 3 < length table.now) × (argument_at table.now i < places) }
+    ensures { result ≡ stays_pending table.now i phase progress.now }
 {
-    phase == STARRED && numbers[ENDED] == 0 && !has_event(numbers, argument_at(table, i))
+    phase == STARRED && !progress.ended && !progress.has_event(argument_at(table, i))
 }
 
 // Rules 42 to 45.
@@ -28,43 +27,43 @@ pub fn run_pending(pass: &mut Pass, i: usize) -> Flag
     ensures { HasPassed phase_unseen Pending pass.old i pass.new result }
 {
     let event = argument_at(pass.table, i);
-    if has_event(&pass.numbers, event) {
+    if pass.progress.has_event(event) {
         park(pass, i, event);
-        if pass.numbers[ENDED] == 0 {
-            return Flag::TERM;
+        if pass.progress.ended {
+            pass.state[4 * i] = GONE;
+            return Flag::STOP;
         }
-        pass.state[4 * i] = GONE;
+        return Flag::TERM;
+    }
+    if pass.progress.ended {
+        pass.state[4 * i] = 0;
         return Flag::STOP;
     }
-    if pass.numbers[ENDED] == 0 {
-        pass.state[4 * i] = STARRED;
-        return Flag::SUSP;
-    }
-    pass.state[4 * i] = 0;
-    Flag::STOP
+    pass.state[4 * i] = STARRED;
+    Flag::SUSP
 }
 
 // A piece is as long as the Freezable's own state: all of that goes into the store, and is zero afterwards.
 fn park(pass: &mut Pass, i: usize, event: usize)
     requires node_there { (6 * i + 5 < length pass.old.table.now) × (i < 4096) × (event < 65536) }
-    requires row_long { (length pass.old.numbers ≡ places_of_row) × (1 ≤ size_at pass.old.table.now i) }
+    requires some_node { 1 ≤ size_at pass.old.table.now i }
     requires state_long { 4 * i + 4 * size_at pass.old.table.now i ≤ length pass.old.state.now }
-    requires store_long { get_or pass.old.numbers parked_at 0 + 4 * size_at pass.old.table.now i ≤ length pass.old.store.now }
-    ensures parked { Parked pass.old.table.now i event pass.old.state.now pass.old.numbers pass.old.store.now
-        pass.new.state.now pass.new.numbers pass.new.store.now }
+    requires store_long { pass.old.progress.parked + 4 * size_at pass.old.table.now i ≤ length pass.old.store.now }
+    ensures parked { Parked pass.old.table.now i event pass.old.state.now pass.old.progress pass.old.store.now
+        pass.new.state.now pass.new.progress pass.new.store.now }
     ensures atoms { pass.new.atoms.now ≡ pass.old.atoms.now }
     ensures named { Named pass.old pass.new }
 {
-    let at = pass.numbers[PARKED] as usize;
+    let at = pass.progress.parked;
     let size = size_at(pass.table, i);
     let end = copy_nodes(pass, 4 * i, at, size);
     label(pass.store, at, event, i + 1);
     clear_part(pass.state, 4 * i, 4 * i + 4 * size);
-    pass.numbers[PARKED] = end as u64;
+    pass.progress.parked = end;
 }
 
 // The bytes of so many nodes go from the state to the store. The answer is the place behind them. A node's four at a time, read one by one: the borrow
-// checker does not cover a slice of a pass that is lent while another is (c), and after a loan of the state alone the proof doesn't know that it stayed.
+// checker does not cover a slice of a pass that is lent while another is, and after a loan of the state alone the proof doesn't know that it stayed.
 fn copy_nodes(pass: &mut Pass, from: usize, to: usize, nodes: usize) -> usize
     requires from_bound { (from < 16384) × (nodes < 65536) }
     requires slices_long { (from + 4 * nodes ≤ length pass.old.state.now) × (to + 4 * nodes ≤ length pass.old.store.now) }

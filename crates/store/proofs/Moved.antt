@@ -6,12 +6,7 @@ use native.Mathlib.Omega.{arith}
 use lib.ListN.{length, take, drop, length-drop, take-append-drop}
 use lib.Seq.{length-take-le, take_all, take-add, drop_at, drop-drop, drop-append-le}
 use borrow.Rule.Slice.PartMut.{mid_of, put_mid, mid_len}
-use Rattle.std.specs.Int.{w16, to_be_bytes}
 use Rattle.store.specs.Store.{in_use, two, without}
-
--- a number of 16 bits as bytes
-pub two_is : (n : ℕ) → n < 65536 → to_be_bytes w16 n ≡ two n
-two_is n h = let e : n / 256 % 256 ≡ n / 256 = omega arith in rw e
 
 -- a part to the end is all of the rest
 pub to_end : (b : ℕ) (l : List ℕ) → take (length l - b) (drop b l) ≡ drop b l

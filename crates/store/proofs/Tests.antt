@@ -1,12 +1,14 @@
 -- The tests of refusal 25 one by one: a body, a piece, and what stands before the pieces.
 use Prim.Native.Nat.{ℕ, ◌+◌, ◌-◌, ◌*◌, ◌≤◌, ◌<◌}
-use mathlib.Core.Bool.{true, false, not, ◌&&◌, and-false}
-use mathlib.Core.Path.{◌≡◌, refl, ◌∙◌}
+use mathlib.Core.Bool.{Bool, true, false, not, ◌&&◌, and-false, false≢true}
+use mathlib.Core.Path.{◌≡◌, refl, sym, ◌∙◌}
 use mathlib.Core.List.{List}
 use native.Mathlib.Omega.{arith}
 use lib.Dec.{eqb, leb, ltb}
 use lib.ListN.{length, take, drop}
 use borrow.Author.Tests.{lt-ltb, le-ltb, ltb-true, le-leb, lt-leb, leb-true, eq-eqb, ne_eqb, eqb-true}
+use Rattle.std.specs.Prelude.{Some, None, MatchOption, is_some}
+use Rattle.std.proofs.Common.{Option}
 use Rattle.events.specs.Events.{lowest}
 use Rattle.table.specs.Records.{nodes, kind_at, argument_at, size_at}
 use Rattle.table.specs.Part.{part_table}
@@ -65,10 +67,18 @@ module _ {t : List ℕ} (l : Loaded t) (j : ℕ) (h : j < nodes t) where
   pub rooted_here : {n : ℕ} → n ≡ size_at t j → Rooted (take (length t - 6 * j) (drop (6 * j) t)) n
   rooted_here e = rw (e, to_end (6 * j) t) (part_rooted l j h)
 
-  pub judged_here : (s : List ℕ) (at n r : ℕ) → n ≡ size_at t j
-      → r ≡ lowest n (λ i. not (rests (take (length t - 6 * j) (drop (6 * j) t)) (take (length s - at) (drop at s)) i))
-      → r ≡ blamed (part_table t j) (drop at s)
-  judged_here s at n r e f = rw (e, to_end (6 * j) t, to_end at s) at f ∙ part_blamed l j h (drop at s)
+  pub judged_here : (s : List ℕ) (at n : ℕ) → n ≡ size_at t j
+      → lowest n (λ i. not (rests (take (length t - 6 * j) (drop (6 * j) t)) (take (length s - at) (drop at s)) i))
+      ≡ blamed (part_table t j) (drop at s)
+  judged_here s at n e = rw (e, to_end (6 * j) t, to_end at s) (part_blamed l j h (drop at s))
+
+-- whether none of n nodes is to blame, by the lowest that is
+pub none_to_blame : (r : Option ℕ) (n b : ℕ) → MatchOption r (b ≡ n) (λ i. (i ≡ b) × (i < n))
+    → (none : Bool) → is_some r ≡ not none → none ≡ eqb b n
+none_to_blame None n b e true s = sym (eq-eqb b n e)
+none_to_blame None n b e false s = absurd (false≢true s)
+none_to_blame (Some i) n b (e, l) true s = absurd (false≢true (sym s))
+none_to_blame (Some i) n b (e, l) false s = sym (ne_eqb b n (λ f. omega (arith, e, f)))
 
 module _ (t s : List ℕ) (end at : ℕ) where
   pub piece_short : end < at + 4 → piece_good t s end at ≡ false

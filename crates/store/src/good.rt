@@ -145,7 +145,7 @@ impl Pieces<'_> {
         if self.end - at < 4 * n {
             return false;
         }
-        first_blamed(&self.table[6 * j..], n, &self.store[at..]) == n
+        first_blamed(&self.table[6 * j..], n, &self.store[at..]).is_none()
     }
 
     // Whether the piece at byte `at` is good.

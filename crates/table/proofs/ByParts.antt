@@ -1,19 +1,18 @@
 -- Verdicts as ranks: of an event, a not, an and, an or, and what a rank is read as; how many records a configuration has.
-use Prim.Native.Nat.{ℕ, ◌+◌, ◌-◌, ◌/◌, ◌≤◌, ◌<◌, min, max}
+use Prim.Native.Nat.{ℕ, ◌+◌, ◌-◌, ◌≤◌, min, max}
 use mathlib.Core.Bool.{Bool, true, false, cond, ◌||◌}
 use mathlib.Core.Path.{◌≡◌, refl, sym, ap, ◌∙◌}
 use mathlib.Core.List.{List}
 use native.Mathlib.Omega.{arith}
-use lib.ListN.{length, take}
-use lib.Seq.{get_or-take}
-use Rattle.events.specs.Members.{places, marks}
+use lib.ListN.{length}
+use Rattle.events.specs.Members.{marks}
 use Rattle.junior.specs.declared.Verdict.{Verdict}
 use Rattle.junior.specs.declared.Verdict.TheVariants.{Sat, Unsat, Unknown}
 use Rattle.junior.specs.Configuration.{Config, Event, Not, And, Or, Env, verdict, test}
 use Rattle.junior.proofs.Verdicts.{not₃, and₃, or₃, test_event}
 use Rattle.table.specs.Records.{part_kind, part_event, part_size, second_part}
 use Rattle.table.specs.Spells.{Configured, weight}
-use Rattle.table.specs.Reading.{ConfigurationAt, event_words, environment, ReadAs}
+use Rattle.table.specs.Reading.{ConfigurationAt, environment, ReadAs}
 use Rattle.table.specs.Inside.Ranks.{rank, unranked, absent_rank, RanksAs}
 
 -- the written size is the number of records
@@ -93,22 +92,17 @@ ranked Sat = refl
 ranked Unsat = refl
 ranked Unknown = refl
 
--- an event's mark is in the row's first words
-pub mark_in_words : (numbers : List ℕ) (e : ℕ) → e < places → marks numbers e ≡ marks (take event_words numbers) e
-unfolding marks
-mark_in_words numbers e l = let h : e / 64 < event_words = omega arith in rw (get_or-take event_words numbers (e / 64) 0 h)
-
-module _ (t : List ℕ) (c : ℕ) (numbers : List ℕ) (absent : ℕ) where
-  pub ranks_read : (v : Verdict) (ended : Bool) → RanksAs t c numbers absent (rank v) → absent ≡ absent_rank ended → ReadAs t c numbers ended v
+module _ (t : List ℕ) (c : ℕ) (words : List ℕ) (absent : ℕ) where
+  pub ranks_read : (v : Verdict) (ended : Bool) → RanksAs t c words absent (rank v) → absent ≡ absent_rank ended → ReadAs t c words ended v
   ranks_read v ended f a d moved h =
-      sym (ranked v) ∙ (ap unranked (f d ended moved h a) ∙ ranked (test d (environment numbers ended moved)))
+      sym (ranked v) ∙ (ap unranked (f d ended moved h a) ∙ ranked (test d (environment words ended moved)))
 
-  pub ranks_event : (event r : ℕ) → part_kind t c ≡ 0 → event ≡ part_event t c → r ≡ cond (marks (take event_words numbers) event) 2 absent
-      → RanksAs t c numbers absent r
+  pub ranks_event : (event r : ℕ) → part_kind t c ≡ 0 → event ≡ part_event t c → r ≡ cond (marks words event) 2 absent
+      → RanksAs t c words absent r
   ranks_event n r k f e d ended moved h a = e ∙ go (made_of d k h)
     where
       E : Env
-      E = environment numbers ended moved
+      E = environment words ended moved
 
-      go : {d : Config} → MadeOf t c 0 d → cond (marks (take event_words numbers) n) 2 absent ≡ rank (test d E)
-      go (event {s} g) = rw (f, g, a, test_event s E) (rank_event (marks (take event_words numbers) s) ended)
+      go : {d : Config} → MadeOf t c 0 d → cond (marks words n) 2 absent ≡ rank (test d E)
+      go (event {s} g) = rw (f, g, a, test_event s E) (rank_event (marks words s) ended)

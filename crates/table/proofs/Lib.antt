@@ -1,5 +1,6 @@
 -- Laws of the table's bytes, each file named after its subject.
 pub mod Little
+pub mod ByNumber
 pub mod Lowest
 pub mod Laid
 pub mod Framing
@@ -21,7 +22,6 @@ pub mod Order
 pub mod Rows
 pub mod Weighed
 pub mod Judged
-pub mod Standing
 pub mod Deep
 pub mod Waits
 pub mod Placing
@@ -30,6 +30,7 @@ pub mod Answers
 pub mod TestParts
 pub mod KnownEarly
 pub mod Loaded
+pub mod Standing
 pub mod Subtrees
 pub mod Accepted
 pub mod PartBytes

@@ -1,5 +1,6 @@
 -- What is known of a loaded table's nodes: a program stands at each, and that at node 0 is all of them.
 use Prim.Native.Nat.{ℕ, ◌+◌, ◌*◌, ◌≤◌, ◌<◌}
+use mathlib.Core.Bool.{true}
 use mathlib.Core.Path.{◌≡◌, refl, sym, ◌∙◌}
 use mathlib.Core.List.{List}
 use native.Mathlib.Omega.{arith}
@@ -7,12 +8,12 @@ use lib.ListN.{length}
 use borrow.Author.Tests.{eqb-true}
 use Rattle.junior.specs.Program.{Program, size, kind}
 use Rattle.table.specs.Records.{nodes, configurations, events, kind_at, size_at}
-use Rattle.table.specs.Good.{argument_limits, argument_limit}
+use Rattle.table.specs.Good.{known, argument_limits, argument_limit}
 use Rattle.table.specs.Spells.{tree_of}
 use Rattle.table.specs.Inside.{Loaded, Placed}
 use Rattle.table.specs.Inside.Weighing.{tree_at}
 use Rattle.table.proofs.Grown.{Fine, fine, spells_from}
-use Rattle.table.proofs.Judged.{most_at}
+use Rattle.table.proofs.Judged.{most_at, known_so, good_head}
 use Rattle.table.proofs.Tree.{kind_is, written, size_pos}
 
 module _ {t : List ℕ} (l : Loaded t) where
@@ -51,6 +52,10 @@ module _ {t : List ℕ} {i : ℕ} {p : Program} (h : Placed t i p) where
   -- and lies in the table, as those of all below it do
   pub in_table : (k : ℕ) → k < size p → 6 * (i + k) + 5 < length t
   in_table k l = omega (arith, h.inside, h.loaded.framed.long)
+
+  -- its kind is one
+  pub own_known : known (kind_at t i) ≡ true
+  own_known = known_so _ (good_head t i (h.loaded.nodes_good i own_node)).0
 
   pub fine_at : Fine t i (kind p)
   fine_at = fine t i (kind p) kind_parts (h.loaded.nodes_good i own_node)

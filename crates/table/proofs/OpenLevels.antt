@@ -203,7 +203,7 @@ module _ {t : List ℕ} {c : ℕ} where
       go false (a_not o) p = left_open o p (omega arith) (λ E. refl)
 
   -- the first part decides: the second is passed over
-  pub closes_decided : {o : List Level} {k m : ℕ} (b : Bool) → Top k m o → (k ≡ 1 → ⊥) → k < 4 → beq b (eqb k 3) ≡ true → ToCome t c o
+  pub closes_decided : {o : List Level} {k m : ℕ} (b : Bool) → Top k m o → (k ≡ 1 → ⊥) → k < 4 → beq b (eqb (k % 2) 1) ≡ true → ToCome t c o
       → Left t c o (sat_rank b) (c + 4 * part_size t c) m (sat_rank b)
   unfolding closing ToCome
   closes_decided b (a_not o) n l e p = absurd (n refl)
@@ -234,7 +234,7 @@ module _ {t : List ℕ} {c : ℕ} where
         onward = omega arith;
       }
 
-  pub closes_to_second : {o : List Level} {k m : ℕ} (b : Bool) → Top k m o → (k ≡ 1 → ⊥) → k < 4 → beq b (eqb k 3) ≡ false → ToCome t c o
+  pub closes_to_second : {o : List Level} {k m : ℕ} (b : Bool) → Top k m o → (k ≡ 1 → ⊥) → k < 4 → beq b (eqb (k % 2) 1) ≡ false → ToCome t c o
       → Next t c o (sat_rank b) c m
   unfolding closing ToCome
   closes_to_second b (a_not o) n l e p = absurd (n refl)
@@ -246,7 +246,7 @@ module _ {t : List ℕ} {c : ℕ} where
   closes_to_second b (half_or o) n l e p = absurd (omega arith)
 
   -- the second part doesn't decide: unknown, as the first was
-  pub closes_unknown : {o : List Level} {k m : ℕ} (b : Bool) → Top k m o → 4 ≤ k → beq b (eqb k 4) ≡ true → ToCome t c o
+  pub closes_unknown : {o : List Level} {k m : ℕ} (b : Bool) → Top k m o → 4 ≤ k → not (beq b (eqb (k % 2) 1)) ≡ true → ToCome t c o
       → Left t c o (sat_rank b) c m 1
   unfolding closing ToCome
   closes_unknown b (a_not o) n e p = absurd (omega arith)
@@ -257,7 +257,7 @@ module _ {t : List ℕ} {c : ℕ} where
   closes_unknown true (half_or o) n e p = absurd (false≢true e)
   closes_unknown false (half_or o) n e p = left_open o p (omega arith) (λ E. refl)
 
-  pub closes_second : {o : List Level} {k m : ℕ} (b : Bool) → Top k m o → 4 ≤ k → beq b (eqb k 4) ≡ false → ToCome t c o
+  pub closes_second : {o : List Level} {k m : ℕ} (b : Bool) → Top k m o → 4 ≤ k → not (beq b (eqb (k % 2) 1)) ≡ false → ToCome t c o
       → Left t c o (sat_rank b) c m (sat_rank b)
   unfolding closing ToCome
   closes_second b (a_not o) n e p = absurd (omega arith)

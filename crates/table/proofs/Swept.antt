@@ -4,8 +4,8 @@ use mathlib.Core.Bool.{Bool, true, false, cond}
 use mathlib.Core.Path.{◌≡◌, refl}
 use mathlib.Core.List.{List}
 use native.Mathlib.Omega.{arith}
-use lib.ListN.{get_or, set, length-set}
 use Rattle.table.specs.Records.{nodes, size_at}
+use Rattle.table.specs.declared.weights.Weight.{Weight}
 use Rattle.table.specs.Good.{good_node}
 use Rattle.table.specs.Verdict.{endless_loop}
 use Rattle.table.specs.Inside.Weighing.{Weighs, weight_at, Roomy, Waiting, tree_at, SizedWhole, AllGood}
@@ -14,7 +14,7 @@ use Rattle.table.proofs.Answers.{all_good}
 use Rattle.table.proofs.Judged.{within_of}
 use Rattle.table.proofs.Little.{below_or}
 use Rattle.table.proofs.Order.{Lowest}
-use Rattle.table.proofs.Waits.{first_here, topmost}
+use Rattle.table.proofs.Waits.{topmost}
 
 -- e is the lowest endless Loop from node i on; n if there is none
 pub record Least (t : List ℕ) (n i e : ℕ) : Type 0 where
@@ -35,24 +35,23 @@ least_more {i = i} s h false e =
       there = s.there;
     }
 
--- all nodes from i on are good and weighed, `top` programs wait, and the lowest endless Loop is kept
-pub record Swept (t w : List ℕ) (n i top : ℕ) : Type 0 where
+-- all nodes from i on are good and weighed, `top` programs wait, and e is the lowest endless Loop
+pub record Swept (t : List ℕ) (w : List Weight) (n e i top : ℕ) : Type 0 where
   pub within : i ≤ n
   pub good : (j : ℕ) → i ≤ j → j < n → good_node t j ≡ true
   pub long_row : Roomy w n
   pub waits : Waiting t w top i
   pub room : top ≤ 64
   pub few : i + top ≤ n
-  pub endless : Least t n i (get_or w 0 0)
+  pub endless : Least t n i e
 
-pub swept_none : (t w : List ℕ) (n : ℕ) → n ≡ nodes t → Roomy w n → Swept t (set w 0 n) n n 0
+pub swept_none : (t : List ℕ) (w : List Weight) (n : ℕ) → n ≡ nodes t → Roomy w n → Swept t w n n n 0
 unfolding Waiting
 swept_none t w n e l =
-    let k = first_here w n (omega arith) in
     record {
       within = omega arith;
       good = λ j h m. absurd (omega arith);
-      long_row = rw (length-set w 0 n) l;
+      long_row = l;
       waits = e;
       room = omega arith;
       few = omega arith;
@@ -65,7 +64,7 @@ swept_none t w n e l =
           };
     }
 
-module _ {t w : List ℕ} {n i top : ℕ} (s : Swept t w n i top) (h : 0 < i) where
+module _ {t : List ℕ} {w : List Weight} {n e i top : ℕ} (s : Swept t w n e i top) (h : 0 < i) where
   one_on : i - 1 + 1 ≡ i
   one_on = omega arith
 
@@ -81,8 +80,8 @@ module _ {t w : List ℕ} {n i top : ℕ} (s : Swept t w n i top) (h : 0 < i) wh
         few = omega (arith, s.few);
       }
 
-  pub swept_more : {w' : List ℕ} {r : ℕ} → n ≡ nodes t → NowPlaced t w w' (i - 1) r → Swept t w' n (i - 1) r
-  swept_more e p =
+  pub swept_more : {w' : List Weight} {e' r : ℕ} → n ≡ nodes t → NowPlaced t w w' e e' (i - 1) r → Swept t w' n e' (i - 1) r
+  swept_more f p =
       record {
         within = omega arith;
         good = λ j f g. below_or j i (λ k. let d : j ≡ i - 1 = omega arith in rw d p.good) (λ k. s.good j k g);
@@ -94,13 +93,13 @@ module _ {t w : List ℕ} {n i top : ℕ} (s : Swept t w n i top) (h : 0 < i) wh
       }
 
 -- behind the last node none waits
-none_behind : (t w : List ℕ) (k i : ℕ) → nodes t ≤ i → Waiting t w k i → k ≡ 0
+none_behind : (t : List ℕ) (w : List Weight) (k i : ℕ) → nodes t ≤ i → Waiting t w k i → k ≡ 0
 unfolding Waiting
 none_behind t w zero i h x = refl
 none_behind t w (suc k) i h (l, y, r) = absurd (omega arith)
 
 -- at node 0 all have been seen
-module _ {t w : List ℕ} {n m v i top : ℕ} (P : SizedWhole t n m v) (s : Swept t w n i top) (h : i ≤ 0) where
+module _ {t : List ℕ} {w : List Weight} {n m v e i top : ℕ} (P : SizedWhole t n m v) (s : Swept t w n e i top) (h : i ≤ 0) where
   n_is : n ≡ nodes t
   n_is = P.framed.n_is
 
@@ -117,7 +116,7 @@ module _ {t w : List ℕ} {n m v i top : ℕ} (P : SizedWhole t n m v) (s : Swep
       let k_is = none_behind t w (top - 1) (0 + size_at t 0) (omega arith) a.rest in
       rw k_is at a.weighs
 
-  pub lowest_endless : Lowest (λ k. endless_loop (tree_at t k)) (nodes t) (get_or w 0 0)
+  pub lowest_endless : Lowest (λ k. endless_loop (tree_at t k)) (nodes t) e
   lowest_endless =
       record {
         within = omega arith;

@@ -4,6 +4,7 @@ use mathlib.Core.Bool.{Bool, true, false, cond, ◌&&◌, ◌||◌}
 use mathlib.Core.Path.{◌≡◌, refl, ap, sym, ◌∙◌}
 use native.Mathlib.Nat.{zero-mul, suc-mul, mul-le-mul}
 use native.Mathlib.Omega.{arith}
+use mir.Val.{bool_byte}
 use lib.Bits.{bit_and, bit_or}
 use lib.Dec.{eqb}
 use borrow.Author.Tests.{ne_eqb, le-leb}
@@ -11,7 +12,7 @@ use Rattle.junior.specs.Program.{Program, kind, Leaf, One, Two, size}
 use Rattle.junior.specs.Figures.{stops, figure, times, parking}
 use Rattle.table.specs.declared.weights.Weight.{Weight}
 use Rattle.table.specs.Inside.Early.{Tests}
-use Rattle.table.specs.Inside.Weighing.{Counts, Figure, Weighs, height, bit, counted, once_more, repeatedly}
+use Rattle.table.specs.Inside.Weighing.{Counts, Figure, Weighs, counted, once_more, repeatedly}
 use Rattle.table.specs.Inside.Weighing.{either, together}
 use Rattle.table.specs.Spells.{cap_in}
 use Rattle.table.proofs.Little.{below_or}
@@ -76,11 +77,11 @@ product_fits c y h l =
     let m = mul-le-mul b l in
     omega arith
 
-pub single_stops : (k e : ℕ) {p : Program} → Leaf p → k ≡ kind p → Tests e p → bit (cond (eqb k 8) (eqb e 0) (eqb k 1)) ≡ bit (stops p)
+pub single_stops : (k e : ℕ) {p : Program} → Leaf p → k ≡ kind p → Tests e p → bool_byte (cond (eqb k 8) (eqb e 0) (eqb k 1)) ≡ bool_byte (stops p)
 single_stops k e v same h = rw (same, (figures_of_none v).stops_is h)
 
-pub single_weighs : (k s : ℕ) {p : Program} → Leaf p → k ≡ kind p → s ≡ bit (stops p)
-    → Weighs (record { generations = bit (eqb k 7); atoms = bit (eqb k 2); nodes = 1; parked = 0; height = 1; stops = s }) p
+pub single_weighs : (k s : ℕ) {p : Program} → Leaf p → k ≡ kind p → s ≡ bool_byte (stops p)
+    → Weighs (record { generations = cond (eqb k 7) 1 0; atoms = cond (eqb k 2) 1 0; nodes = 1; parked = 0; height = 1; stops = s }) p
 single_weighs k s {p} v e h =
     rw
     e
@@ -93,7 +94,7 @@ single_weighs k s {p} v e h =
       stops_is = h;
     })
   where
-    bit_small : (b : Bool) → bit b ≤ 1
+    bit_small : (b : Bool) → cond b 1 0 ≤ 1
     bit_small true = omega arith
     bit_small false = omega arith
 
@@ -101,24 +102,24 @@ no_times : (b : Bool) → times 0 b ≡ 0
 no_times true = refl
 no_times false = refl
 
-bit_back : (b : Bool) → eqb (bit b) 1 ≡ b
+bit_back : (b : Bool) → eqb (bool_byte b) 1 ≡ b
 bit_back true = refl
 bit_back false = refl
 
-bits_and : (a b : Bool) → bit_and (bit a) (bit b) ≡ bit (a && b)
+bits_and : (a b : Bool) → bit_and (bool_byte a) (bool_byte b) ≡ bool_byte (a && b)
 bits_and true true = refl
 bits_and true false = refl
 bits_and false true = refl
 bits_and false false = refl
 
-bits_or : (a b : Bool) → bit_or (bit a) (bit b) ≡ bit (a || b)
+bits_or : (a b : Bool) → bit_or (bool_byte a) (bool_byte b) ≡ bool_byte (a || b)
 bits_or true true = refl
 bits_or true false = refl
 bits_or false true = refl
 bits_or false false = refl
 
 module _ {x : Weight} {a : ℕ} {p q : Program} (v : One p q) (n : Counts a p) where
-  repeats : (c s : ℕ) → often (kind p) a (stops q) ≡ c → parking p ≡ 0 → s ≡ bit (stops p) → Weighs x q
+  repeats : (c s : ℕ) → often (kind p) a (stops q) ≡ c → parking p ≡ 0 → s ≡ bool_byte (stops p) → Weighs x q
       → Weighs (repeatedly c x s) p
   repeats c s m none e w =
       let o = figures_of_one v n in
@@ -159,7 +160,7 @@ module _ {x : Weight} {a : ℕ} {p q : Program} (v : One p q) (n : Counts a p) w
       (rw ((figures_of_one v n).stops_is, e))
       w
 
-  once : (own s : ℕ) → often (kind p) a (stops q) ≡ 1 → own ≡ parking p → own ≤ 16384 → s ≡ bit (stops p) → Weighs x q
+  once : (own s : ℕ) → often (kind p) a (stops q) ≡ 1 → own ≡ parking p → own ≤ 16384 → s ≡ bool_byte (stops p) → Weighs x q
       → Weighs (once_more x own s) p
   once own s m parks few e w =
       let o = figures_of_one v n in
@@ -194,14 +195,14 @@ module _ {x : Weight} {a : ℕ} {p q : Program} (v : One p q) (n : Counts a p) w
       w
 
 -- the stops of When and Until from those of their parts, and from when their test can be decided early
-when_stops : (a b c d : Bool) → bit_and (bit_or (bit a) (bit b)) (bit_or (bit c) (bit d)) ≡ bit ((a || b) && (c || d))
+when_stops : (a b c d : Bool) → bit_and (bit_or (bool_byte a) (bool_byte b)) (bit_or (bool_byte c) (bool_byte d)) ≡ bool_byte ((a || b) && (c || d))
 when_stops a b c d = rw (bits_or a b, bits_or c d) (bits_and (a || b) (c || d))
 
-until_stops : (a b c : Bool) → bit_and (bit a) (bit_or (bit b) (bit c)) ≡ bit (a && (b || c))
+until_stops : (a b c : Bool) → bit_and (bool_byte a) (bit_or (bool_byte b) (bool_byte c)) ≡ bool_byte (a && (b || c))
 until_stops a b c = rw (bits_or b c) (bits_and a (b || c))
 
 module _ {x y : Weight} {p q r : Program} where
-  larger_weighs : Two p q r → chooses (kind p) ≡ true → (s : ℕ) → s ≡ bit (stops p) → Weighs x q → Weighs y r → Weighs (either x y s) p
+  larger_weighs : Two p q r → chooses (kind p) ≡ true → (s : ℕ) → s ≡ bool_byte (stops p) → Weighs x q → Weighs y r → Weighs (either x y s) p
   larger_weighs v n s t w u =
       let o = figures_of_two {e = 0} v in
       let h = (of_two v).height_is in
@@ -219,7 +220,7 @@ module _ {x y : Weight} {p q r : Program} where
       }
 
   pub when_weighs : {e : ℕ} → Two p q r → kind p ≡ 9 → Tests e p → Weighs x q → Weighs y r
-      → Weighs (either x y (bit_and (bit_or x.stops (bit (eqb e 0))) (bit_or y.stops (bit (eqb e 2))))) p
+      → Weighs (either x y (bit_and (bit_or x.stops (bool_byte (eqb e 0))) (bit_or y.stops (bool_byte (eqb e 2))))) p
   when_weighs {e} v k t w u =
       larger_weighs
       v
@@ -234,7 +235,7 @@ module _ {x y : Weight} {p q r : Program} where
   if_weighs v k t w u =
       larger_weighs v (rw k) _ (rw (w.stops_is, u.stops_is, (figures_of_two v).stops_is t, k) (bits_and (stops q) (stops r))) w u
 
-  together_weighs : Two p q r → (kind p ≡ 9 → ⊥) → (kind p ≡ 14 → ⊥) → (s : ℕ) → s ≡ bit (stops p) → Weighs x q → Weighs y r
+  together_weighs : Two p q r → (kind p ≡ 9 → ⊥) → (kind p ≡ 14 → ⊥) → (s : ℕ) → s ≡ bool_byte (stops p) → Weighs x q → Weighs y r
       → Weighs (together x y s) p
   together_weighs v k j s t w u =
       let o = figures_of_two {e = 0} v in
@@ -252,7 +253,7 @@ module _ {x y : Weight} {p q r : Program} where
       }
 
   pub until_weighs : {e : ℕ} → Two p q r → kind p ≡ 10 → Tests e p → Weighs x q → Weighs y r
-      → Weighs (together x y (bit_and x.stops (bit_or y.stops (bit (eqb e 0))))) p
+      → Weighs (together x y (bit_and x.stops (bit_or y.stops (bool_byte (eqb e 0))))) p
   until_weighs {e} v k t w u =
       together_weighs
       v

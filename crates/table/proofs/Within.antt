@@ -17,18 +17,18 @@ use Rattle.table.proofs.Spelled.{one_configuration}
 use Rattle.table.proofs.OpenLevels.{one_word, down, behind_event}
 
 -- the part at byte `at`, and what is open around it
-pub record Reading (t : List ℕ) (c : ℕ) (numbers : List ℕ) (absent at n : ℕ) : Type 0 where
+pub record Reading (t : List ℕ) (c : ℕ) (words : List ℕ) (absent at n : ℕ) : Type 0 where
   pub part : Config
   pub still : List Level
   pub stands : Standing t at part still
   pub opened : Open t (at + 4 * weight part) n still
   pub whole : (d : Config) (ended moved : Bool) → Configured t c d → absent ≡ absent_rank ended
-      → closing (environment numbers ended moved) still (rank (test part (environment numbers ended moved)))
-      ≡ rank (test d (environment numbers ended moved))
+      → closing (environment words ended moved) still (rank (test part (environment words ended moved)))
+      ≡ rank (test d (environment words ended moved))
 
-module _ {t : List ℕ} {c : ℕ} {numbers : List ℕ} {absent : ℕ} where
+module _ {t : List ℕ} {c : ℕ} {words : List ℕ} {absent : ℕ} where
   -- at first it is the whole
-  pub whole_read : ConfigurationAt t c → Reading t c numbers absent c 2
+  pub whole_read : ConfigurationAt t c → Reading t c words absent c 2
   unfolding closing levelled ToCome
   whole_read (d, h, l, low) =
       record {
@@ -36,15 +36,15 @@ module _ {t : List ℕ} {c : ℕ} {numbers : List ℕ} {absent : ℕ} where
         still = [];
         stands = record { configured = h; inside = l; low = omega arith };
         opened = record { number = refl; to_come = tt };
-        whole = λ e ended moved k a. ap (λ (x : Config). rank (test x (environment numbers ended moved))) (one_configuration t c d e h k);
+        whole = λ e ended moved k a. ap (λ (x : Config). rank (test x (environment words ended moved))) (one_configuration t c d e h k);
       }
 
-  module _ {at n : ℕ} (h : Reading t c numbers absent at n) where
+  module _ {at n : ℕ} (h : Reading t c words absent at n) where
     pub own_record : at + 4 ≤ length t
     own_record = omega (arith, h.stands.inside, some_record h.part)
 
     -- its first part
-    pub first_read : (k : ℕ) → part_kind t at ≡ k → (k ≡ 0 → ⊥) → Reading t c numbers absent (at + 4) (16 * n + k)
+    pub first_read : (k : ℕ) → part_kind t at ≡ k → (k ≡ 0 → ⊥) → Reading t c words absent (at + 4) (16 * n + k)
     first_read k e z =
         let d = down h.part k h.stands h.opened e z in
         record {
@@ -52,7 +52,7 @@ module _ {t : List ℕ} {c : ℕ} {numbers : List ℕ} {absent : ℕ} where
           still = d.still;
           stands = d.stands;
           opened = d.opened;
-          whole = λ f ended moved g a. sym (d.same (environment numbers ended moved)) ∙ h.whole f ended moved g a;
+          whole = λ f ended moved g a. sym (d.same (environment words ended moved)) ∙ h.whole f ended moved g a;
         }
 
     pub fits : n < 2 ^ 64
@@ -62,13 +62,13 @@ module _ {t : List ℕ} {c : ℕ} {numbers : List ℕ} {absent : ℕ} where
       pub open_behind : Open t (at + 4) n h.still
       open_behind = behind_event h.part h.stands h.opened event
 
-    module _ {r : ℕ} (ranks : RanksAs t at numbers absent r) where
-      pub read_out : (v : Verdict) → ((E : Env) → closing E h.still r ≡ rank v) → RanksAs t c numbers absent (rank v)
+    module _ {r : ℕ} (ranks : RanksAs t at words absent r) where
+      pub read_out : (v : Verdict) → ((E : Env) → closing E h.still r ≡ rank v) → RanksAs t c words absent (rank v)
       read_out v k d ended moved g a =
-          let E = environment numbers ended moved in
+          let E = environment words ended moved in
           sym (k E) ∙ (ap (closing E h.still) (ranks h.part ended moved h.stands.configured a) ∙ h.whole d ended moved g a)
 
-      pub second_read : {at' n' : ℕ} → Next t (at + 4) h.still r at' n' → Reading t c numbers absent at' n'
+      pub second_read : {at' n' : ℕ} → Next t (at + 4) h.still r at' n' → Reading t c words absent at' n'
       second_read x =
           record {
             part = x.part;
@@ -76,7 +76,7 @@ module _ {t : List ℕ} {c : ℕ} {numbers : List ℕ} {absent : ℕ} where
             stands = x.stands;
             opened = x.opened;
             whole = λ d ended moved g a.
-                let E = environment numbers ended moved in
+                let E = environment words ended moved in
                 sym (x.same E)
                 ∙ (ap (closing E h.still) (ranks h.part ended moved h.stands.configured a) ∙ h.whole d ended moved g a);
           }

@@ -1,5 +1,5 @@
 -- What reading a configuration asks and gives: leaves of the runner cite this file.
-use Rattle.std.specs.Prelude.{ℕ, ◌+◌, ◌*◌, ◌≤◌, ◌/◌, max, Bool, ◌≡◌, List, length, take}
+use Rattle.std.specs.Prelude.{ℕ, ◌+◌, ◌*◌, ◌≤◌, ◌/◌, max, Bool, ◌≡◌, List, length}
 use Rattle.events.specs.Members.{places, marks}
 use Rattle.junior.specs.declared.Verdict.{Verdict}
 use Rattle.junior.specs.Configuration.{Config, Event, Not, And, Or, Env, test}
@@ -16,15 +16,15 @@ height (Or c d) = 1 + max (height c) (height d)
 abbrev pub ConfigurationAt : List ℕ → ℕ → Type 0
 ConfigurationAt t c = (d : Config) × Configured t c d × (c + 4 * weight d ≤ length t) × (height d ≤ 16)
 
--- how many words of a row of numbers mark the events: its first
+-- how many words mark the events
 abbrev pub event_words : ℕ
 event_words = places / 64
 
--- the environment of such a row
+-- the environment of such words
 abbrev pub environment : List ℕ → Bool → Bool → Env
-environment numbers ended moved = record { now = marks (take event_words numbers); eoi = ended; move = moved }
+environment words ended moved = record { now = marks words; eoi = ended; move = moved }
 
--- whatever configuration stands at byte c, it is read as r in the events of the row, whether or not something moved
+-- whatever configuration stands at byte c, it is read as r in the events of the words, whether or not something moved
 abbrev pub ReadAs : List ℕ → ℕ → List ℕ → Bool → Verdict → Type 0
-ReadAs t c numbers ended r =
-    (d : Config) (moved : Bool) → Configured t c d → r ≡ test d (environment numbers ended moved)
+ReadAs t c words ended r =
+    (d : Config) (moved : Bool) → Configured t c d → r ≡ test d (environment words ended moved)

@@ -2,9 +2,11 @@
 // once for each, from the last to the first, so that its parts' are found before it; a row lent by the caller keeps them. Numbers, since the
 // row has a byte for each: the smaller wins an and, the larger an or, and a not mirrors.
 ghost use Rattle.std.specs.Prelude.{◌≡◌, ◌+◌, ◌*◌, ◌≤◌, ◌<◌, length, get_or};
-ghost use Rattle.table.specs.Records.{argument_at};
-ghost use Rattle.table.specs.Inside.Early.{SomeFramed, KnownFrom, Behind, EarlyAt};
+ghost use Rattle.table.specs.Records.{configurations, argument_at};
+ghost use Rattle.table.specs.Kinds.{kind_number};
+ghost use Rattle.table.specs.Inside.Early.{SomeFramed, KnownFrom, AllKnown, Behind, EarlyAt, TestsAt};
 
+use super::kinds::Kind;
 use super::reading::joined_rank;
 use super::records::{argument_at, part_kind, part_size, wide};
 
@@ -36,14 +38,15 @@ fn early_at(table: &[u8], c: usize, j: usize, early: &[u8]) -> usize
     joined_rank(kind, first, second)
 }
 
-// Of the configuration that node i tests, if that is one of m.
-pub fn early_of(table: &[u8], i: usize, m: usize, early: &[u8]) -> usize
-    requires { (6 * i + 3 < length table.now) × (m ≤ length early.now) }
-    ensures { argument_at table.now i < m → result ≡ get_or early.now (argument_at table.now i) 0 }
+// Of the test of node i, of kind k, if it has one.
+pub fn early_for(table: &[u8], i: usize, k: Kind, early: &[u8]) -> usize
+    requires inside { 6 * i + 3 < length table.now }
+    requires all_known { AllKnown table.now early.now }
+    requires among { 8 ≤ kind_number k → kind_number k ≤ 10 → argument_at table.now i < configurations table.now }
+    ensures { TestsAt table.now i (kind_number k) result }
 {
-    let at = argument_at(table, i);
-    if at < m {
-        return wide(early[at]);
+    match k {
+        Kind::Await | Kind::When | Kind::Until => wide(early[argument_at(table, i)]),
+        _ => 0,
     }
-    0
 }

@@ -1,8 +1,8 @@
 // Reading a configuration where it stands, by the definitions fixed and eval (000, 4.1). In clauses a verdict is its rank: 0 unsat,
 // 1 unknown, 2 sat.
-ghost use Rattle.std.specs.Prelude.{◌≡◌, cond, eqb, List, ℕ, ◌/◌, ◌<◌, length, take};
-ghost use Rattle.events.specs.Members.{places, marks};
-ghost use Rattle.table.specs.Reading.{ConfigurationAt, ReadAs, event_words};
+ghost use Rattle.std.specs.Prelude.{◌≡◌, cond, eqb, List, ℕ, ◌/◌, ◌<◌, length};
+ghost use Rattle.events.specs.Members.{marks};
+ghost use Rattle.table.specs.Reading.{ConfigurationAt, ReadAs};
 ghost use Rattle.table.specs.Inside.Levels.{Level, levelled, SomeLevels, Open, SomeOpen, sat_rank, ClosesOne, Falls, Closes, unsettled};
 ghost use Rattle.table.specs.Inside.Ranks.{rank, joined_rank, RanksAs, IsAbsentRank};
 
@@ -11,23 +11,31 @@ use events::{WORDS, marked};
 use junior::Verdict;
 use std::ops::ControlFlow;
 
-// How long the row of numbers is that a pass carries: the event words first, then what else it needs.
-pub const ROW: usize = WORDS + 7;
-
-// What the configuration at byte c is read as, the events being those of the row's first words. Before the end is declared a lone event costs
-// no call.
-pub fn read_configuration(table: &[u8], c: usize, numbers: &[u64; ROW], ended: bool) -> Verdict
+// What the configuration at byte c is read as, the events being those that the words mark. Before the end is declared a lone event costs no call.
+pub fn read_configuration(table: &[u8], c: usize, words: &[u64; WORDS], ended: bool) -> Verdict
     requires configuration_at { ConfigurationAt table.now c }
     requires table_short { length table.now < 65536 }
-    ensures { ReadAs table.now c numbers.now ended result }
+    ensures { ReadAs table.now c words.now ended result }
+{
+    if !ended {
+        if part_kind(table, c) == 0 {
+            return event_verdict(words, part_event(table, c), Verdict::Unknown);
+        }
+    }
+    read_records(table, c, words, ended)
+}
+
+// The same by all records, compiled once for each of what an absent event is: it isn't asked at each event.
+#[inline(never)]
+fn read_records(table: &[u8], c: usize, words: &[u64; WORDS], ended: bool) -> Verdict
+    requires configuration_at { ConfigurationAt table.now c }
+    requires table_short { length table.now < 65536 }
+    ensures { ReadAs table.now c words.now ended result }
 {
     if ended {
-        return verdict_at(table, c, numbers, Verdict::Unsat);
+        return verdict_at(table, c, words, Verdict::Unsat);
     }
-    if part_kind(table, c) == 0 {
-        return event_verdict(numbers, part_event(table, c), Verdict::Unknown);
-    }
-    verdict_at(table, c, numbers, Verdict::Unknown)
+    verdict_at(table, c, words, Verdict::Unknown)
 }
 
 // Where reading has come to: the next record's byte; the levels open there, as digits to base 16 behind a leading 2 (1 a not, 2 an and, 3 an
@@ -48,23 +56,24 @@ pub enum Closed {
 
 // Of the configuration at byte c, by its records one after another; an event that isn't present is what `absent` says. Levels open are kept in
 // one word: a height of 16 leaves at most 15.
-fn verdict_at(table: &[u8], c: usize, numbers: &[u64; ROW], absent: Verdict) -> Verdict
+#[inline(always)]
+fn verdict_at(table: &[u8], c: usize, words: &[u64; WORDS], absent: Verdict) -> Verdict
     requires configuration_at { ConfigurationAt table.now c }
     requires absent_rank { IsAbsentRank (rank absent) }
     requires table_short { length table.now < 65536 }
-    ensures { RanksAs table.now c numbers.now (rank absent) (rank result) }
+    ensures { RanksAs table.now c words.now (rank absent) (rank result) }
 {
     let top = part_kind(table, c);
     if top == 0 {
-        return event_verdict(numbers, part_event(table, c), absent);
+        return event_verdict(words, part_event(table, c), absent);
     }
     let mut levels: u64 = 32 + top as u64;
     let mut at = c + 4;
     loop {
         let kind = part_kind(table, at);
         if kind == 0 {
-            let event = event_verdict(numbers, part_event(table, at), absent);
-            match after_part(table, at + 4, levels, event) {
+            let present = marked(words, part_event(table, at));
+            match after_event(table, at + 4, levels, present, absent) {
                 ControlFlow::Break(verdict) => return verdict,
                 ControlFlow::Continue(next) => {
                     at = next.at;
@@ -78,17 +87,22 @@ fn verdict_at(table: &[u8], c: usize, numbers: &[u64; ROW], absent: Verdict) -> 
     }
 }
 
-// Behind a part of this verdict: the levels that it closes. All are closed with a verdict, or another part is to be read next.
-fn after_part(table: &[u8], at: usize, levels: u64, verdict: Verdict) -> ControlFlow<Verdict, Place>
-    requires { SomeOpen table.now at levels }
-    ensures { (o : List Level) → Open table.now at levels o → Closes table.now at o (rank verdict) result }
+// Behind an event: the levels that it closes. All are closed with a verdict, or another part is to be read next.
+fn after_event(
+    table: &[u8],
+    at: usize,
+    levels: u64,
+    present: bool,
+    absent: Verdict,
+) -> ControlFlow<Verdict, Place>
+    requires some_open { SomeOpen table.now at levels }
+    requires absent_rank { IsAbsentRank (rank absent) }
+    ensures { (o : List Level) → Open table.now at levels o → Closes table.now at o (cond present 2 (rank absent)) result }
 {
-    let sat = match verdict {
-        Verdict::Sat => true,
-        Verdict::Unsat => false,
-        Verdict::Unknown => return after_unknown(at, levels),
-    };
-    after_decided(table, at, levels, sat)
+    if present || absent == Verdict::Unsat {
+        return after_decided(table, at, levels, present);
+    }
+    after_unknown(at, levels)
 }
 
 // Behind an unknown part: a second part is next, or all is unknown.
@@ -140,9 +154,9 @@ fn after_decided(table: &[u8], from: usize, before: u64, first: bool) -> Control
     ControlFlow::Break(decided(sat))
 }
 
-// Closes the innermost level behind a part that is sat or unsat. What the first part decides (unsat an and, sat an or), the second isn't asked:
-// it is passed over by its size. What it leaves to the second, the second alone decides. A second part that doesn't decide leaves the level
-// unknown.
+// Closes the innermost level behind a part that is sat or unsat. Unsat decides an and, sat an or, which has an odd digit. What the first part
+// decides, the second isn't asked: it is passed over by its size. What it leaves to the second, the second alone decides. A second part that
+// doesn't decide leaves the level unknown.
 fn close(table: &[u8], at: usize, levels: u64, sat: bool) -> Closed
     requires some_open { SomeOpen table.now at levels }
     requires inside_a_level { 2 < levels }
@@ -155,8 +169,9 @@ fn close(table: &[u8], at: usize, levels: u64, sat: bool) -> Closed
     if level == 1 {
         return Closed::Decided(here, !sat);
     }
+    let or = level % 2 == 1;
     if level < 4 {
-        if sat == (level == 3) {
+        if sat == or {
             let behind = Place {
                 at: at + 4 * part_size(table, at),
                 levels: rest,
@@ -165,17 +180,16 @@ fn close(table: &[u8], at: usize, levels: u64, sat: bool) -> Closed
         }
         return Closed::Second(here);
     }
-    if sat == (level == 4) {
+    if sat != or {
         return Closed::Undecided(here);
     }
     Closed::Decided(here, sat)
 }
 
-fn event_verdict(numbers: &[u64; ROW], event: usize, absent: Verdict) -> Verdict
-    requires { event < places }
-    ensures { rank result ≡ cond (marks (take event_words numbers.now) event) 2 (rank absent) }
+fn event_verdict(words: &[u64; WORDS], event: usize, absent: Verdict) -> Verdict
+    ensures { rank result ≡ cond (marks words.now event) 2 (rank absent) }
 {
-    if marked(numbers, event) {
+    if marked(words, event) {
         return Verdict::Sat;
     }
     absent

@@ -66,7 +66,8 @@ pub fn second_at(t: &[u8], i: usize) -> usize
     i + 1 + size_at(t, i + 1)
 }
 
-// The kind of the configuration at byte c.
+// The kind of the configuration at byte c. It stays a number: the reader keeps it as a digit of the levels that are open, and the loader compares it
+// together with the byte behind it.
 pub fn part_kind(t: &[u8], c: usize) -> usize
     requires { c < length t.now }
     ensures { (result ≡ part_kind t.now c) × (result < 16) }

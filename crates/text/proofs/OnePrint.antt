@@ -3,7 +3,7 @@ use Prim.Native.Nat.{ℕ}
 use mathlib.Core.Path.{◌≡◌, refl, ap, sym, ◌∙◌}
 use mathlib.Core.List.{List}
 use native.Mathlib.Omega.{arith}
-use Rattle.std.specs.Prelude.{Result, Ok, Err}
+use Rattle.std.specs.Prelude.{Result, Err}
 use Rattle.text.specs.declared.PrintRefusal.{PrintRefusal}
 use Rattle.table.proofs.Accepted.{one_refusal, not_both}
 use Rattle.text.specs.declared.PrintRefusal.TheVariants as told

@@ -2,7 +2,7 @@
 use Prim.Native.Nat.{ℕ}
 use mathlib.Core.Path.{◌≡◌, refl, ap, sym, ◌∙◌}
 use mathlib.Core.List.{List}
-use Rattle.std.specs.Prelude.{Result, Ok, Err}
+use Rattle.std.specs.Prelude.{Result, Err}
 use Rattle.text.specs.declared.ReadRefusal.{ReadRefusal}
 use Rattle.text.specs.declared.ReadRefusal.TheVariants as answered
 use Rattle.table.proofs.Accepted.{one_refusal, not_both}

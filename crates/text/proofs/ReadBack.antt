@@ -2,7 +2,6 @@
 -- 22 (02, L3).
 use Prim.Native.Nat.{ℕ}
 use mathlib.Core.Path.{◌≡◌, refl, ap, subst, ◌∙◌}
-use mathlib.Core.Logic.{◌≢◌}
 use mathlib.Core.List.{List}
 use native.Mathlib.Omega.{arith}
 use lib.ListN.{take, length}
@@ -16,7 +15,6 @@ use Rattle.table.proofs.Little.{below_or}
 use Rattle.table.proofs.Accepted.{accepted, one_refusal, not_both}
 use Rattle.text.specs.declared.ReadRefusal.{ReadRefusal}
 use Rattle.text.specs.declared.ReadRefusal.TheVariants as answered
-use Rattle.text.specs.declared.PrintRefusal.TheVariants as told
 use Rattle.form.specs.Form.{Says, whole}
 use Rattle.form.specs.Spelling.{spell}
 use Rattle.form.specs.Made.{tests, table_of, needed}

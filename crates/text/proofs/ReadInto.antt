@@ -1,7 +1,7 @@
 -- What reading answers, by what its two passes and the check answer.
 use Prim.Native.Nat.{ℕ, ◌+◌, ◌*◌, ◌≤◌, ◌<◌, min}
 use mathlib.Core.Path.{◌≡◌, ap, subst, ◌∙◌}
-use mathlib.Core.Logic.{◌≢◌}
+use mathlib.Core.Logic.{◌⊎◌}
 use mathlib.Core.List.{List, ◌++◌}
 use native.Mathlib.Omega.{arith}
 use lib.ListN.{length, drop}
@@ -22,13 +22,8 @@ module _ {text : List ℕ} {s : Result Sizes ℕ} (o : Tells text s) where
   scan_fails {k} room e = fails k (subst (Tells text) e o)
 
   module _ {z : Sizes} (e : s ≡ Ok z) (long : ℕ) (l : long ≡ min (6 * z.nodes + 4 * z.tests + 10) 32779) (room : List ℕ) where
-    pub too_long : 32778 < long → Reads text room room (Err answered.NoRoom)
-    too_long h =
-        let (p, d, a, b, c) = subst (Tells text) e o in
-        no_room p d (λ f. omega arith)
-
-    pub room_short : long ≤ 32778 → length room < long → Reads text room room (Err answered.NoRoom)
-    room_short g h =
+    pub no_place : (32778 < long) ⊎ (long ≤ 32778 × length room < long) → Reads text room room (Err answered.NoRoom)
+    no_place h =
         let (p, d, a, b, c) = subst (Tells text) e o in
         no_room p d (λ f. omega arith)
 

@@ -6,6 +6,7 @@ ghost use Rattle.builder.specs.Building.{Buildable};
 use crate::ReadRefusal;
 use builder::build::build;
 use form::Sizes;
+use letters::zeros;
 use scanner::scan::scan;
 use table::check;
 
@@ -16,37 +17,27 @@ const LONGEST: usize = 32778;
 pub fn read(text: &[u8], table: &mut [u8]) -> Result<usize, ReadRefusal>
     ensures { Reads text.now table.old table.new result }
 {
-    let found = scan(text);
-    match found {
-        Err(k) => Err(ReadRefusal::Fails(k)),
-        Ok(sizes) => {
-            let long = table_length(sizes.nodes, sizes.tests);
-            if LONGEST < long {
-                return Err(ReadRefusal::NoRoom);
-            }
-            if table.len() < long {
-                return Err(ReadRefusal::NoRoom);
-            }
-            read_counted(text, sizes, long, table)
-        }
+    let sizes = match scan(text) {
+        Ok(sizes) => sizes,
+        Err(k) => return Err(ReadRefusal::Fails(k)),
+    };
+    let long = table_length(sizes);
+    if LONGEST < long || table.len() < long {
+        return Err(ReadRefusal::NoRoom);
     }
+    read_counted(text, sizes, long, table)
 }
 
-// The bytes of a table with n nodes and m configurations, or 32,779 if it has more.
-fn table_length(n: usize, m: usize) -> usize
-    ensures { result ≡ min (6 * n + 4 * m + 10) 32779 }
+// The bytes of a table of these sizes, or 32,779 if it has more.
+fn table_length(sizes: Sizes) -> usize
+    ensures { result ≡ min (6 * sizes.nodes + 4 * sizes.tests + 10) 32779 }
 {
-    if LONGEST < n {
-        return LONGEST + 1;
-    }
-    if LONGEST < m {
-        return LONGEST + 1;
-    }
-    let long = 6 * n + 4 * m + 10;
-    if LONGEST < long {
-        return LONGEST + 1;
-    }
-    long
+    let nodes = sizes.nodes.saturating_mul(6);
+    let tests = sizes.tests.saturating_mul(4);
+    nodes
+        .saturating_add(tests)
+        .saturating_add(10)
+        .min(LONGEST + 1)
 }
 
 // Reads a text whose table is so long and fits the room.
@@ -57,18 +48,11 @@ fn read_counted(
     table: &mut [u8],
 ) -> Result<usize, ReadRefusal>
     requires buildable { Buildable text.now sizes long }
-    requires long_in_bounds { long ≤ length table.old }
+    requires room_enough { long ≤ length table.old }
     ensures { Reads text.now table.old table.new result }
 {
-    let mut made = longest();
+    let mut made = zeros::<LONGEST>();
     read_through(text, sizes, &mut made[..long], table)
-}
-
-// A room for the longest table. The `ensures` gives only the length, which lending a part of it needs.
-fn longest() -> [u8; LONGEST]
-    ensures { length result ≡ 32778 }
-{
-    [0; LONGEST]
 }
 
 // The same with a room of that length, in which the table is made and checked first.
@@ -79,7 +63,7 @@ fn read_through(
     table: &mut [u8],
 ) -> Result<usize, ReadRefusal>
     requires buildable { Buildable text.now sizes (length made.old) }
-    requires made_in_bounds { length made.old ≤ length table.old }
+    requires room_enough { length made.old ≤ length table.old }
     ensures { Reads text.now table.old table.new result }
 {
     build(text, sizes, made);

@@ -23,7 +23,7 @@ pub fn lacking_event(table: &[u8], c: usize, words: &[u64; WORDS]) -> Option<usi
     }
 }
 
-// The lowest so far, the record at byte `at` included; `PLACES` while there is none.
+// The lowest so far, the record at byte `at` included; `PLACES` while there is none: that is above every event, and so no case of its own.
 fn lowest_after(table: &[u8], at: usize, words: &[u64; WORDS], low: usize) -> usize
     requires { at + 1 < length table.now }
     ensures { result ≡ lowest_after table.now words.now at low }

@@ -21,7 +21,7 @@ pub struct Wait {
     pub event: usize,
 }
 
-// No node has this number: the limit of a table's nodes.
+// No node has this number, the limit of a table's nodes: an answer for C has it where no test waits (include/zapper.h).
 pub const NO_NODE: usize = 4096;
 
 // No test waits.

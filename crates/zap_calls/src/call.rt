@@ -5,7 +5,7 @@ ghost use Rattle.call_lines.specs.Rooms.{LongRoom, StateRoom, AnswerRoom};
 use call_lines::instant::answer_instant;
 use call_lines::take::answer_take;
 use call_lines::{Rooms, bad_line};
-use calls::{put_bytes, put_numbers, read_bytes, read_pair};
+use calls::{put_numbers, put_word, read_bytes, read_pair};
 use letters::Writer;
 use octets::split_once;
 use table::Figures;
@@ -95,7 +95,7 @@ fn call_start(table: &[u8], state: &mut [u8], output: &mut [u8]) -> usize
         at: 0,
     };
     put_numbers(&mut out, &[refusal.number as u64, refusal.index as u64]);
-    put_bytes(&mut out, state, b'\n');
+    put_word(&mut out, state, b'\n');
     out.at
 }
 
@@ -148,6 +148,6 @@ fn put_room(output: &mut [u8], refusal: Numbered, long: usize, room: &[u8]) -> u
         &mut out,
         &[refusal.number as u64, refusal.index as u64, long as u64],
     );
-    put_bytes(&mut out, room, b'\n');
+    put_word(&mut out, room, b'\n');
     out.at
 }

@@ -1,4 +1,4 @@
-// zap_calls: makes one public call for each line of standard input and lists what it answered and what the lent rooms then hold (calls.md).
+// zap_calls: makes one public call for each line of standard input and lists what it answered and what the lent rooms then hold (README.md).
 // Here are input and output; call.rt makes a line's call.
 #![tactic(auto)]
 

@@ -2,24 +2,32 @@
 // table that can't be read counts as empty.
 #![tactic(auto)]
 
-use console::{TABLE, read_table};
+use console::{TABLE, print_decimal, read_table, write_out};
+use std::io;
 use std::io::Write;
 use table::numbers::Numbered;
 
 fn main(rt: HostRuntime) {
     let mut room = [0u8; TABLE];
-    let verdict = table::check(read_table(&rt, &mut room));
+    // A line that can't be written is passed over.
+    let _ = tell(&mut rt.stdout(), read_table(&rt, &mut room));
+}
+
+fn tell(out: &mut impl Write, table: &[u8]) -> io::Result<()> {
+    let verdict = table::check(table);
     let refusal = Numbered::of(verdict);
     let figures = verdict.unwrap_or_default();
-    let number = refusal.number;
-    let index = refusal.index;
-    let generations = figures.generations;
-    let atoms = figures.atoms;
-    let weight = figures.nodes;
-    let parked = figures.parked;
-    // A line that can't be written is passed over.
-    let _ = writeln!(
-        rt.stdout(),
-        "{number} {index} {generations} {atoms} {weight} {parked}"
-    );
+    print_decimal(out, refusal.number as u64)?;
+    for n in [
+        refusal.index,
+        figures.generations,
+        figures.atoms,
+        figures.nodes,
+        figures.parked,
+    ] {
+        write_out(out, b" ");
+        print_decimal(out, n as u64)?;
+    }
+    write_out(out, b"\n");
+    Ok(())
 }

@@ -5,6 +5,7 @@
 ghost use Rattle.std.specs.Prelude.{◌≡◌, length};
 
 use console::{TABLE, read_table, write_out};
+use letters::zeros;
 use listing::write_table_refused;
 use table::numbers::Numbered;
 use text::print::print;
@@ -14,7 +15,7 @@ const TEXT: usize = 1048576;
 
 fn main(rt: HostRuntime) {
     let mut room = [0u8; TABLE];
-    let mut text = text_room();
+    let mut text = zeros::<TEXT>();
     let answer = print(read_table(&rt, &mut room), &mut text);
     let mut out = rt.stdout();
     match answer {
@@ -27,11 +28,4 @@ fn main(rt: HostRuntime) {
             write_out(&mut out, &text[..n]);
         }
     }
-}
-
-// So large an array gets a proof only where a contract tells its length: in `main` itself the check runs out of stack.
-fn text_room() -> [u8; TEXT]
-    ensures { length result ≡ 1048576 }
-{
-    [0; TEXT]
 }

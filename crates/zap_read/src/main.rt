@@ -5,6 +5,7 @@
 ghost use Rattle.std.specs.Prelude.{◌<◌, ◌≡◌, length};
 
 use console::{read_all, write_out};
+use letters::zeros;
 use listing::write_table_refused;
 use std::io::Write;
 use std::rt::Files;
@@ -24,7 +25,7 @@ const TEXT: usize = 1048577;
 const TABLE: usize = 32778;
 
 fn main(rt: HostRuntime) -> io::Result<()> {
-    let mut text = text_room();
+    let mut text = zeros::<TEXT>();
     let long = read_all(&mut rt.stdin(), &mut text)?;
     let mut out = rt.stdout();
     if TEXT <= long {
@@ -35,35 +36,20 @@ fn main(rt: HostRuntime) -> io::Result<()> {
     Ok(())
 }
 
-// So large an array gets a proof only where a contract tells its length: in `main` itself the check runs out of stack.
-fn text_room() -> [u8; TEXT]
-    ensures { length result ≡ 1048577 }
-{
-    [0; TEXT]
-}
-
-fn table_room() -> [u8; TABLE]
-    ensures { length result ≡ 32778 }
-{
-    [0; TABLE]
-}
-
 // Reads the text at the start of a longer room.
 fn read_text(files: &impl Files, out: &mut impl Write, text: &mut [u8], long: usize)
     requires { long < length text.old }
 {
-    let mut table = table_room();
+    let mut table = zeros::<TABLE>();
     let answer = read(&text[..long], &mut table);
     match answer {
         Ok(n) => write_table(files, out, &table[..n]),
-        Err(why) => match why {
-            ReadRefusal::Fails(k) => tell_failure(out, text, long, k),
-            _ => {
-                let refusal = Numbered::from(why);
-                let n = write_table_refused(&mut table, refusal.number, refusal.index);
-                write_out(out, &table[..n]);
-            }
-        },
+        Err(ReadRefusal::Fails(k)) => tell_failure(out, text, long, k),
+        Err(why) => {
+            let refusal = Numbered::from(why);
+            let n = write_table_refused(&mut table, refusal.number, refusal.index);
+            write_out(out, &table[..n]);
+        }
     }
 }
 

@@ -4,7 +4,7 @@
 // empty.
 #![tactic(auto)]
 
-use console::{TABLE, read_all, read_named, read_table, write_out};
+use console::{TABLE, read_all, read_file, read_table, write_out};
 use listing::read_events;
 use octets::split_once;
 use std::fs::OpenOptions;
@@ -61,7 +61,7 @@ fn event_in(line: &[u8]) -> Option<usize> {
 fn take_piece(files: &impl Files, out: &mut impl Write, event: usize) {
     let mut table = [0u8; TABLE];
     let mut store = [0u8; STORE];
-    let long = read_named(files, "store.bin", &mut store).len();
+    let long = read_file(files, b"store.bin", &mut store).len();
     let table = read_table(files, &mut table);
     take_from(files, out, table, &mut store[..long], event);
 }

@@ -1,7 +1,6 @@
 -- `outcome_of` meets its contract: the checks one after the other.
 use mathlib.Core.Path.{sym, ap, ◌∙◌}
 use native.Mathlib.Omega.{arith}
-use borrow.Author.Rules.{rules}
 use Rattle.std.specs.Prelude.{Err}
 use Rattle.std.proofs.lemmas.Result.{err_from_is_err_and}
 use Rattle.events.specs.Members.{members}
@@ -30,18 +29,19 @@ returns-then-state-n c =
     short_room c.args.table.now c.args.state.now (sym c.in_ok-most.ensures) (members c.args.events) (rooms c.args.atoms.now c.args.store.now)
     (rw c.word_at-n.ensures.0 at c.if-state-n.true)
 
--- let i = first_blamed(table, n, state);
-pub first_blamed-i-requires : goal.first_blamed-i-requires
-first_blamed-i-requires c =
+-- if let Some(i) = first_blamed(table, n, state) {
+pub first_blamed-requires : goal.first_blamed-requires
+first_blamed-requires c =
     let loaded = (admitted c.args.table.now (sym c.in_ok-most.ensures)).loaded in
     record { rooted = rw c.word_at-n.ensures.0 (rooted loaded); state_long = c.if-state-n.false }
 
 -- return Err(Refusal::NotAtRest(i));
-pub returns-then-i-n : goal.returns-then-i-n
-returns-then-i-n c =
-    ap (λ i. Err (NotAtRest i)) (rw c.word_at-n.ensures.0 at c.first_blamed-i.ensures)
+pub returns-in-Some : goal.returns-in-Some
+returns-in-Some c =
+    let found = rw c.word_at-n.ensures.0 at c.in-Some.ensures.0 in
+    ap (λ i. Err (NotAtRest i)) found
     ∙ not_at_rest c.args.table.now c.args.state.now (sym c.in_ok-most.ensures) (members c.args.events) (rooms c.args.atoms.now c.args.store.now)
-    (rw c.word_at-n.ensures.0 at c.if-state-n.false) (rw (c.first_blamed-i.ensures, c.word_at-n.ensures.0) at c.if-i-n.true)
+    (rw c.word_at-n.ensures.0 at c.if-state-n.false) (rw (found, c.word_at-n.ensures.0) at c.in-Some.ensures.1)
 
 -- let v = word_at(table, table.len() - 6);
 pub overflow_sub-table-2 : goal.overflow_sub-table-2
@@ -55,12 +55,12 @@ word_at-v-requires c =
     omega arith
 
 -- return Err(Refusal::UnlistedEvent(e));
-pub returns-then-e-lt-PLACES : goal.returns-then-e-lt-PLACES
-returns-then-e-lt-PLACES c =
-    let found = rw c.word_at-v.ensures.0 at c.lowest_from-e.ensures in
+pub returns-in-Some-lowest_from : goal.returns-in-Some-lowest_from
+returns-in-Some-lowest_from c =
+    let found = rw c.word_at-v.ensures.0 at c.in-Some-lowest_from.ensures.0 in
     ap (λ e. Err (UnlistedEvent e)) found
     ∙ unlisted_event c.args.table.now c.args.state.now (sym c.in_ok-most.ensures) (members c.args.events) (rooms c.args.atoms.now c.args.store.now)
-    (rw c.word_at-n.ensures.0 at c.if-state-n.false) (rw (c.first_blamed-i.ensures, c.word_at-n.ensures.0) at c.if-i-n.false) (rw found at c.if-e-lt-PLACES.true)
+    (rw c.word_at-n.ensures.0 at c.if-state-n.false) (rw (rw c.word_at-n.ensures.0 at c.in_default.ensures) (omega arith)) (rw found at c.in-Some-lowest_from.ensures.1)
 
 -- return store_outcome(table, store, most.parked);
 pub store_outcome-requires : goal.store_outcome-requires
@@ -71,15 +71,15 @@ pub returns-then-most-atoms : goal.returns-then-most-atoms
 returns-then-most-atoms c =
     c.store_outcome.ensures
     ∙ by_store c.args.table.now c.args.state.now (sym c.in_ok-most.ensures) (members c.args.events) (rooms c.args.atoms.now c.args.store.now)
-    (rw c.word_at-n.ensures.0 at c.if-state-n.false) (rw (c.first_blamed-i.ensures, c.word_at-n.ensures.0) at c.if-i-n.false)
-    (rw (rw c.word_at-v.ensures.0 at c.lowest_from-e.ensures) at c.if-e-lt-PLACES.false) c.if-most-atoms.true
+    (rw c.word_at-n.ensures.0 at c.if-state-n.false) (rw (rw c.word_at-n.ensures.0 at c.in_default.ensures) (omega arith))
+    (rw (rw c.word_at-v.ensures.0 at c.in_default-lowest_from.ensures) (omega arith)) c.if-most-atoms.true
 
 -- fn outcome_of
 pub returns : goal.returns
 returns c =
     short_row c.args.table.now c.args.state.now (sym c.in_ok-most.ensures) (members c.args.events) (rooms c.args.atoms.now c.args.store.now)
-    (rw c.word_at-n.ensures.0 at c.if-state-n.false) (rw (c.first_blamed-i.ensures, c.word_at-n.ensures.0) at c.if-i-n.false)
-    (rw (rw c.word_at-v.ensures.0 at c.lowest_from-e.ensures) at c.if-e-lt-PLACES.false) c.if-most-atoms.false
+    (rw c.word_at-n.ensures.0 at c.if-state-n.false) (rw (rw c.word_at-n.ensures.0 at c.in_default.ensures) (omega arith))
+    (rw (rw c.word_at-v.ensures.0 at c.in_default-lowest_from.ensures) (omega arith)) c.if-most-atoms.false
 
 -- let most = check(table)?;
 pub returns-in_err-most : goal.returns-in_err-most

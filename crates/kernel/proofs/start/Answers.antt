@@ -1,6 +1,6 @@
 -- `start` meets its contract: the verdict, the room, and the state's bytes all zero.
 use Prim.Native.Nat.{◌*◌}
-use mathlib.Core.Path.{refl, sym, ap, ◌∙◌}
+use mathlib.Core.Path.{refl, sym, ap}
 use mathlib.Core.List.{◌++◌}
 use native.Mathlib.Omega.{arith}
 use lib.ListN.{drop}

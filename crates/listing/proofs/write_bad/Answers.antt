@@ -24,6 +24,3 @@ unfolding bad_line
 returns c =
     let all = writes_field (decimal c.args.number) (bytes "bad-line") [] c.number.ensures (writes_last (bytes "bad-line") c.text.ensures) in
     written (bad_fits c.args.number (omega arith)) (omega arith) (grind (arith, common_steps, all.puts, all.same_room))
-
-pub returns-then-room-lt-MORE : goal.returns-then-room-lt-MORE
-returns-then-room-lt-MORE c = unwritten _ (omega arith)

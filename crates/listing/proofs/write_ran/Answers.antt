@@ -84,6 +84,3 @@ returns c =
     (writes_field flag events (atoms ∷ []) c.put_flag.ensures
     (writes_field events atoms [] c.put_events.ensures.written (writes_last atoms c.put_atoms.ensures)))) in
     written fits (omega (arith, c.if-room-atoms.false)) (grind (arith, common_steps, all.puts, all.same_room))
-
-pub returns-then-room-atoms : goal.returns-then-room-atoms
-returns-then-room-atoms c = unwritten _ (omega arith)

@@ -24,6 +24,3 @@ returns c =
     let refusal = decimal c.args.refusal ∷ decimal c.args.index ∷ [] in
     let all = writes_field (decimal c.args.number) (bytes "refused") refusal c.number.ensures c.put_refusal.ensures in
     written (refused_fits c.args.number c.args.refusal c.args.index (omega arith) (omega arith) (omega arith)) (omega arith) (grind (arith, common_steps, all.puts, all.same_room))
-
-pub returns-then-room-lt-MORE : goal.returns-then-room-lt-MORE
-returns-then-room-lt-MORE c = unwritten _ (omega arith)

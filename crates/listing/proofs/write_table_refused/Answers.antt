@@ -10,15 +10,9 @@ use Rattle.listing.proofs.Room.{table_refused_fits}
 use Rattle.listing.proofs.Lines.{writes_field, written, unwritten}
 use Rattle.listing.proofs.write_table_refused.Goals as goal
 
-pub put_refusal-requires : goal.put_refusal-requires
-put_refusal-requires c = omega (arith, c.text.ensures.long, writes_end c.text.ensures)
-
 pub returns : goal.returns
 unfolding table_refused_line
 returns c =
     let refusal = decimal c.args.refusal ∷ decimal c.args.index ∷ [] in
     let all = writes_field (bytes "table") (bytes "refused") refusal c.text.ensures c.put_refusal.ensures in
     written (table_refused_fits c.args.refusal c.args.index (omega arith) (omega arith)) (omega arith) (grind (arith, common_steps, all.puts, all.same_room))
-
-pub returns-then-room-lt-MORE : goal.returns-then-room-lt-MORE
-returns-then-room-lt-MORE c = unwritten _ (omega arith)

@@ -4,4 +4,4 @@ use Rattle.listing.specs.Input.{longest}
 use Rattle.player.proofs.list_lines.Given as goal
 
 abbrev pub invariant-loop : goal.invariant-loop
-invariant-loop g l = (length l.input ≡ 65536) × (l.held ≤ longest + 1) × (l.session.number ≤ 65536 * l.counter + 1)
+invariant-loop g l = (length l.input ≡ 65536) × (l.held ≤ longest + 1) × (l.player.number ≤ 65536 * l.counter + 1)

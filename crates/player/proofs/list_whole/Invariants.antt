@@ -4,7 +4,7 @@ use Rattle.player.proofs.list_whole.Given as goal
 
 abbrev pub invariant-loop-line : goal.invariant-loop-line
 invariant-loop-line g l =
-    (l.session.number + length l.rest ≤ l.initial.session.number + length l.initial.text) × (length l.rest ≤ length l.initial.text)
+    (l.player.number + length l.rest ≤ l.initial.player.number + length l.initial.text) × (length l.rest ≤ length l.initial.text)
 
 abbrev pub decreases-loop-line : goal.decreases-loop-line
 decreases-loop-line g l = length l.rest

@@ -1,6 +1,6 @@
 -- The functions of a pass meet their contracts, form by form.
 use Prim.Native.Nat.{ℕ, ◌+◌}
-use mathlib.Core.Path.{◌≡◌, refl, ap, sym, ◌∙◌}
+use mathlib.Core.Path.{refl, sym, ◌∙◌}
 use mathlib.Core.Logic.{inl, inr}
 use borrow.Author.Rules.{rules}
 use lib.Dec.{lit<}
@@ -14,33 +14,30 @@ use Rattle.runner.proofs.Falling.{child_rank, form_rank, last_rank, lighter, bel
 use Rattle.steps.proofs.Ended.{done_run}
 use Rattle.steps.proofs.Slices.{all_same, named_then}
 use Rattle.steps.proofs.LeafRuns.{event_below}
-use Rattle.runner.proofs.ControlRuns.{control_body, control_run, control_idle}
+use Rattle.runner.proofs.ControlRuns.{control_body, control_run, control_rests, control_ends}
 use native.Mathlib.Omega.{arith}
 use Rattle.steps.specs.Lent.{lent_of, lent_then, HasRun, HasPassed, Named}
 use Rattle.steps.specs.Running.{Any}
 use Rattle.runner.proofs.HalfRuns.{half_second_in, half_second_few, half_left, half_left_joins, half_left_keeps, half_left_done, half_right, half_right_joins, half_right_done}
-use Rattle.runner.proofs.LocalRuns.{local_enters, local_body, local_leaves, local_writes_in, local_done}
+use Rattle.runner.proofs.LocalRuns.{local_enters, local_body, local_writes_in, local_done}
 use Rattle.runner.proofs.Stages.{Beginning, Starred, InThen}
 use Rattle.runner.proofs.GoesOn.{GoesOnAs}
 use Rattle.runner.proofs.LoopRuns.{begin_body, begin_writes_in, loop_begun, loop_begins, loop_body, loop_stays, loop_anew}
 use Rattle.runner.proofs.ParRuns.{par_second_in, par_joins, par_done}
 use Rattle.runner.proofs.ChainRuns.{first_link, above_fits, chain_first, chain_second, next_link, second_done as chain_done}
-use Rattle.runner.proofs.RepeatRuns.{TurnsIn, repeat_none, repeat_turn, repeat_by, numbers_long, first_turn, next_turn, times_body, times_own, times_wait, times_end}
+use Rattle.runner.proofs.RepeatRuns.{TurnsIn, repeat_none, repeat_turn, repeat_by, first_turn, next_turn, times_body, times_own, times_wait, times_end}
 use Rattle.runner.proofs.SeqRuns.{second_in, goes_into, second_writes_in, second_done, to_second, by_second, seq_first, seq_second_in, seq_stays, seq_goes_on}
 use Rattle.runner.proofs.UntilRuns.{star_tests, star_second_in, star_few, star_body, star_read}
 use Rattle.runner.proofs.BreakRuns.{StoppedIn, body_first, body_goes_on, body_stopped, stopped_already}
 use Rattle.runner.proofs.Branches.{Branches, by_own_phase}
 use Rattle.runner.proofs.WhenRuns.{then_first, then_writes_in, then_done, when_tests, when_suspends, when_branches, when_stops}
 use Rattle.runner.proofs.IfRuns.{if_asks, if_branches}
-use Rattle.state.specs.Kinds.{loop_kind, control_kind}
+use Rattle.state.specs.Kinds.{loop_kind}
 use denote.Enum.Bare.{same_true, same_false}
 use Rattle.junior.specs.contracts.Verdict.{the_type}
 use Rattle.junior.specs.declared.Verdict.TheVariants.{Unknown}
 use Rattle.junior.specs.declared.Flag.TheVariants.{SUSP, STOP, TERM}
-use Rattle.steps.specs.Flags.{flag_of}
-use Rattle.steps.specs.Numbers.{ended_at}
 use Rattle.steps.proofs.FlagTests.{eq_is, ne_is, ne_not}
-use lib.ListN.{get_or}
 use Rattle.steps.specs.Kinds.{OfKind, Break, Choice}
 use Rattle.runner.proofs.+run.Goals.{run_loop-Joined-phase-eq-BEGUN, run_loop-then-phase-eq-BEGUN+else-ne, run_loop-else-phase-eq-BEGUN}
 use Rattle.runner.proofs.+run.Goals.{run_par-Then-eq-2, run_par-Else-eq-2, run_par-then-kind_at-ne-PAR, run_par-else-kind_at-ne-PAR+then-both_suspended+else-eq, run_par-else-kind_at-ne-PAR+else-both_suspended}
@@ -48,7 +45,7 @@ use Rattle.runner.proofs.+run.Goals.{run_repeat-Then-ne, run_repeat-Then-left-eq
 use Rattle.runner.proofs.+run.Goals.{run_second-Joined-pass-second-eq-SECOND, run_second-then-pass-second-eq-SECOND, run_second-else-pass-second-eq-SECOND}
 use Rattle.runner.proofs.+run.Goals.{run_seq-Joined-kind_at-eq-SEQ, run_seq-then-kind_at-eq-SEQ, run_seq-else-kind_at-eq-SEQ}
 use Rattle.runner.proofs.+run.Goals.{run_until-Joined-phase-ne-STARRED, run_until-Else-kind_at-eq-FREEZABLE, run_until-then-phase-ne-STARRED+else-ne, run_until-else-phase-ne-STARRED}
-use Rattle.runner.proofs.+run.Goals.{run_when-Else-second, run_when-then-phase-eq0+then-kind_at-eq-IF, run_when-then-phase-eq0+else-kind_at-eq-IF+else-eq+else-pass-ne0, run_when-else-phase-eq0}
+use Rattle.runner.proofs.+run.Goals.{run_when-Else-second, run_when-then-phase-eq0+then-kind_at-eq-IF, run_when-then-phase-eq0+else-kind_at-eq-IF+else-eq+else-pass, run_when-else-phase-eq0}
 use Rattle.runner.proofs.+run.Goals as goal
 
 -- A node run once, the most frequent kinds told apart first: whatever function runs it, it is run by the rules.
@@ -194,8 +191,7 @@ run_control-argument_at-requires t c = argument_reads c.requires
 
 pub run_control-has_event-requires : goal.run_control-has_event-requires
 run_control-has_event-requires t c =
-    let (long, reads, below) = control_event c.requires in
-    (long, event_below c.argument_at.ensures.0 below)
+    event_below c.argument_at.ensures.0 (control_event c.requires)
 
 pub run_control-run_child-requires : goal.run_control-run_child-requires
 run_control-run_child-requires t c = control_body c.if-pass-i-eq-GONE.false c.argument_at.ensures.0 (sym c.has_event.ensures ∙ c.if-has_event.true) c.requires c.decreases
@@ -204,20 +200,15 @@ pub run_control-returns-then-has_event : goal.run_control-returns-then-has_event
 run_control-returns-then-has_event t c =
     handed (control_run c.if-pass-i-eq-GONE.false c.argument_at.ensures.0 (sym c.has_event.ensures ∙ c.if-has_event.true)) c.run_child.ensures
 
-pub run_control-returns-then-pass-eq0 : goal.run_control-returns-then-pass-eq0
-run_control-returns-then-pass-eq0 t c =
-    let p = c.args.pass.now in
-    let absent = sym c.has_event.ensures ∙ c.if-has_event.false in
-    let run : HasRun 0 (OfKind control_kind) (lent_of p) c.args.i (lent_of p) (flag_of (get_or p.numbers ended_at 0)) = control_idle c.if-pass-i-eq-GONE.false c.argument_at.ensures.0 absent in
-    untouched (rw c.if-pass-eq0.true at run)
-
 pub run_control-returns : goal.run_control-returns
 run_control-returns t c =
-    let p = c.args.pass.now in
     let absent = sym c.has_event.ensures ∙ c.if-has_event.false in
-    let run : HasRun 0 (OfKind control_kind) (lent_of p) c.args.i (lent_of p) (flag_of (get_or p.numbers ended_at 0)) = control_idle c.if-pass-i-eq-GONE.false c.argument_at.ensures.0 absent in
-    let ended : get_or p.numbers ended_at 0 ≡ 1 = omega (arith, c.requires.3.numbers.ended_below, c.if-pass-eq0.false) in
-    untouched (rw ended at run)
+    untouched (control_ends c.if-pass-i-eq-GONE.false c.argument_at.ensures.0 absent c.if-not-pass.false)
+
+pub run_control-returns-then-not-pass : goal.run_control-returns-then-not-pass
+run_control-returns-then-not-pass t c =
+    let absent = sym c.has_event.ensures ∙ c.if-has_event.false in
+    untouched (control_rests c.if-pass-i-eq-GONE.false c.argument_at.ensures.0 absent c.if-not-pass.true)
 
 pub run_control-bounds-pass-i : goal.run_control-bounds-pass-i
 run_control-bounds-pass-i t c = phase_reads c.requires
@@ -298,7 +289,7 @@ run_local-run_child-f-requires t c =
 
 pub run_local-exchange_event-inside-requires : goal.run_local-exchange_event-inside-requires
 run_local-exchange_event-inside-requires t c =
-    local_leaves c.if-phase-eq-GONE.false c.argument_at-event.ensures.0 c.exchange_event-outside.ensures.1 c.run_child-f.ensures.has_run c.requires
+    local_enters c.if-phase-eq-GONE.false c.argument_at-event.ensures.0 c.requires
 
 pub run_local-returns : goal.run_local-returns
 run_local-returns t c =
@@ -571,7 +562,7 @@ pub run_repeat-returns-then-phase-eq-GONE : goal.run_repeat-returns-then-phase-e
 run_repeat-returns-then-phase-eq-GONE t c = passed (done_run c.if-phase-eq-GONE.true) all_same
 
 pub run_repeat-times_at-turns-requires : goal.run_repeat-times_at-turns-requires
-run_repeat-times_at-turns-requires t c = (numbers_long c.requires, argument_reads c.requires)
+run_repeat-times_at-turns-requires t c = argument_reads c.requires
 
 pub run_repeat-returns-then-turns-eq0 : goal.run_repeat-returns-then-turns-eq0
 run_repeat-returns-then-turns-eq0 t c =
@@ -911,17 +902,17 @@ run_when-returns-then-eq t c =
     let is = the_first c.kind_at.ensures.0 c.if-kind_at-eq-IF.false c.requires in
     untouched (by_kind refl is (when_suspends c.if-phase-eq0.true c.test_at-verdict.ensures (same_true the_type tt _ Unknown (sym c.eq.ensures ∙ c.if-eq.true))))
 
-pub run_when-returns-then-pass-ne0 : goal.run_when-returns-then-pass-ne0
-run_when-returns-then-pass-ne0 t c =
+pub run_when-returns-then-pass : goal.run_when-returns-then-pass
+run_when-returns-then-pass t c =
     let is = the_first c.kind_at.ensures.0 c.if-kind_at-eq-IF.false c.requires in
-    let stops = when_stops c.if-phase-eq0.true c.test_at-verdict.ensures (same_false the_type _ Unknown (sym c.eq.ensures ∙ c.if-eq.false)) c.eq-second.ensures c.if-pass-ne0.true c.chosen.ensures in
+    let stops = when_stops c.if-phase-eq0.true c.test_at-verdict.ensures (same_false the_type _ Unknown (sym c.eq.ensures ∙ c.if-eq.false)) c.eq-second.ensures c.if-pass.true c.chosen.ensures in
     passed (by_kind refl is stops) all_same
 
 pub run_when-run_second-requires : goal.run_when-run_second-requires
 run_when-run_second-requires t c =
     let chooses : Branches Choice (lent_of c.args.pass.now) c.args.i c.if-phase-eq0.second = elim c.if-phase-eq0.branch [
       | run_when-then-phase-eq0+then-kind_at-eq-IF w ↦ if_branches w.kind_at.ensures.0 w.if-kind_at-eq-IF.true w.if-phase-eq0.true w.argument_at.ensures.0 w.value_of-second.ensures w.second-is c.requires
-      | run_when-then-phase-eq0+else-kind_at-eq-IF+else-eq+else-pass-ne0 w ↦ when_branches w.kind_at.ensures.0 w.if-kind_at-eq-IF.false w.if-phase-eq0.true w.test_at-verdict.ensures (same_false the_type _ Unknown (sym w.eq.ensures ∙ w.if-eq.false)) (w.second-is ∙ w.eq-second.ensures) w.if-pass-ne0.false c.requires
+      | run_when-then-phase-eq0+else-kind_at-eq-IF+else-eq+else-pass w ↦ when_branches w.kind_at.ensures.0 w.if-kind_at-eq-IF.false w.if-phase-eq0.true w.test_at-verdict.ensures (same_false the_type _ Unknown (sym w.eq.ensures ∙ w.if-eq.false)) (w.second-is ∙ w.eq-second.ensures) w.if-pass.false c.requires
       | run_when-else-phase-eq0 w ↦ by_own_phase (λ t u. u) c.if-phase-eq-GONE.false w.if-phase-eq0.false c.requires w.second-is
     ] in
     (below_form _ c.decreases, (chooses.to_second c.if-second.true).can)
@@ -930,7 +921,7 @@ pub run_when-returns-then-second : goal.run_when-returns-then-second
 run_when-returns-then-second t c =
     let chooses : Branches Choice (lent_of c.args.pass.now) c.args.i c.if-phase-eq0.second = elim c.if-phase-eq0.branch [
       | run_when-then-phase-eq0+then-kind_at-eq-IF w ↦ if_branches w.kind_at.ensures.0 w.if-kind_at-eq-IF.true w.if-phase-eq0.true w.argument_at.ensures.0 w.value_of-second.ensures w.second-is c.requires
-      | run_when-then-phase-eq0+else-kind_at-eq-IF+else-eq+else-pass-ne0 w ↦ when_branches w.kind_at.ensures.0 w.if-kind_at-eq-IF.false w.if-phase-eq0.true w.test_at-verdict.ensures (same_false the_type _ Unknown (sym w.eq.ensures ∙ w.if-eq.false)) (w.second-is ∙ w.eq-second.ensures) w.if-pass-ne0.false c.requires
+      | run_when-then-phase-eq0+else-kind_at-eq-IF+else-eq+else-pass w ↦ when_branches w.kind_at.ensures.0 w.if-kind_at-eq-IF.false w.if-phase-eq0.true w.test_at-verdict.ensures (same_false the_type _ Unknown (sym w.eq.ensures ∙ w.if-eq.false)) (w.second-is ∙ w.eq-second.ensures) w.if-pass.false c.requires
       | run_when-else-phase-eq0 w ↦ by_own_phase (λ t u. u) c.if-phase-eq-GONE.false w.if-phase-eq0.false c.requires w.second-is
     ] in
     handed (chooses.to_second c.if-second.true).has c.run_second.ensures
@@ -940,7 +931,7 @@ goes_into_first : (t : ℕ) (c : run_when-Else-second t) → let L = lent_of c.a
 goes_into_first t c =
     let chooses : Branches Choice (lent_of c.args.pass.now) c.args.i c.if-phase-eq0.second = elim c.if-phase-eq0.branch [
       | run_when-then-phase-eq0+then-kind_at-eq-IF w ↦ if_branches w.kind_at.ensures.0 w.if-kind_at-eq-IF.true w.if-phase-eq0.true w.argument_at.ensures.0 w.value_of-second.ensures w.second-is c.requires
-      | run_when-then-phase-eq0+else-kind_at-eq-IF+else-eq+else-pass-ne0 w ↦ when_branches w.kind_at.ensures.0 w.if-kind_at-eq-IF.false w.if-phase-eq0.true w.test_at-verdict.ensures (same_false the_type _ Unknown (sym w.eq.ensures ∙ w.if-eq.false)) (w.second-is ∙ w.eq-second.ensures) w.if-pass-ne0.false c.requires
+      | run_when-then-phase-eq0+else-kind_at-eq-IF+else-eq+else-pass w ↦ when_branches w.kind_at.ensures.0 w.if-kind_at-eq-IF.false w.if-phase-eq0.true w.test_at-verdict.ensures (same_false the_type _ Unknown (sym w.eq.ensures ∙ w.if-eq.false)) (w.second-is ∙ w.eq-second.ensures) w.if-pass.false c.requires
       | run_when-else-phase-eq0 w ↦ by_own_phase (λ t u. u) c.if-phase-eq-GONE.false w.if-phase-eq0.false c.requires w.second-is
     ] in
     chooses.to_first c.if-second.false

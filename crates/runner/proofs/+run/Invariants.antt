@@ -44,7 +44,7 @@ abbrev pub invariant-run_par-loop-pass : goal.invariant-run_par-loop-pass
 invariant-run_par-loop-pass l =
     let p = l.initial.pass in
     let now = lent_then p l.pass in
-    Chain (lent_of p) l.i now.table now.state now.numbers now.rooms l.above l.at × Named p l.pass
+    Chain (lent_of p) l.i now.table now.state now.progress now.rooms l.above l.at × Named p l.pass
 
 abbrev pub decreases-run_par-loop-pass : goal.decreases-run_par-loop-pass
 decreases-run_par-loop-pass l = size_at l.initial.pass.table.now l.at

@@ -24,9 +24,9 @@ joined_rank k a b = cond (eqb k 2) (min a b) (max a b)
 
 -- whatever configuration stands at byte c, r is its rank, an absent event's being given
 abbrev pub RanksAs : List ℕ → ℕ → List ℕ → ℕ → ℕ → Type 0
-RanksAs t c numbers absent r =
+RanksAs t c words absent r =
     (d : Config) (ended moved : Bool) → Configured t c d → absent ≡ absent_rank ended
-    → r ≡ rank (test d (environment numbers ended moved))
+    → r ≡ rank (test d (environment words ended moved))
 
 abbrev pub IsAbsentRank : ℕ → Type 0
 IsAbsentRank absent = (ended : Bool) × (absent ≡ absent_rank ended)

@@ -1,10 +1,13 @@
 -- Weighing the nodes from the last to the first. Private contracts alone cite this file.
-use Rattle.std.specs.Prelude.{ℕ, zero, suc, ◌+◌, ◌*◌, ◌≤◌, ◌<◌, min, max, Bool, true, cond, ◌≡◌, List, length, get_or, set}
+use Rattle.std.specs.Prelude.{ℕ, zero, suc, ◌+◌, ◌*◌, ◌≤◌, ◌<◌, min, max, true, cond, ◌≡◌, List, Option, MatchOption, length, get_or}
+use mir.Val.{bool_byte}
 use Rattle.junior.specs.Program.{Program, number, capped, argument, Parts, no_part, one_part, two_parts, parts, size}
 use Rattle.junior.specs.Figures.{stops, figure, per, every, parking}
+use Rattle.table.specs.declared.kinds.Kind.{Kind}
 use Rattle.table.specs.declared.weights.Weight.{Weight}
 use Rattle.table.specs.Records.{nodes, kind_at, zero_at, size_at}
-use Rattle.table.specs.Good.{known, children, argument_limit, good_node}
+use Rattle.table.specs.Kinds.{kind_number}
+use Rattle.table.specs.Good.{good_node}
 use Rattle.table.specs.Spells.{cap_in, program_of}
 use Rattle.table.specs.Verdict.{endless_loop}
 use Rattle.table.specs.Inside.{Framed, ConfigurationsGood, NodesGood}
@@ -32,16 +35,13 @@ levels (two_parts f q r) = 1 + max (levels q) (levels r)
 unfoldable pub height : Program → ℕ
 height p = levels (parts p)
 
-abbrev pub bit : Bool → ℕ
-bit b = cond b 1 0
-
 pub record Weighs (x : Weight) (p : Program) : Type 0 where
   pub generations_are : Figure (per 7) p x.generations
   pub atoms_are : Figure (per 2) p x.atoms
   pub nodes_are : Figure every p x.nodes
   pub parked_are : Figure parking p x.parked
   pub height_is : x.height ≡ height p
-  pub stops_is : x.stops ≡ bit (stops p)
+  pub stops_is : x.stops ≡ bool_byte (stops p)
 
 -- x counted c times, no further than 65,536
 abbrev pub counted : ℕ → ℕ → ℕ
@@ -102,35 +102,16 @@ pub record Small (x : Weight) : Type 0 where
   pub parked_small : x.parked ≤ 268439552
   pub height_small : x.height ≤ 4096
 
--- `waiting`, a row that has the lowest endless Loop so far and, behind it, places for six numbers each: what is in place `at`, and the row
--- with x there
-abbrev pub weight_at : List ℕ → ℕ → Weight
-weight_at w at =
-    record {
-      generations = get_or w (6 * at + 1) 0;
-      atoms = get_or w (6 * at + 2) 0;
-      nodes = get_or w (6 * at + 3) 0;
-      parked = get_or w (6 * at + 4) 0;
-      height = get_or w (6 * at + 5) 0;
-      stops = get_or w (6 * at + 6) 0;
-    }
+-- what is in place `at` of a row of weights
+abbrev pub no_weight : Weight
+no_weight = record { generations = 0; atoms = 0; nodes = 0; parked = 0; height = 0; stops = 0 }
 
-unfoldable pub put : List ℕ → ℕ → Weight → List ℕ
-put w at x =
-    set
-    (set
-    (set
-    (set (set (set w (6 * at + 1) x.generations) (6 * at + 2) x.atoms) (6 * at + 3) x.nodes)
-    (6 * at + 4)
-    x.parked)
-    (6 * at + 5)
-    x.height)
-    (6 * at + 6)
-    x.stops
+abbrev pub weight_at : List Weight → ℕ → Weight
+weight_at w at = get_or w at no_weight
 
--- it has a place for each of n nodes, or 64
-abbrev pub Roomy : List ℕ → ℕ → Type 0
-Roomy w n = 6 * min n 64 < length w
+-- the row has a place for each of n nodes, or 64
+abbrev pub Roomy : List Weight → ℕ → Type 0
+Roomy w n = min n 64 ≤ length w
 
 -- from node i on that many programs stand one behind another, up to the end
 unfoldable pub Row : List ℕ → ℕ → ℕ → Type 0
@@ -138,7 +119,7 @@ Row t zero i = i ≡ nodes t
 Row t (suc k) i = (i < nodes t) × Row t k (i + size_at t i)
 
 -- and what they weigh is in the first places, the first program's on top
-unfoldable pub Waiting : List ℕ → List ℕ → ℕ → ℕ → Type 0
+unfoldable pub Waiting : List ℕ → List Weight → ℕ → ℕ → Type 0
 Waiting t w zero i = i ≡ nodes t
 Waiting t w (suc k) i = (i < nodes t) × Weighs (weight_at w k) (tree_at t i) × Waiting t w k (i + size_at t i)
 
@@ -156,17 +137,9 @@ pub record Within (t : List ℕ) (n i : ℕ) : Type 0 where
   pub whole : size_at t 0 ≡ n
   pub here : i < n
 
--- its kind, what its argument must be below, and how many children it has
-pub record OfKind (t : List ℕ) (i k limit count : ℕ) : Type 0 where
-  pub kind_is : kind_at t i ≡ k
-  pub known_kind : known k ≡ true
-  pub limit_is : argument_limit t k ≡ limit
-  pub count_is : children k ≡ count
-
--- and its zero byte is zero
-pub record Headed (t : List ℕ) (i k limit count : ℕ) : Type 0 where
-  pub of_kind : OfKind t i k limit count
-  pub zero_is : zero_at t i ≡ 0
+-- its head is the number of kind k
+abbrev pub HeadIs : List ℕ → ℕ → Kind → Type 0
+HeadIs t i k = kind_number k ≡ kind_at t i + 256 * zero_at t i
 
 -- past 5
 pub record AllGood (t : List ℕ) : Type 0 where
@@ -176,7 +149,7 @@ pub record AllGood (t : List ℕ) : Type 0 where
   pub good : NodesGood t
 
 -- before node i is placed: the table is past 4, and all nodes behind i are good and weighed
-pub record ToPlace (t w : List ℕ) (n i top : ℕ) : Type 0 where
+pub record ToPlace (t : List ℕ) (w : List Weight) (n i top : ℕ) : Type 0 where
   pub within : Within t n i
   pub configurations_good : ConfigurationsGood t
   pub good_behind : (j : ℕ) → i < j → j < n → good_node t j ≡ true
@@ -185,15 +158,15 @@ pub record ToPlace (t w : List ℕ) (n i top : ℕ) : Type 0 where
   pub room : top ≤ 64
   pub few : i + 1 + top ≤ n
 
--- node i is placed, and r programs wait
-pub record NowPlaced (t w w' : List ℕ) (i r : ℕ) : Type 0 where
+-- node i is placed, r programs wait, and e' is the lowest endless Loop so far, after e
+pub record NowPlaced (t : List ℕ) (w w' : List Weight) (e e' i r : ℕ) : Type 0 where
   pub good : good_node t i ≡ true
   pub long_row : length w' ≡ length w
   pub waits : Waiting t w' r i
   pub room : r ≤ 64
   pub few : i + r ≤ nodes t
-  pub endless : get_or w' 0 0 ≡ cond (endless_loop (tree_at t i)) i (get_or w 0 0)
+  pub endless : e' ≡ cond (endless_loop (tree_at t i)) i e
 
--- r is 0 where node i isn't good, or would be the 65th to wait
-abbrev pub Places : List ℕ → List ℕ → List ℕ → ℕ → ℕ → Type 0
-Places t w w' i r = (0 < r → NowPlaced t w w' i r) × (r ≡ 0 → good_node t i ≡ true → Row t 65 i)
+-- no program waits more where node i isn't good, or would be the 65th to wait
+abbrev pub Places : List ℕ → List Weight → List Weight → ℕ → ℕ → ℕ → Option ℕ → Type 0
+Places t w w' e e' i r = MatchOption r (good_node t i ≡ true → Row t 65 i) (λ top. NowPlaced t w w' e e' i top)

@@ -63,7 +63,7 @@ returns-else-not-marked c =
     event_holds X (itself_waits h X e c.kind_at-kind.ensures.0 refl (sym c.is_test.ensures ∙ c.if-is_test.false) so)
     (rw c.argument_at-event.ensures.0 at (sym c.marked.ensures ∙ c.if-not-marked.false))
 
--- return event;
+-- return Some(event);
 pub returns-then-not-marked : goal.returns-then-not-marked
 returns-then-not-marked c =
     λ x w h e.

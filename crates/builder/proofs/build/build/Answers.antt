@@ -12,7 +12,7 @@ pub loop-i-init : goal.loop-i-init
 loop-i-init c =
     under_back c.requires.1 (under_starts c.requires.1 _ _ _ refl (length-replicate {A = ℕ} 8192 0) refl) c.back_to_acting-i.ensures
 
--- front = place(&names, b, level, &text[i..], table, front);
+-- front.place(&names, b, level, &text[i..], table);
 pub place-requires : goal.place-requires
 place-requires c =
     rw c.byte_at-level.ensures (place_ready c.requires.1 c.loop-i.invariant c.loop-i-test.true)
@@ -33,7 +33,7 @@ loop-i-preserved c =
     (rw c.byte_at-level.ensures at c.place.ensures) c.relevel-depth.ensures c.relevel-depth.auto.levels c.place.auto.table in
     under_back c.requires.1 on c.back_to_acting-i-in-loop-i.ensures
 
--- put_trailer(table, 6 * n + 4 * m, n, m, v);
+-- put_trailer(table, 6 * n + 4 * m, sizes);
 pub put_trailer-requires : goal.put_trailer-requires
 put_trailer-requires c =
     record { in_the_table = search rules; size_bound = search rules }

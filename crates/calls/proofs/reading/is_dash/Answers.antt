@@ -4,7 +4,7 @@ use Rattle.calls.specs.Words.{is_dash}
 use lib.ListN.{length}
 use Rattle.calls.proofs.reading.is_dash.Goals as goal
 
--- return text[0] == 45;
+-- return text[0] == b'-';
 pub returns-then-text-eq1 : goal.returns-then-text-eq1
 unfolding is_dash
 returns-then-text-eq1 c =

@@ -21,11 +21,6 @@ returns-then-not-fits c =
 pub loop-i-init : goal.loop-i-init
 loop-i-init c = held_none _ _ _ _
 
-pub byte_at-requires : goal.byte_at-requires
-byte_at-requires c =
-    let fit = fitting_so c.fits.ensures c.if-not-fits.false in
-    omega (arith, fit.long_is, c.loop-i-test.true)
-
 pub returns-in_err-byte : goal.returns-in_err-byte
 returns-in_err-byte c =
     let text = c.args.text.now in

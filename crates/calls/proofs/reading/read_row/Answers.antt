@@ -21,11 +21,6 @@ returns-then-not-fits c =
 pub loop-i-init : goal.loop-i-init
 loop-i-init c = held_none _ _ _ _
 
-pub number_at-requires : goal.number_at-requires
-number_at-requires c =
-    let fit = fitting_so c.fits.ensures c.if-not-fits.false in
-    omega (arith, fit.long_is, c.loop-i-test.true)
-
 pub returns-in_err-number : goal.returns-in_err-number
 returns-in_err-number c =
     let text = c.args.text.now in

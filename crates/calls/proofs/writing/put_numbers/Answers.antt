@@ -25,9 +25,3 @@ loop-number-preserved c =
       omega (arith, number_ends 19 n 32 (omega (arith, c.type_inv.list i)) c.number.ensures),
       rw (spaced_more c.args.list.now i (omega arith)) (writes_then c.loop-number.invariant.1 c.number.ensures),
     )
-
-pub returns : goal.returns
-returns c =
-    let list = c.args.list.now in
-    let all : c.loop-number.number-index ≡ length list = omega arith in
-    record { written = rw (all, take-length list) at c.loop-number.invariant.1; short = omega arith }

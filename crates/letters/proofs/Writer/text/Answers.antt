@@ -1,10 +1,19 @@
--- `Writer::text` meets its contract: the text's first bytes are written.
+-- `Writer::text` meets its contract: the text's bytes stand in their part of the room.
+use Prim.Native.Nat.{◌+◌, ◌-◌}
+use mathlib.Core.Path.{◌≡◌, refl, ap, ◌∙◌}
 use native.Mathlib.Omega.{arith}
-use Rattle.letters.proofs.Writes.{writes_none, writes_byte}
+use lib.ListN.{length}
+use borrow.Rule.Slice.PartMut.{put_mid}
+use lib.Seq.{length-sets}
+use Rattle.letters.proofs.Rooms.{sets_part}
 use Rattle.letters.proofs.Writer.text.Goals as goal
 
-pub loop-byte-init : goal.loop-byte-init
-loop-byte-init c = writes_none c.args.self.now
-
-pub loop-byte-preserved : goal.loop-byte-preserved
-loop-byte-preserved c = writes_byte c.args.text.now c.loop-byte.byte-index (omega arith) c.loop-byte.invariant c.byte.ensures
+pub returns : goal.returns
+returns c =
+    let at = c.args.self.now.at in
+    let room = c.args.self.now.room.now in
+    let text = c.args.text.now in
+    let k = at + length text - at in
+    let n : k ≡ length text = omega arith in
+    let put = ap (put_mid at k room) c.copy_from_slice.ensures.after ∙ sets_part room text at k n c.requires in
+    record { same_room = refl; long = ap length put ∙ length-sets room at text; puts = record { next = refl; room = put } }

@@ -4,9 +4,6 @@ use Rattle.letters.proofs.Writes.{writes_end}
 use Rattle.listing.proofs.Lists.{dash_ends, comma_ends}
 use Rattle.listing.proofs.output.end_list.Goals as goal
 
-pub byte-requires-then-from-out : goal.byte-requires-then-from-out
-byte-requires-then-from-out c = omega (arith, writes_end c.byte.ensures, c.byte.ensures.long)
-
 pub returns-then-from-out : goal.returns-then-from-out
 returns-then-from-out c =
     record {

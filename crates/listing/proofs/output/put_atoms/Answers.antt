@@ -24,12 +24,3 @@ loop-atom-preserved c =
       omega (arith, number_ends 4 atom 44 (omega (arith, c.type_inv.atoms c.loop-atom.atom-index)) c.number.ensures),
       writes_item c.args.atoms.now c.loop-atom.atom-index (omega arith) c.loop-atom.invariant.1 c.number.ensures,
     )
-
-pub end_list-requires : goal.end_list-requires
-end_list-requires c = (omega (arith, c.loop-atom.invariant.1.puts.next), omega (arith, c.loop-atom.invariant.1.long))
-
-pub returns : goal.returns
-returns c =
-    let atoms = c.args.atoms.now in
-    let all : c.loop-atom.atom-index ≡ length atoms = omega arith in
-    c.end_list.ensures.ended c.args.out.now atoms refl (rw (all, take-length atoms) at c.loop-atom.invariant.1)

@@ -15,9 +15,6 @@ pub loop-i-init : goal.loop-i-init
 unfolding items rising
 loop-i-init c = (omega arith, writes_none c.args.out.now)
 
-pub put_word-requires : goal.put_word-requires
-put_word-requires c = (omega arith, omega (arith, c.loop-i.invariant.1.long))
-
 pub loop-i-preserved : goal.loop-i-preserved
 loop-i-preserved c =
     let words = c.args.events.words in
@@ -26,15 +23,3 @@ loop-i-preserved c =
       rw (rising_word words i, items_append (rising (64 * i) (members c.args.events)) (events_of (64 * i) (get_or words i 0)))
           (writes_then c.loop-i.invariant.1 c.put_word.ensures.written),
     )
-
-pub end_list-requires : goal.end_list-requires
-end_list-requires c = (omega (arith, c.loop-i.invariant.1.puts.next), omega (arith, c.loop-i.invariant.1.long))
-
-pub returns : goal.returns
-returns c =
-    let X = members c.args.events in
-    let all : 64 * c.loop-i.i ≡ places = omega arith in
-    record {
-      written = c.end_list.ensures.ended c.args.out.now (rising places X) refl (rw all at c.loop-i.invariant.1);
-      short = omega (arith, c.end_list.ensures.short);
-    }

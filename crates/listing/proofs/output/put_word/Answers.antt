@@ -33,12 +33,6 @@ number-requires c =
     let below = low_digit loop.left loop.invariant.0 c.loop-left-test.true in
     omega (arith, loop.invariant.2.long, decimal_length 4 (c.args.base + low loop.left) (omega arith))
 
--- left &= !(1 << low);
-pub overflow_shl-left : goal.overflow_shl-left
-overflow_shl-left c =
-    let loop = c.loop-left in
-    omega (arith, low_digit loop.left loop.invariant.0 c.loop-left-test.true)
-
 -- while left != 0 {
 pub loop-left-smaller : goal.loop-left-smaller
 loop-left-smaller c =
@@ -67,9 +61,3 @@ returns c =
     let loop = c.loop-left in
     let all = ap low c.loop-left-test.false ∙ trailing_of_zero 64 in
     record { written = rw all at loop.invariant.2; short = omega arith }
-
-pub overflow_cast-low : goal.overflow_cast-low
-overflow_cast-low c = omega (arith, trailing_le 64 c.loop-left.left)
-
-pub overflow_add-base : goal.overflow_add-base
-overflow_add-base c = omega (arith, trailing_le 64 c.loop-left.left)

@@ -14,25 +14,20 @@ use Rattle.printer.proofs.room.put_number.Goals as goal
 digits_are : (n : ℕ) {b : List ℕ} {r : ℕ} → n < 2 ^ 64 → Puts (replicate 20 0) b 0 (decimal n) r → take r b ≡ decimal n
 digits_are n h p = puts_front p (omega (arith, length-replicate {A = ℕ} 20 0, decimal_length 19 n (omega arith)))
 
--- let long = put_digits(&mut digits, 0, n as u64);
-pub put_digits-long-requires : goal.put_digits-long-requires
-put_digits-long-requires c =
+-- out.decimal(n as u64);
+pub decimal-requires : goal.decimal-requires
+decimal-requires c =
     omega (arith, decimal_length 19 c.args.n (omega arith))
-
--- put(room, at, &digits[..long])
-pub slice_bounds-digits-end : goal.slice_bounds-digits-end
-slice_bounds-digits-end c =
-    omega (arith, c.put_digits-long.ensures.next, c.put_digits-long.auto.room, decimal_length 19 c.args.n (omega arith))
 
 pub slice_bounds-put-end : goal.slice_bounds-put-end
 slice_bounds-put-end c =
-    omega (arith, c.put_digits-long.ensures.next, ap length (digits_are c.args.n (omega arith) c.put_digits-long.ensures))
+    omega (arith, c.decimal.ensures.puts.next, ap length (digits_are c.args.n (omega arith) c.decimal.ensures.puts))
 
 pub put-requires : goal.put-requires
 put-requires c =
-    rw (digits_are c.args.n (omega arith) c.put_digits-long.ensures) c.requires
+    rw (digits_are c.args.n (omega arith) c.decimal.ensures.puts) c.requires
 
 -- pub fn put_number
 pub returns : goal.returns
 returns c =
-    rw (digits_are c.args.n (omega arith) c.put_digits-long.ensures) at c.put.ensures
+    rw (digits_are c.args.n (omega arith) c.decimal.ensures.puts) at c.put.ensures

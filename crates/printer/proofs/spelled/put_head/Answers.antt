@@ -12,7 +12,7 @@ pub kind_at-kind-requires : goal.kind_at-kind-requires
 kind_at-kind-requires c =
     omega (arith, in_table c.requires.placed 0 (size_pos c.requires.program))
 
--- let inside = name_end(names, FIRST_FORM + kind);
+-- let inside = names.name_end(FIRST_FORM + kind);
 pub overflow_add-kind : goal.overflow_add-kind
 overflow_add-kind c =
     let e = c.kind_at-kind.ensures.0 in

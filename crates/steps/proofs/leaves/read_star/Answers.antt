@@ -8,8 +8,8 @@ returns-in-Unknown c = waits c.in-Unknown.is
 pub returns-in-Unsat : goal.returns-in-Unsat
 returns-in-Unsat c = refused c.in-Unsat.is
 
-pub returns-then-ended-eq0 : goal.returns-then-ended-eq0
-returns-then-ended-eq0 c = rw c.clear_part.ensures (satisfied c.in-Sat.is c.if-ended-eq0.true)
+pub returns-then-ended : goal.returns-then-ended
+returns-then-ended c = rw c.clear_part.ensures (satisfied_late c.in-Sat.is c.if-ended.true)
 
-pub returns-else-ended-eq0 : goal.returns-else-ended-eq0
-returns-else-ended-eq0 c = rw c.clear_part.ensures (satisfied_late c.in-Sat.is c.if-ended-eq0.false)
+pub returns-else-ended : goal.returns-else-ended
+returns-else-ended c = rw c.clear_part.ensures (satisfied c.in-Sat.is c.if-ended.false)

@@ -4,7 +4,7 @@ use Rattle.steps.proofs.Dispatch.{phase_reads}
 use Rattle.steps.proofs.Awaits.{await_tests}
 use Rattle.steps.proofs.leaves.run_await.Goals as goal
 
--- if lone_event(pass.table, i, &pass.numbers) {
+-- if lone_event(pass.table, i, &pass.progress) {
 pub lone_event-requires : goal.lone_event-requires
 lone_event-requires c =
     await_tests c.if-pass-i-eq-GONE.false c.requires

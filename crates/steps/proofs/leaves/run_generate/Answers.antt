@@ -5,15 +5,15 @@ use Rattle.steps.proofs.Slices.{all_same}
 use Rattle.steps.proofs.LeafRuns.{event_placed, event_below, generate_run}
 use Rattle.steps.proofs.leaves.run_generate.Goals as goal
 
--- return TERM;
+-- return Flag::TERM;
 pub returns-then-pass-i-eq-GONE : goal.returns-then-pass-i-eq-GONE
 returns-then-pass-i-eq-GONE c =
     record { has_run = done_run c.if-pass-i-eq-GONE.true; named = all_same }
 
--- put_event(&mut pass.numbers, argument_at(pass.table, i), true);
+-- pass.progress.put_event(argument_at(pass.table, i), true);
 pub put_event-requires : goal.put_event-requires
 put_event-requires c =
-    (c.requires.3.numbers.long, event_below c.argument_at.ensures.0 (event_placed c.if-pass-i-eq-GONE.false c.requires))
+    event_below c.argument_at.ensures.0 (event_placed c.if-pass-i-eq-GONE.false c.requires)
 
 -- pub fn run_generate
 pub returns : goal.returns

@@ -5,7 +5,7 @@ use Rattle.steps.proofs.LeafRuns.{stop_run}
 use Rattle.steps.proofs.Slices.{all_same}
 use Rattle.steps.proofs.leaves.run_stop.Goals as goal
 
--- return TERM;
+-- return Flag::TERM;
 pub returns-then-pass-i-eq-GONE : goal.returns-then-pass-i-eq-GONE
 returns-then-pass-i-eq-GONE c =
     record { has_run = done_run c.if-pass-i-eq-GONE.true; named = all_same }

@@ -5,7 +5,7 @@ use Rattle.steps.proofs.Slices.{all_same}
 use Rattle.steps.proofs.Awaits.{await_tests, await_suspends, await_refused, await_met, await_met_late}
 use Rattle.steps.proofs.leaves.run_tested.Goals as goal
 
--- return TERM;
+-- return Flag::TERM;
 pub returns-then-pass-i-eq-GONE : goal.returns-then-pass-i-eq-GONE
 returns-then-pass-i-eq-GONE c =
     record { has_run = done_run c.if-pass-i-eq-GONE.true; named = all_same }
@@ -25,10 +25,10 @@ returns-in-Unknown c = record { has_run = await_suspends c.if-pass-i-eq-GONE.fal
 pub returns-in-Unsat : goal.returns-in-Unsat
 returns-in-Unsat c = record { has_run = await_refused c.if-pass-i-eq-GONE.false c.in-Unsat.ensures; named = all_same }
 
-pub returns-then-pass-eq0 : goal.returns-then-pass-eq0
-returns-then-pass-eq0 c =
-    record { has_run = await_met c.if-pass-i-eq-GONE.false c.in-Sat.ensures c.if-pass-eq0.true; named = all_same }
+pub returns-then-pass : goal.returns-then-pass
+returns-then-pass c =
+    record { has_run = await_met_late c.if-pass-i-eq-GONE.false c.in-Sat.ensures c.if-pass.true; named = all_same }
 
-pub returns-else-pass-eq0 : goal.returns-else-pass-eq0
-returns-else-pass-eq0 c =
-    record { has_run = await_met_late c.if-pass-i-eq-GONE.false c.in-Sat.ensures c.if-pass-eq0.false; named = all_same }
+pub returns-else-pass : goal.returns-else-pass
+returns-else-pass c =
+    record { has_run = await_met c.if-pass-i-eq-GONE.false c.in-Sat.ensures c.if-pass.false; named = all_same }

@@ -10,4 +10,4 @@ pub loop-node-preserved : goal.loop-node-preserved
 loop-node-preserved c =
     let o = c.loop-node.invariant.2 in
     let more = copied_more o (omega arith) (omega arith) (c.put_own-at.ensures.written ∙ rw c.loop-node.invariant.1) in
-    (search rules, search rules, record { state_is = o.state_is; store_is = more; numbers_is = o.numbers_is; atoms_is = o.atoms_is; named = o.named })
+    (search rules, search rules, record { state_is = o.state_is; store_is = more; progress_is = o.progress_is; atoms_is = o.atoms_is; named = o.named })

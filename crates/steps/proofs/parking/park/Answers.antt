@@ -18,5 +18,5 @@ returns-clause-parked c =
     record {
       state_is = c.clear_part.ensures ∙ rw (own, o.state_is);
       store_is = piece_put o c.args.event (c.args.i + 1) (search rules) (search rules) (search rules) c.label.ensures ∙ rw long;
-      numbers_is = rw (o.numbers_is, c.copy_nodes-end.ensures.0, long);
+      progress_is = rw (o.progress_is, c.copy_nodes-end.ensures.0, long);
     }

@@ -16,7 +16,7 @@ pub returns-then-store-used : goal.returns-then-store-used
 returns-then-store-used c =
     sym (store_past c.args.table.now c.args.store.now (omega (arith, c.word_at-used.ensures.0)))
 
--- pieces_good(table, store, 2 + used)
+-- pieces.all_good()
 pub returns : goal.returns
 returns c =
     let s = c.args.store.now in

@@ -8,7 +8,7 @@ use Rattle.table.specs.Good.{parts}
 use Rattle.table.proofs.OwnBytes.{own, some_parts, no_parts}
 use Rattle.table.proofs.configurations.parts_good.Goals as goal
 
--- return 1;
+-- return Some(1);
 pub returns-then-size-first : goal.returns-then-size-first
 unfolding parts
 returns-then-size-first c j b =
@@ -21,7 +21,7 @@ returns-then-size-first c j b =
     let fine = some_parts t at 1 (omega arith) (omega arith) byte (omega arith) in
     rw (own t at j b) (sym (fine (rw (lt-ltb _ _ if1.true, eq-eqb _ _ size))), λ e. omega arith)
 
--- return 0;
+-- return None;
 pub returns-then-head-eq256 : goal.returns-then-head-eq256
 returns-then-head-eq256 c j b =
     let if1 = c.if-c-end in

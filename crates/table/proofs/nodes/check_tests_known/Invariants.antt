@@ -8,7 +8,4 @@ use Rattle.table.proofs.Swept.{Swept, swept_none, ready, swept_more, all_seen, w
 use Rattle.table.proofs.nodes.check_tests_known.Given as goal
 
 abbrev pub invariant-loop-i : goal.invariant-loop-i
-invariant-loop-i l = Swept l.table l.waiting l.n l.i l.top × (length l.waiting ≡ length l.initial.waiting)
-
-abbrev pub decreases-loop-i : goal.decreases-loop-i
-decreases-loop-i l = l.i
+invariant-loop-i l = Swept l.table l.row l.n l.endless l.i l.top × (length l.row ≡ length l.initial.row)

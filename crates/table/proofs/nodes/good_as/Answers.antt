@@ -1,29 +1,22 @@
--- `table::nodes::good_as` meets its contract: what is asked of a node of a known kind, one thing after the other.
-use borrow.Author.Rules.{rules}
-use Rattle.table.proofs.Judged.{bad_zero, bad_argument, as_laid}
+-- `table::nodes::good_as` meets its contract: the argument is small enough, and the sizes of the parts add up.
+use mathlib.Core.Path.{refl, ◌∙◌}
+use native.Mathlib.Omega.{arith}
+use borrow.Author.Tests.{le-ltb}
+use Rattle.table.proofs.Judged.{as_head, bad_argument, as_laid}
 use Rattle.table.proofs.nodes.good_as.Goals as goal
 
--- return false;
-pub returns-then-zero_at-gt0 : goal.returns-then-zero_at-gt0
-returns-then-zero_at-gt0 c =
-    let zero-at = c.zero_at in
-    let if1 = c.if-zero_at-gt0 in
-    bad_zero c.requires.within c.requires.of_kind (rw zero-at.ensures.0 at if1.true)
+-- argument_at(table, i) < limit_of(k, m, v) && laid
+pub returns-then-argument_at-limit_of : goal.returns-then-argument_at-limit_of
+returns-then-argument_at-limit_of c =
+    let F = c.requires.framed in
+    let limit = c.limit_of.ensures c.args.table.now F.m_is F.v_is in
+    let headed = as_head c.args.table.now c.args.i c.args.k c.requires.head_is limit refl in
+    c.requires.laid_is ∙ as_laid c.requires.within headed (rw c.argument_at.ensures.0 at c.if-argument_at-limit_of.true)
 
-pub returns-then-argument_at-limit : goal.returns-then-argument_at-limit
-returns-then-argument_at-limit c =
-    let argument-at = c.argument_at in
-    let if2 = c.if-argument_at-limit in
-    bad_argument c.requires.within c.requires.of_kind (rw argument-at.ensures.0 at if2.true)
-
--- fn good_as
-pub returns : goal.returns
-returns c =
-    let zero-at = c.zero_at in
-    let if1 = c.if-zero_at-gt0 in
-    let argument-at = c.argument_at in
-    let if2 = c.if-argument_at-limit in
-    let laid_out = c.laid_out in
-    let zero = rw zero-at.ensures.0 at if1.false in
-    let below = rw argument-at.ensures.0 at if2.false in
-    rw laid_out.ensures (as_laid c.requires.within c.requires.of_kind zero below)
+pub returns-else-argument_at-limit_of : goal.returns-else-argument_at-limit_of
+returns-else-argument_at-limit_of c =
+    let F = c.requires.framed in
+    let limit = c.limit_of.ensures c.args.table.now F.m_is F.v_is in
+    let headed = as_head c.args.table.now c.args.i c.args.k c.requires.head_is limit refl in
+    let above = c.if-argument_at-limit_of.false in
+    le-ltb _ _ (omega arith) ∙ bad_argument c.requires.within headed (omega (arith, c.argument_at.ensures.0))

@@ -1,30 +1,18 @@
 -- `table::nodes::refused` meets its contract: the lowest record that isn't good, or where all are, the first node that is too deep.
 use borrow.Author.Rules.{rules}
 use native.Mathlib.Omega.{arith}
-use Rattle.table.specs.Records.{nodes}
-use Rattle.table.specs.Good.{good_node}
 use Rattle.table.proofs.Answers.{all_good, bad_answer, deep_answer}
-use Rattle.table.proofs.Lowest.{none_bad}
 use Rattle.table.proofs.nodes.refused.Goals as goal
 
--- return TableRefusal::BadNode(bad);
-pub returns-then-bad-n : goal.returns-then-bad-n
-returns-then-bad-n c =
-    let first-bad = c.first_bad-bad in
-    bad_answer _ _ first-bad.ensures (omega arith)
+pub returns-in-Some : goal.returns-in-Some
+returns-in-Some c = let bad = c.in-Some.ensures in bad_answer _ _ bad.1 bad.0
 
--- TableRefusal::TooDeep(first_deep(table, 0, 1))
+-- None => TableRefusal::TooDeep(first_deep(table, 0, 1)),
 pub first_deep-requires : goal.first_deep-requires
 first_deep-requires c =
-    let first-bad = c.first_bad-bad in
-    let t = c.args.table.now in
-    record { all_good = all_good c.requires.sized_whole (none_bad (good_node t) (nodes t) _ first-bad.ensures (omega arith)); shallow = (omega arith, omega arith) }
+    record { all_good = all_good c.requires.sized_whole c.in-None.ensures; shallow = (omega arith, omega arith) }
 
--- fn refused
-pub returns : goal.returns
-returns c =
-    let first-bad = c.first_bad-bad in
-    let first-deep = c.first_deep in
-    let t = c.args.table.now in
-    let g = all_good c.requires.sized_whole (none_bad (good_node t) (nodes t) _ first-bad.ensures (omega arith)) in
-    deep_answer c.requires.sized_whole g (c.requires.too_deep g) _ first-deep.ensures
+pub returns-in-None : goal.returns-in-None
+returns-in-None c =
+    let g = all_good c.requires.sized_whole c.in-None.ensures in
+    deep_answer c.requires.sized_whole g (c.requires.too_deep g) _ c.first_deep.ensures

@@ -26,13 +26,13 @@ overflow_add-behind c =
     search rules
 
 -- return Closed::Decided(behind, sat);
-pub returns-then-sat-level : goal.returns-then-sat-level
-returns-then-sat-level c =
+pub returns-then-sat-or : goal.returns-then-sat-or
+returns-then-sat-or c =
     record {
       falls = refl;
       closes_one = λ o h.
           rw c.part_size.ensures.0
-          (closes_decided _ (top o h.number c.requires.inside_a_level) c.if-level-eq1.false c.if-level-lt4.true c.if-sat-level.true h.to_come);
+          (closes_decided _ (top o h.number c.requires.inside_a_level) c.if-level-eq1.false c.if-level-lt4.true c.if-sat-or.true h.to_come);
     }
 
 pub returns-then-level-lt4 : goal.returns-then-level-lt4
@@ -40,15 +40,15 @@ returns-then-level-lt4 c =
     record {
       falls = refl;
       closes_one = λ o h.
-          closes_to_second _ (top o h.number c.requires.inside_a_level) c.if-level-eq1.false c.if-level-lt4.true c.if-sat-level.false h.to_come;
+          closes_to_second _ (top o h.number c.requires.inside_a_level) c.if-level-eq1.false c.if-level-lt4.true c.if-sat-or.false h.to_come;
     }
 
-pub returns-then-sat-level-2 : goal.returns-then-sat-level-2
-returns-then-sat-level-2 c =
+pub returns-then-sat-or-2 : goal.returns-then-sat-or-2
+returns-then-sat-or-2 c =
     record {
       falls = refl;
       closes_one = λ o h.
-          closes_unknown _ (top o h.number c.requires.inside_a_level) c.if-level-lt4.false c.if-sat-level-2.true h.to_come;
+          closes_unknown _ (top o h.number c.requires.inside_a_level) c.if-level-lt4.false c.if-sat-or-2.true h.to_come;
     }
 
 -- Closed::Decided(here, sat)
@@ -57,5 +57,5 @@ returns c =
     record {
       falls = refl;
       closes_one = λ o h.
-          closes_second _ (top o h.number c.requires.inside_a_level) c.if-level-lt4.false c.if-sat-level-2.false h.to_come;
+          closes_second _ (top o h.number c.requires.inside_a_level) c.if-level-lt4.false c.if-sat-or-2.false h.to_come;
     }

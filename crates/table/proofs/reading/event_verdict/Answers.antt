@@ -1,10 +1,9 @@
 -- `table::reading::event_verdict` meets its contract.
 use mathlib.Core.Path.{sym, ◌∙◌}
-use Rattle.table.proofs.ByParts.{mark_in_words}
 use Rattle.table.proofs.reading.event_verdict.Goals as goal
 
 pub returns-then-marked : goal.returns-then-marked
-returns-then-marked c = rw (sym (mark_in_words _ _ c.requires) ∙ (sym c.marked.ensures ∙ c.if-marked.true))
+returns-then-marked c = rw (sym c.marked.ensures ∙ c.if-marked.true)
 
 pub returns : goal.returns
-returns c = rw (sym (mark_in_words _ _ c.requires) ∙ (sym c.marked.ensures ∙ c.if-marked.false))
+returns c = rw (sym c.marked.ensures ∙ c.if-marked.false)

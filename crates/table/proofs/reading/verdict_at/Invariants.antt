@@ -5,8 +5,8 @@ use Rattle.table.specs.Inside.Ranks.{rank}
 use Rattle.table.proofs.Within.{Reading}
 use Rattle.table.proofs.reading.verdict_at.Given as goal
 
-abbrev pub invariant-loop-event : goal.invariant-loop-event
-invariant-loop-event l = Reading l.table l.c l.numbers (rank l.absent) l.at l.levels
+abbrev pub invariant-loop-present : goal.invariant-loop-present
+invariant-loop-present l = Reading l.table l.c l.words (rank l.absent) l.at l.levels
 
-abbrev pub decreases-loop-event : goal.decreases-loop-event
-decreases-loop-event l = length l.table - l.at
+abbrev pub decreases-loop-present : goal.decreases-loop-present
+decreases-loop-present l = length l.table - l.at

@@ -4,10 +4,10 @@ use native.Mathlib.Omega.{arith}
 use Rattle.table.proofs.Weighed.{product_fits}
 use Rattle.table.proofs.weights.count_times.Goals as goal
 
--- capped(c * capped(x))
+-- (c * x.min(65536)).min(65536)
 pub overflow_mul-c : goal.overflow_mul-c
 overflow_mul-c c =
     record { fits = product_fits _ _ c.requires (omega arith) }
 
 pub returns : goal.returns
-returns c = rw (← c.capped.ensures) c.capped-2.ensures
+returns c = rw (← c.min.ensures) c.min-2.ensures

@@ -4,14 +4,14 @@ use native.Mathlib.Omega.{arith}
 use lib.Seq.{length-take-le}
 use Rattle.text.proofs.read.read_counted.Goals as goal
 
--- read_through(text, n, m, v, &mut made[..long], table)
+-- read_through(text, sizes, &mut made[..long], table)
 pub slice_bounds-read_through-end : goal.slice_bounds-read_through-end
 slice_bounds-read_through-end c =
     let (p, h) = c.requires.buildable in
-    sym (length-take-le c.args.long c.longest-made.result (omega (arith, h.long, h.small, c.longest-made.ensures)))
+    sym (length-take-le c.args.long c.zeros-made.result (omega (arith, h.long, h.small, c.zeros-made.ensures.long)))
 
 pub read_through-requires : goal.read_through-requires
 read_through-requires c =
     let (p, h) = c.requires.buildable in
-    rw (length-take-le c.args.long c.longest-made.result (omega (arith, h.long, h.small, c.longest-made.ensures)))
-    (record { buildable = c.requires.buildable; made_in_bounds = c.requires.long_in_bounds })
+    rw (length-take-le c.args.long c.zeros-made.result (omega (arith, h.long, h.small, c.zeros-made.ensures.long)))
+    (record { buildable = c.requires.buildable; room_enough = c.requires.room_enough })

@@ -4,22 +4,22 @@ use Rattle.builder.proofs.TableHolds.{ready_in, places_in, places_none}
 use Rattle.builder.proofs.PlacedByFunctions.{place_blank, place_opens, place_separates, place_names, place_none}
 use Rattle.builder.proofs.build.Front.place.Goals as goal
 
--- 32 => place_blank(level, text, table, front),
+-- b' ' => self.place_blank(level, text, table),
 pub place_blank-requires : goal.place_blank-requires
 place_blank-requires c =
     ready_in (λ n m s h. place_blank c.args.b c.args.level c.args.text.now s c.in-32.is) c.requires
 
--- 40 => place_opening(names, level, text, table, front),
+-- b'(' => self.place_opening(names, level, text, table),
 pub place_opening-requires : goal.place_opening-requires
 place_opening-requires c =
     (ready_in (λ n m s h. place_opens c.args.b c.args.level c.args.text.now s c.in-40.is) c.requires)
 
--- 44 => place_comma(level, text, table, front),
+-- b',' => self.place_comma(level, text, table),
 pub place_comma-requires : goal.place_comma-requires
 place_comma-requires c =
     ready_in (λ n m s h. place_separates c.args.b c.args.level c.args.text.now s c.in-44.is) c.requires
 
--- 74 => place_name(names, text, table, front),
+-- b'J' => self.place_name(names, text, table),
 pub place_name-requires : goal.place_name-requires
 place_name-requires c =
     (ready_in (λ n m s h. place_names c.args.b c.args.level c.args.text.now s c.in-74.is) c.requires)

@@ -3,7 +3,7 @@ use Rattle.builder.proofs.TableHolds.{ready_in, places_in}
 use Rattle.builder.proofs.PlacedByFunctions.{asking_capped, asking_branches}
 use Rattle.builder.proofs.build.Front.place_asking.Goals as goal
 
--- return place_capped(kind, text, i, table, front);
+-- self.place_capped(kind, text, table);
 pub place_capped-requires : goal.place_capped-requires
 place_capped-requires c =
     ready_in (λ n m s h. asking_capped c.args.behind c.args.kind c.args.text.now s c.if-behind-eq-CAP.true) c.requires
@@ -13,7 +13,7 @@ returns-then-behind-eq-CAP c =
     places_in (λ n m s h. asking_capped c.args.behind c.args.kind c.args.text.now s c.if-behind-eq-CAP.true)
     c.place_capped.ensures
 
--- place_branches(kind, argument, table, front)
+-- self.place_branches(kind, number(text), table);
 pub place_branches-requires : goal.place_branches-requires
 place_branches-requires c =
     ready_in (λ n m s h. asking_branches c.args.behind c.args.kind c.args.text.now s

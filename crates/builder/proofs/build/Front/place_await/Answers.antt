@@ -2,12 +2,12 @@
 use Rattle.builder.proofs.PlacedByFunctions.{await_first, await_second, await_done}
 use Rattle.builder.proofs.build.Front.place_await.Goals as goal
 
--- let next = place_event(text, i, table, front);
+-- self.place_event(text, table);
 pub place_event-requires : goal.place_event-requires
 place_event-requires c =
     await_first c.args.kind c.args.text.now c.requires
 
--- place_node(table, kind, next.left, 1, next)
+-- self.place_node(table, kind, self.left, 1);
 pub place_node-requires : goal.place_node-requires
 place_node-requires c =
     await_second c.args.kind c.args.text.now c.requires c.place_event.ensures

@@ -3,7 +3,7 @@ use Rattle.builder.proofs.TableHolds.{nodes_start, nodes_small}
 use Rattle.builder.proofs.PlacedByFunctions.{branches_done}
 use Rattle.builder.proofs.build.Front.place_branches.Goals as goal
 
--- label(&mut table[node..middle], kind, argument);
+-- label(&mut table[self.node..self.middle], kind, argument);
 pub slice_bounds-label-count : goal.slice_bounds-label-count
 slice_bounds-label-count c =
     nodes_start c.requires.3

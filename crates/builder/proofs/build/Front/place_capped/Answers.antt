@@ -3,7 +3,7 @@ use Rattle.builder.proofs.TableHolds.{ready_in, places_in}
 use Rattle.builder.proofs.PlacedByFunctions.{capped_here}
 use Rattle.builder.proofs.build.Front.place_capped.Goals as goal
 
--- place_node(table, kind, argument, size, front)
+-- self.place_node(table, kind, argument, size);
 pub place_node-requires : goal.place_node-requires
 place_node-requires c =
     ready_in {t = c.args.table.now} {f = c.args.self.now} (λ n m s h. capped_here h c.own_size-size.result c.args.kind c.capped_number-argument.result c.args.text.now

@@ -2,12 +2,12 @@
 use Rattle.builder.proofs.PlacedByFunctions.{choice_first, choice_second, choice_done}
 use Rattle.builder.proofs.build.Front.place_choice.Goals as goal
 
--- let next = place_event(text, i, table, front);
+-- self.place_event(text, table);
 pub place_event-requires : goal.place_event-requires
 place_event-requires c =
     choice_first c.args.kind c.args.text.now c.requires
 
--- place_branches(kind, next.left, table, next)
+-- self.place_branches(kind, self.left, table);
 pub place_branches-requires : goal.place_branches-requires
 place_branches-requires c =
     choice_second c.args.kind c.args.text.now c.requires c.place_event.ensures

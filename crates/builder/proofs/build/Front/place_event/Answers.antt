@@ -4,7 +4,7 @@ use Rattle.builder.proofs.TableHolds.{ready_in, places_in, places_none}
 use Rattle.builder.proofs.PlacedByFunctions.{event_here, event_none}
 use Rattle.builder.proofs.build.Front.place_event.Goals as goal
 
--- return place_test(table, (16 * (e / 256 % 16)) as u8, e, 1, front);
+-- self.place_test(table, (16 * (e / 256 % 16)) as u8, e, 1);
 pub place_test-requires : goal.place_test-requires
 place_test-requires c =
     ready_in (λ n m s h. event_here c.args.text.now c.byte_at.result c.byte_at.ensures s c.number-e.result

@@ -4,7 +4,7 @@ use Rattle.builder.proofs.TableHolds.{ready_in, places_in}
 use Rattle.builder.proofs.PlacedByFunctions.{form_row_lem, form_choice, form_await, form_asking, form_single}
 use Rattle.builder.proofs.build.Front.place_form.Goals as goal
 
--- return place_row(kind, table, front);
+-- self.place_row(kind, table);
 pub place_row-requires : goal.place_row-requires
 place_row-requires c =
     ready_in (λ m n s h. form_row_lem c.args.kind c.args.end c.requires.name_ends.0 c.args.text.now s
@@ -15,7 +15,7 @@ returns-then-code c =
     places_in (λ m n s h. form_row_lem c.args.kind c.args.end c.requires.name_ends.0 c.args.text.now s
     (sym c.code.ensures ∙ c.if-code.true)) c.place_row.ensures
 
--- return place_choice(kind, text, i, table, front);
+-- self.place_choice(kind, text, table);
 pub place_choice-requires : goal.place_choice-requires
 place_choice-requires c =
     ready_in (λ m n s h. form_choice c.args.kind c.args.end c.requires.name_ends.0 c.args.text.now s
@@ -26,7 +26,7 @@ returns-then-code-eq44 c =
     places_in (λ m n s h. form_choice c.args.kind c.args.end c.requires.name_ends.0 c.args.text.now s
     (λ e. c.if-code.false (c.code.ensures ∙ e)) (sym c.code-else-code.ensures ∙ c.if-code-2.true) (sym c.code-then-code-2.ensures ∙ c.if-code-eq44.true)) c.place_choice.ensures
 
--- return place_await(kind, text, i, table, front);
+-- self.place_await(kind, text, table);
 pub place_await-requires : goal.place_await-requires
 place_await-requires c =
     ready_in (λ m n s h. form_await c.args.kind c.args.end c.requires.name_ends.0 c.args.text.now s
@@ -37,7 +37,7 @@ returns-else-code-eq44 c =
     places_in (λ m n s h. form_await c.args.kind c.args.end c.requires.name_ends.0 c.args.text.now s
     (λ e. c.if-code.false (c.code.ensures ∙ e)) (sym c.code-else-code.ensures ∙ c.if-code-2.true) (λ e. c.if-code-eq44.false (c.code-then-code-2.ensures ∙ e))) c.place_await.ensures
 
--- return place_asking(code(names, end + 3), kind, text, i, table, front);
+-- self.place_asking(names.code(end + 3), kind, text, table);
 pub place_asking-requires : goal.place_asking-requires
 place_asking-requires c =
     let code5 = c.code-then-code-3 in
@@ -51,7 +51,7 @@ returns-then-code-3 c =
     (λ e. c.if-code.false (c.code.ensures ∙ e)) (λ e. c.if-code-2.false (c.code-else-code.ensures ∙ e)) (sym c.code-else-code-2.ensures ∙ c.if-code-3.true) c.code-then-code-3.result c.code-then-code-3.ensures)
     c.place_asking.ensures
 
--- place_single(names, kind, end, text, i, table, front)
+-- self.place_single(names, kind, end, text, table);
 pub place_single-requires : goal.place_single-requires
 place_single-requires c =
     let if4 = c.if-code-3 in

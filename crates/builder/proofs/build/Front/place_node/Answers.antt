@@ -3,7 +3,7 @@ use Rattle.builder.proofs.TableHolds.{node_fits, node_placed}
 use mathlib.Core.Path.{refl}
 use Rattle.builder.proofs.build.Front.place_node.Goals as goal
 
--- put_node(table, at, kind, argument, size);
+-- put_node(table, self.node, kind, argument, size);
 pub put_node-requires : goal.put_node-requires
 put_node-requires c =
     node_fits c.requires.3 c.args.kind c.args.argument c.args.size c.requires.4

@@ -3,7 +3,7 @@ use Rattle.builder.proofs.TableHolds.{ready_in, places_in}
 use Rattle.builder.proofs.PlacedByFunctions.{negation_here}
 use Rattle.builder.proofs.build.Front.place_not.Goals as goal
 
--- place_test(table, 1, 0, size, front)
+-- self.place_test(table, 1, 0, size);
 pub place_test-requires : goal.place_test-requires
 place_test-requires c =
     ready_in {t = c.args.table.now} {f = c.args.self.now} (λ n m s h. negation_here h c.word_in-size.result c.word_in-size.ensures.0) c.requires

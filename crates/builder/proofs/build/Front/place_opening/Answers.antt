@@ -5,13 +5,13 @@ use Rattle.builder.proofs.PlacedByFunctions.{opening_pair, opening_not, opening_
 use Rattle.builder.proofs.PlacedGrows.{grows_pair}
 use Rattle.builder.proofs.build.Front.place_opening.Goals as goal
 
--- let next = place_event(text, 0, table, front);
+-- self.place_event(text, table);
 pub place_event-requires : goal.place_event-requires
 place_event-requires c =
     ready_first (grows_pair c.args.level) (ready_in (λ n m s h. opening_pair c.args.level c.args.text.now s c.if-level-gt1.true)
     c.requires)
 
--- return place_pair(level, table, next);
+-- self.place_pair(level, table);
 pub place_pair-requires : goal.place_pair-requires
 place_pair-requires c =
     ready_second (grows_pair c.args.level) (ready_in (λ n m s h. opening_pair c.args.level c.args.text.now s c.if-level-gt1.true)
@@ -22,7 +22,7 @@ returns-then-level-gt1 c =
     places_in (λ n m s h. opening_pair c.args.level c.args.text.now s c.if-level-gt1.true)
     (places_then (grows_pair c.args.level) c.place_event.ensures c.place_pair.ensures)
 
--- return place_not(table, front);
+-- self.place_not(table);
 pub place_not-requires : goal.place_not-requires
 place_not-requires c =
     ready_in (λ n m s h. opening_not c.args.level c.args.text.now s c.if-level-gt1.false (sym c.is_named.ensures ∙ c.if-is_named.true)) c.requires

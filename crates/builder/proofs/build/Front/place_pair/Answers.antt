@@ -3,7 +3,7 @@ use Rattle.builder.proofs.TableHolds.{ready_in, places_in}
 use Rattle.builder.proofs.PlacedByFunctions.{pair_here}
 use Rattle.builder.proofs.build.Front.place_pair.Goals as goal
 
--- place_test(table, kind, 0, size, front)
+-- self.place_test(table, kind, 0, size);
 pub place_test-requires : goal.place_test-requires
 place_test-requires c =
     ready_in {t = c.args.table.now} {f = c.args.self.now} (λ n m s h. pair_here h c.joined_size-size.result c.args.kind c.joined_size-size.ensures) c.requires

@@ -3,12 +3,12 @@ use Rattle.builder.proofs.TableHolds.{nodes_start, nodes_end, nodes_small}
 use Rattle.builder.proofs.PlacedByFunctions.{row_first, row_held, row_done}
 use Rattle.builder.proofs.build.Front.place_row.Goals as goal
 
--- let next = place_joint(table, front);
+-- self.place_joint(table);
 pub place_joint-requires : goal.place_joint-requires
 place_joint-requires c =
     row_first c.args.kind c.requires
 
--- spread(&mut table[node..middle], kind);
+-- spread(&mut table[self.node..self.middle], kind);
 pub slice_bounds-spread-count : goal.slice_bounds-spread-count
 slice_bounds-spread-count c =
     let g = row_held c.args.kind c.requires c.place_joint.ensures in

@@ -4,7 +4,7 @@ use Rattle.builder.proofs.TableHolds.{ready_in, places_in}
 use Rattle.builder.proofs.PlacedByFunctions.{single_here, part_is}
 use Rattle.builder.proofs.build.Front.place_single.Goals as goal
 
--- place_node(table, kind, argument, size, front)
+-- self.place_node(table, kind, argument, size);
 pub place_node-requires : goal.place_node-requires
 place_node-requires c =
     ready_in {t = c.args.table.now} {f = c.args.self.now} (λ n m s h. single_here h c.own_size-size.result c.args.kind c.number-argument.result c.args.text.now

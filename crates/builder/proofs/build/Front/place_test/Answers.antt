@@ -3,7 +3,7 @@ use Rattle.builder.proofs.TableHolds.{test_fits, test_placed}
 use mathlib.Core.Path.{refl}
 use Rattle.builder.proofs.build.Front.place_test.Goals as goal
 
--- put_test(table, at, kind, e, size);
+-- put_test(table, self.part, kind, e, size);
 pub put_test-requires : goal.put_test-requires
 put_test-requires c =
     test_fits c.requires.3 c.args.kind c.args.e c.args.size c.requires.4

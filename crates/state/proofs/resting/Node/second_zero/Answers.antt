@@ -11,13 +11,13 @@ returns-then-end-self c =
     let j = c.args.self.now.judging in
     sym (second_near j (pair j.behind.rooted _ j.inside c.requires.two_children) (rw c.end-end.ensures at c.if-end-self.true))
 
--- let second = second_at(table, i);
+-- let second = second_at(self.table, self.i);
 pub second_at-second-requires : goal.second_at-second-requires
 second_at-second-requires c =
     let j = c.args.self.now.judging in
     child_read j.behind.rooted _ (pair j.behind.rooted _ j.inside c.requires.two_children).first_in
 
--- zero_part(state, near, second, end - second)
+-- zero_part(self.state, self.near, second, end - second)
 pub overflow_sub-end : goal.overflow_sub-end
 overflow_sub-end c =
     let j = c.args.self.now.judging in

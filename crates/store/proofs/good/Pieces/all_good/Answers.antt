@@ -6,7 +6,7 @@ use Rattle.store.proofs.Turns.{still_first, still_next, still_bad, still_all}
 use borrow.Author.Rules.{rules}
 use Rattle.store.proofs.good.Pieces.all_good.Goals as goal
 
--- while at < end {
+-- while at < self.end {
 pub loop-at-init : goal.loop-at-init
 loop-at-init c =
     let A = c.args in
@@ -25,7 +25,7 @@ behind-at-requires c =
     let g = good_is (sym c.is_good.ensures ∙ c.if-not-is_good.false) in
     (omega (arith, g.ends, c.args.self.now.inside), (body_is g.body).among)
 
--- while at < end {
+-- while at < self.end {
 pub loop-at-preserved : goal.loop-at-preserved
 loop-at-preserved c =
     let A = c.args in

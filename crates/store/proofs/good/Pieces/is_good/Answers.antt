@@ -10,12 +10,12 @@ returns-then-self-at-lt4 c =
     let A = c.args in
     sym (piece_short A.self.now.table.now A.self.now.store.now A.self.now.end A.at (omega arith))
 
--- return body_good(table, store, end, at + 4, j);
+-- return self.body_good(at + 4, j);
 pub body_good-requires : goal.body_good-requires
 body_good-requires c =
     ((body_is (sym c.is_body.ensures ∙ c.if-is_body.true)).among, omega arith)
 
--- return body_good(table, store, end, at + 4, j);
+-- return self.body_good(at + 4, j);
 pub returns-then-is_body : goal.returns-then-is_body
 returns-then-is_body c =
     let A = c.args in

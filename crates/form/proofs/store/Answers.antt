@@ -1,8 +1,0 @@
--- `store` meets its contract: a store past the end does nothing.
-use mathlib.Core.Path.{sym}
-use lib.Seq.{set_out}
-use Rattle.form.proofs.store.Goals as goal
-
-pub returns-else-at-room : goal.returns-else-at-room
-returns-else-at-room c =
-    sym (set_out c.args.room.now c.args.at c.args.b c.if-at-room.false)

@@ -1,7 +1,0 @@
--- `text_room` meets its contract.
-use Prim.Native.Nat.{ℕ}
-use lib.ListN.{length-replicate}
-use Rattle.zap_print.proofs.text_room.Goals as goal
-
-pub returns : goal.returns
-returns c = length-replicate {A = ℕ} 1048576 0
