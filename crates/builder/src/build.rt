@@ -94,7 +94,7 @@ fn behind(text: &[u8], n: usize) -> &[u8]
     &text[n.min(text.len())..]
 }
 
-// The number whose digits a text begins with; 0 if there are none.
+// The number whose digits a text begins with; 0 if there are none, as a record of a form without a number has it.
 fn number(text: &[u8]) -> usize
     ensures { result ≡ number 0 text.now }
 {

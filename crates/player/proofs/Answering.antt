@@ -1,6 +1,6 @@
 -- A line that was read and listed is answered.
 use mathlib.Core.Path.{◌≡◌, refl, sym, ap, ◌∙◌, fun_ext}
-use mathlib.Core.Bool.{Bool, true, false, not, cond, false≢true}
+use mathlib.Core.Bool.{Bool, true, false, cond}
 use mathlib.Core.List.{List, ◌++◌}
 use Prim.Native.Nat.{ℕ, ◌≤◌}
 use native.Mathlib.Nat.{zero-add}
@@ -8,10 +8,9 @@ use native.Mathlib.Omega.{arith}
 use lib.ListN.{length, get_or, drop, replicate, get_or-replicate, length-append}
 use lib.Dec.{ltb}
 use borrow.Author.Tests.{le-leb, ltb-true}
-use Rattle.events.specs.Events.{Events, none}
+use Rattle.events.specs.Events.{Events}
 use Rattle.junior.specs.Trace.{atoms}
 use Rattle.junior.specs.Values.{Values, zeros}
-use Rattle.listing.specs.Input.{Reading}
 use Rattle.listing.specs.Output.{Written}
 use Rattle.kernel.specs.declared.Answer.{Answer}
 use Rattle.kernel.specs.Answer.{values_of, Rooms, Run}

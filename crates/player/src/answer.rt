@@ -1,5 +1,5 @@
 // What a line of input does.
-ghost use Rattle.std.specs.Prelude.{◌≡◌, ◌+◌, ◌<◌, ◌≤◌, ◌^◌, length};
+ghost use Rattle.std.specs.Prelude.{◌≡◌, ◌+◌, ◌≤◌, length};
 ghost use Rattle.kernel.specs.Answer.{rooms};
 ghost use Rattle.listing.specs.Output.{enough};
 ghost use Rattle.player.specs.Waiting.{room_under};
@@ -16,7 +16,7 @@ pub const ROW: usize = 4096;
 // Where the program's pieces are parked, begun empty: its first two bytes, which count those in use, are 0 (02, L8).
 pub const STORE: usize = 32768;
 
-// What stays from line to line: the table and what its instants are lent, the next line's number, and whether something stands under the line of
+// What stays from line to line: the table and what its instants are lent, the line's number, and whether something stands under the line of
 // an instant that ran. The rooms are arrays, so that a program never lacks memory.
 #[derive(Drop)]
 pub struct Player<'a> {
@@ -32,8 +32,7 @@ impl Player<'_> {
     // Takes the instant of a line, its newline left out, and puts its output line at the start of a lent room, under it, if `why`, what the
     // program waits for; answers the length of both.
     pub fn answer_line(&mut self, line: &[u8], room: &mut [u8]) -> usize
-        requires room_enough { enough 4096 + room_under ≤ length room.old }
-        requires next_number { self.old.number + 1 < 2 ^ 64 }
+        requires { enough 4096 + room_under ≤ length room.old }
         ensures answers { Answers
             self.old.why
             self.old.table.now
@@ -46,11 +45,10 @@ impl Player<'_> {
             room.old
             room.new
             result }
-        ensures numbered { self.new.number ≡ self.old.number + 1 }
+        ensures same_number { self.new.number ≡ self.old.number }
         ensures same_program { (self.new.table.now ≡ self.old.table.now) × (self.new.why ≡ self.old.why) }
     {
         let number = self.number;
-        self.number += 1;
         let Some(events) = listing::read_line(line) else {
             return listing::write_bad(room, number);
         };

@@ -70,6 +70,7 @@ impl<W: Write> Output<W> {
         self.make_room();
         let n = player.answer_line(line, &mut self.block[self.filled..]);
         self.filled += n;
+        player.number += 1;
     }
 
     // Makes room for an output line: where there may be none behind the lines that stand there, these are written out.

@@ -204,6 +204,7 @@ fn run_repeat(pass: &mut Pass, i: usize) -> Flag
         return Flag::TERM;
     }
     let kind = kind_at(pass.table, i + 1);
+    // How many are left is counted, since that is what the state keeps of a repetition that goes on in the next instant.
     let mut left = turns - 1;
     loop {
         let f = if kind == kinds::NOTHING {

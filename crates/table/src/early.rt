@@ -38,7 +38,7 @@ fn early_at(table: &[u8], c: usize, j: usize, early: &[u8]) -> usize
     joined_rank(kind, first, second)
 }
 
-// Of the test of node i, of kind k, if it has one.
+// Of the test of node i, of kind k; 0 if it has none, which nothing asks.
 pub fn early_for(table: &[u8], i: usize, k: Kind, early: &[u8]) -> usize
     requires inside { 6 * i + 3 < length table.now }
     requires all_known { AllKnown table.now early.now }

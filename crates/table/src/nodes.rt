@@ -64,6 +64,7 @@ fn check_tests_known(
     requires roomy { Roomy row.old n }
     ensures { result ≡ nodes_verdict table.now }
 {
+    // The lowest Loop whose body doesn't stop; n, behind all nodes, as long as none is met: one comparison keeps the lowest.
     let mut endless = n;
     let mut top = 0;
     for i in (0..n).rev() {

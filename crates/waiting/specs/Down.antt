@@ -1,5 +1,5 @@
 -- The way down from node 0 to the first test that waits: what each step of it asks and gives. No contract of a customer's call cites this file.
-use Rattle.std.specs.Prelude.{ℕ, ◌+◌, ◌*◌, ◌%◌, Bool, false, not, cond, ◌&&◌, ◌||◌, ◌≡◌, List, ◌++◌, eqb, ltb, drop, Option as Answer}
+use Rattle.std.specs.Prelude.{ℕ, ◌+◌, ◌*◌, ◌%◌, Bool, not, cond, ◌&&◌, ◌||◌, ◌≡◌, List, ◌++◌, eqb, ltb, drop, Option as Answer}
 use Rattle.std.proofs.Math.Option.{Option, none, some}
 use Rattle.events.specs.Events.{Events, put}
 use Rattle.events.specs.Members.{places}

@@ -1,5 +1,4 @@
 -- `waiting::enter` meets its contract, by that of `mark`: the words have all the places.
-use borrow.Author.Rules.{rules}
 use mathlib.Core.Path.{sym, ◌∙◌}
 use native.Mathlib.Omega.{arith}
 use borrow.Author.Tests.{ne_eqb}

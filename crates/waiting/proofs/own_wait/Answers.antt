@@ -1,5 +1,4 @@
 -- `waiting::own_wait` meets its contract: a test's event, a Control's or a pending Freezable's own, or none.
-use borrow.Author.Rules.{rules}
 use mathlib.Core.Path.{refl, sym, ◌∙◌}
 use native.Mathlib.Omega.{arith}
 use Rattle.events.specs.Members.{marks}

@@ -1,14 +1,10 @@
 -- `waiting` meets its contract: from each node on the way the same test is led to.
 use borrow.Author.Rules.{rules}
-use Prim.Native.Nat.{◌-◌, ◌*◌}
-use mathlib.Core.Path.{◌≡◌, ap, sym, ◌∙◌}
+use mathlib.Core.Path.{ap, sym, ◌∙◌}
 use native.Mathlib.Omega.{arith}
-use lib.ListN.{length}
-use Rattle.events.specs.Members.{places, marks}
+use Rattle.events.specs.Members.{marks}
 use Rattle.events.proofs.Sets.{whole}
-use Rattle.junior.specs.Waited.{Wait}
-use Rattle.table.specs.Records.{nodes}
-use Rattle.waiting.specs.Down.{Leads, own_wait}
+use Rattle.waiting.specs.Down.{own_wait}
 use Rattle.waiting.proofs.OneStep.{tells_some, tells_none, here, goes_on, one_end, fewer}
 use Rattle.waiting.proofs.waiting.Goals as goal
 

@@ -1,5 +1,4 @@
 -- `lacking_event` meets its contract: what is gathered so far, with the records left, is what all of them give.
-use borrow.Author.Rules.{rules}
 use Prim.Native.Nat.{◌+◌, ◌-◌, ◌*◌, ◌<◌}
 use mathlib.Core.Path.{◌≡◌, refl, sym, ◌∙◌}
 use native.Mathlib.Omega.{arith}

@@ -1,13 +1,9 @@
 -- `lacking_event` meets its contract: what is gathered so far, with the records left, is what all of them give.
-use borrow.Author.Rules.{rules}
 use Prim.Native.Nat.{◌+◌, ◌-◌, ◌*◌}
-use mathlib.Core.Path.{◌≡◌, ap, sym, ◌∙◌}
-use native.Mathlib.Omega.{arith}
-use lib.ListN.{length}
+use mathlib.Core.Path.{◌≡◌}
 use Rattle.events.specs.Members.{places}
 use Rattle.table.specs.Records.{part_size}
-use Rattle.table.proofs.ByParts.{own_inside, written}
-use Rattle.waiting.proofs.Gathered.{gathered, lacks_as, one_more, no_more}
+use Rattle.waiting.proofs.Gathered.{gathered}
 use Rattle.waiting.proofs.lacking.lacking_event.Given as goal
 
 abbrev pub invariant-loop-record : goal.invariant-loop-record

@@ -23,7 +23,7 @@ pub put_under-requires : goal.put_under-requires
 put_under-requires c =
     let within = atoms_within (rw c.in-Ok.is at c.instant-reply.ensures).leaves in
     let long = length-take-le c.in-Ok.answer.atoms c.instant-reply.new.atoms within in
-    record { one_of_its_nodes = one_of_its_nodes (rw c.in-Ok.is at c.instant-reply.ensures); room_enough = omega (arith, c.requires.room_enough, long, within, c.instant-reply.auto.atoms, c.write_ran-listed.ensures.short, c.write_ran-listed.auto.room) }
+    record { one_of_its_nodes = one_of_its_nodes (rw c.in-Ok.is at c.instant-reply.ensures); room_enough = omega (arith, c.requires, long, within, c.instant-reply.auto.atoms, c.write_ran-listed.ensures.short, c.write_ran-listed.auto.room) }
 
 -- pub fn answer_line
 pub returns-in-Ok-clause-answers : goal.returns-in-Ok-clause-answers
@@ -33,7 +33,7 @@ returns-in-Ok-clause-answers c =
     let reading = c.in-Some.ensures in
     let answered = rw (zeros_handed, c.in-Ok.is) at c.instant-reply.ensures in
     let ran = Lists.ran (members c.in-Some.events) c.in-Ok.answer reading answered in
-    answers_under (omega (arith, c.requires.room_enough, long, within, c.instant-reply.auto.atoms)) c.write_ran-listed.ensures c.put_under.ensures
+    answers_under (omega (arith, c.requires, long, within, c.instant-reply.auto.atoms)) c.write_ran-listed.ensures c.put_under.ensures
     c.write_ran-listed.auto.room (ran c.put_under.ensures.under)
 
 pub returns-in-Err-clause-answers : goal.returns-in-Err-clause-answers
