@@ -6,7 +6,7 @@ use Rattle.junior.specs.Term.{Term}
 use Rattle.junior.specs.declared.Flag.{Flag}
 use Rattle.steps.specs.declared.Pass.{Pass}
 use Rattle.steps.specs.Running.{Rooms}
-use Rattle.steps.specs.Lent.{lent, lent_of, lent_then, CanRun, HasRun, HasPassed, Named}
+use Rattle.steps.specs.Lent.{lent, lent_of, lent_then, CanRun, HasRun, HasPassed, HasPassedBeside, Named}
 use Rattle.steps.proofs.Slices.{all_same}
 use Rattle.runner.proofs.Falling.{weigh}
 use Rattle.steps.specs.declared.progress.Progress.{Progress}
@@ -16,6 +16,10 @@ pub handed : {skip skip' : ℕ} {W W' : Term → Type 0} {p p' : Pass} {i i' : �
     → (HasRun skip W (lent_of p) i (lent_then p p') r → HasRun skip' W' (lent_of p) i' (lent_then p p') r)
     → HasPassed skip W p i p' r → HasPassed skip' W' p i' p' r
 handed f e = record { has_run = f e.has_run; named = e.named }
+
+-- the same of a form that does no atom, whatever the row is
+pub alone : {skip : ℕ} {W : Term → Type 0} {p p' : Pass} {i : ℕ} {r : Flag} → HasPassedBeside skip W p i p' r → HasPassed skip W p i p' r
+alone {p = p} e = record { has_run = rw e.same_row (e.has_run_beside p.atoms.now); named = e.named }
 
 -- nothing is written
 pub untouched : {skip : ℕ} {W : Term → Type 0} {p : Pass} {i : ℕ} {r : Flag} → HasRun skip W (lent_of p) i (lent_of p) r → HasPassed skip W p i p r

@@ -25,6 +25,13 @@ lent_of p = lent p.table.now p.state.now p.progress (rooms_of p.atoms.now p.stor
 abbrev pub lent_then : Pass → Pass → Lent
 lent_then p p' = lent p.table.now p'.state.now p'.progress (rooms_of p'.atoms.now p'.store.now)
 
+-- the same for a node that does no atom, whatever the row is
+abbrev pub storing : Pass → List ℕ → Lent
+storing p row = lent p.table.now p.state.now p.progress (rooms_of row p.store.now)
+
+abbrev pub storing_then : Pass → Pass → List ℕ → Lent
+storing_then p p' row = lent p.table.now p'.state.now p'.progress (rooms_of row p'.store.now)
+
 -- the bytes `part` of node i and all below it stand in the whole state
 pub record Around (state : List ℕ) (i : ℕ) (before part behind : List ℕ) : Type 0 where
   pub split : state ≡ before ++ (part ++ behind)
@@ -53,6 +60,13 @@ abbrev pub HasRun : ℕ → (Term → Type 0) → Lent → ℕ → Lent → Flag
 HasRun skip W L i L' r =
     (before part behind : List ℕ) → Stands skip W L i before part behind → Went skip W L i before part behind L' r
 
+-- the same where the row isn't looked at: whatever it is, it stays
+abbrev pub CanRunBeside : ℕ → (Term → Type 0) → (List ℕ → Lent) → ℕ → Type 0
+CanRunBeside skip W L i = (row : List ℕ) × CanRun skip W (L row) i
+
+abbrev pub HasRunBeside : ℕ → (Term → Type 0) → (List ℕ → Lent) → ℕ → (List ℕ → Lent) → Flag → Type 0
+HasRunBeside skip W L i L' r = (row : List ℕ) → HasRun skip W (L row) i (L' row) r
+
 -- a pass holds on to its table and to its slices
 abbrev pub Named : Pass → Pass → Type 0
 Named p p' =
@@ -65,4 +79,12 @@ CanPass skip W p i = CanRun skip W (lent_of p) i
 
 pub record HasPassed (skip : ℕ) (W : Term → Type 0) (p : Pass) (i : ℕ) (p' : Pass) (r : Flag) : Type 0 where
   pub has_run : HasRun skip W (lent_of p) i (lent_then p p') r
+  pub named : Named p p'
+
+abbrev pub CanPassBeside : ℕ → (Term → Type 0) → Pass → ℕ → Type 0
+CanPassBeside skip W p i = CanRunBeside skip W (storing p) i
+
+pub record HasPassedBeside (skip : ℕ) (W : Term → Type 0) (p : Pass) (i : ℕ) (p' : Pass) (r : Flag) : Type 0 where
+  pub has_run_beside : HasRunBeside skip W (storing p) i (storing_then p p') r
+  pub same_row : p'.atoms.now ≡ p.atoms.now
   pub named : Named p p'

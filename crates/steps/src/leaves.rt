@@ -2,7 +2,7 @@
 ghost use Rattle.std.specs.Prelude.{◌≡◌, true, ◌≢◌, ◌+◌, ◌*◌, ◌<◌, ◌≤◌, length, get_or, set};
 ghost use Rattle.state.specs.Kinds.{nothing_kind, stop_kind, atom_kind, generate_kind, await_kind};
 ghost use Rattle.steps.specs.Kinds.{OfKind, all_seen};
-ghost use Rattle.steps.specs.Lent.{CanPass, HasPassed};
+ghost use Rattle.steps.specs.Lent.{CanPass, HasPassed, CanPassBeside, HasPassedBeside};
 ghost use Rattle.steps.specs.Tests.{CanTest, TestIs, StarRead, lone_event};
 
 use crate::Pass;
@@ -15,8 +15,8 @@ use table::records::{argument_at, part_event, part_kind};
 
 // Rule 1.
 pub fn run_nothing(pass: &mut Pass, i: usize) -> Flag
-    requires { CanPass all_seen (OfKind nothing_kind) pass.old i }
-    ensures { HasPassed all_seen (OfKind nothing_kind) pass.old i pass.new result }
+    requires { CanPassBeside all_seen (OfKind nothing_kind) pass.old i }
+    ensures { HasPassedBeside all_seen (OfKind nothing_kind) pass.old i pass.new result }
 {
     pass.state[4 * i] = 0;
     Flag::TERM
@@ -24,8 +24,8 @@ pub fn run_nothing(pass: &mut Pass, i: usize) -> Flag
 
 // Rule 2.
 pub fn run_stop(pass: &mut Pass, i: usize) -> Flag
-    requires { CanPass all_seen (OfKind stop_kind) pass.old i }
-    ensures { HasPassed all_seen (OfKind stop_kind) pass.old i pass.new result }
+    requires { CanPassBeside all_seen (OfKind stop_kind) pass.old i }
+    ensures { HasPassedBeside all_seen (OfKind stop_kind) pass.old i pass.new result }
 {
     if pass.state[4 * i] == GONE {
         pass.state[4 * i] = 0;
@@ -61,8 +61,8 @@ fn put_atom(atoms: &mut [u16], at: usize, atom: usize) -> usize
 // Rule 16: E+S.
 #[inline(always)]
 pub fn run_generate(pass: &mut Pass, i: usize) -> Flag
-    requires { CanPass all_seen (OfKind generate_kind) pass.old i }
-    ensures { HasPassed all_seen (OfKind generate_kind) pass.old i pass.new result }
+    requires { CanPassBeside all_seen (OfKind generate_kind) pass.old i }
+    ensures { HasPassedBeside all_seen (OfKind generate_kind) pass.old i pass.new result }
 {
     if pass.state[4 * i] == GONE {
         pass.state[4 * i] = 0;
@@ -75,8 +75,8 @@ pub fn run_generate(pass: &mut Pass, i: usize) -> Flag
 
 // Rules 22 to 25. A lone event, the most frequent test, is looked at here; the rest stays apart, so that what runs an Await needs no room for it.
 pub fn run_await(pass: &mut Pass, i: usize) -> Flag
-    requires { CanPass all_seen (OfKind await_kind) pass.old i }
-    ensures { HasPassed all_seen (OfKind await_kind) pass.old i pass.new result }
+    requires { CanPassBeside all_seen (OfKind await_kind) pass.old i }
+    ensures { HasPassedBeside all_seen (OfKind await_kind) pass.old i pass.new result }
 {
     if pass.state[4 * i] == GONE {
         return run_tested(pass, i);
@@ -90,8 +90,8 @@ pub fn run_await(pass: &mut Pass, i: usize) -> Flag
 // Any Await, by what its test is read as.
 #[inline(never)]
 fn run_tested(pass: &mut Pass, i: usize) -> Flag
-    requires { CanPass all_seen (OfKind await_kind) pass.old i }
-    ensures { HasPassed all_seen (OfKind await_kind) pass.old i pass.new result }
+    requires { CanPassBeside all_seen (OfKind await_kind) pass.old i }
+    ensures { HasPassedBeside all_seen (OfKind await_kind) pass.old i pass.new result }
 {
     if pass.state[4 * i] == GONE {
         pass.state[4 * i] = 0;
@@ -120,9 +120,9 @@ fn lone_event(table: &[u8], i: usize, progress: &Progress) -> bool
 
 // An Await of a lone event: absent, it leaves the Await waiting, or stopped once the end is declared.
 fn run_lone(pass: &mut Pass, i: usize) -> Flag
-    requires can_pass { CanPass all_seen (OfKind await_kind) pass.old i }
+    requires can_pass { CanPassBeside all_seen (OfKind await_kind) pass.old i }
     requires lone_and_there { (get_or pass.old.state.now (4 * i) 0 ≢ 3) × (lone_event pass.old.table.now i ≡ true) }
-    ensures { HasPassed all_seen (OfKind await_kind) pass.old i pass.new result }
+    ensures { HasPassedBeside all_seen (OfKind await_kind) pass.old i pass.new result }
 {
     let c = pass.progress.base + 4 * argument_at(pass.table, i);
     if marked(&pass.progress.events.words, part_event(pass.table, c)) {

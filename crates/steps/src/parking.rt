@@ -4,7 +4,7 @@ ghost use borrow.Rule.Slice.PartMut.{put_mid};
 ghost use Rattle.events.specs.Members.{places};
 ghost use Rattle.table.specs.Records.{argument_at, size_at};
 ghost use Rattle.steps.specs.Kinds.{phase_unseen, Pending};
-ghost use Rattle.steps.specs.Lent.{CanPass, HasPassed, Named};
+ghost use Rattle.steps.specs.Lent.{CanPassBeside, HasPassedBeside, Named};
 ghost use Rattle.steps.specs.Parking.{stays_pending, Parked, Copied};
 
 use crate::Pass;
@@ -23,8 +23,8 @@ pub fn stays_pending(table: &[u8], i: usize, phase: u8, progress: &Progress) -> 
 
 // Rules 42 to 45.
 pub fn run_pending(pass: &mut Pass, i: usize) -> Flag
-    requires { CanPass phase_unseen Pending pass.old i }
-    ensures { HasPassed phase_unseen Pending pass.old i pass.new result }
+    requires { CanPassBeside phase_unseen Pending pass.old i }
+    ensures { HasPassedBeside phase_unseen Pending pass.old i pass.new result }
 {
     let event = argument_at(pass.table, i);
     if pass.progress.has_event(event) {

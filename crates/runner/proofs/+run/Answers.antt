@@ -8,7 +8,7 @@ use Rattle.steps.proofs.Tested.{both_zero, not_both_zero}
 use Rattle.steps.proofs.Dispatch.{kind_reads, phase_reads, own_reads, to_kind, by_kind, to_both, by_both, to_half, by_half, to_others, freezable_event, the_last, control_event, argument_reads}
 use Rattle.steps.proofs.PendingRuns.{pending_stays}
 use Rattle.runner.proofs.Indices.{own_fits, byte_fits}
-use Rattle.runner.proofs.Handed.{handed, untouched, passed, can_then, falls_then, ran_then}
+use Rattle.runner.proofs.Handed.{handed, alone, untouched, passed, can_then, falls_then, ran_then}
 use Rattle.runner.proofs.EitherKind.{to_kinds, by_kinds, the_first}
 use Rattle.runner.proofs.Falling.{child_rank, form_rank, last_rank, lighter, below_child, below_form, falls_to}
 use Rattle.steps.proofs.Ended.{done_run}
@@ -67,10 +67,10 @@ run_child-returns-then-kind-eq-PAR t c =
     handed (by_half c.kind_at-kind.ensures.0 c.if-kind-eq-PAR.true (not_both_zero _ _ (sym c.both_suspended.ensures ∙ c.if-both_suspended.false))) c.run_half.ensures
 
 pub run_child-run_await-requires : goal.run_child-run_await-requires
-run_child-run_await-requires t c = to_kind c.kind_at-kind.ensures.0 c.if-kind-eq-AWAIT.true c.requires
+run_child-run_await-requires t c = (_, to_kind c.kind_at-kind.ensures.0 c.if-kind-eq-AWAIT.true c.requires)
 
 pub run_child-returns-then-kind-eq-AWAIT : goal.run_child-returns-then-kind-eq-AWAIT
-run_child-returns-then-kind-eq-AWAIT t c = handed (by_kind c.kind_at-kind.ensures.0 c.if-kind-eq-AWAIT.true) c.run_await.ensures
+run_child-returns-then-kind-eq-AWAIT t c = handed (by_kind c.kind_at-kind.ensures.0 c.if-kind-eq-AWAIT.true) (alone c.run_await.ensures)
 
 pub run_child-run_seq-requires : goal.run_child-run_seq-requires
 run_child-run_seq-requires t c = (below_child _ c.decreases, to_kind c.kind_at-kind.ensures.0 c.if-kind-eq-SEQ.true c.requires)
@@ -79,10 +79,10 @@ pub run_child-returns-then-kind-eq-SEQ : goal.run_child-returns-then-kind-eq-SEQ
 run_child-returns-then-kind-eq-SEQ t c = handed (by_kind c.kind_at-kind.ensures.0 c.if-kind-eq-SEQ.true) c.run_seq.ensures
 
 pub run_child-run_nothing-requires : goal.run_child-run_nothing-requires
-run_child-run_nothing-requires t c = to_kind c.kind_at-kind.ensures.0 c.in-0.is c.requires
+run_child-run_nothing-requires t c = (_, to_kind c.kind_at-kind.ensures.0 c.in-0.is c.requires)
 
 pub run_child-run_stop-requires : goal.run_child-run_stop-requires
-run_child-run_stop-requires t c = to_kind c.kind_at-kind.ensures.0 c.in-1.is c.requires
+run_child-run_stop-requires t c = (_, to_kind c.kind_at-kind.ensures.0 c.in-1.is c.requires)
 
 pub run_child-run_atom-requires : goal.run_child-run_atom-requires
 run_child-run_atom-requires t c = to_kind c.kind_at-kind.ensures.0 c.in-2.is c.requires
@@ -97,7 +97,7 @@ pub run_child-run_repeat-requires-in-15 : goal.run_child-run_repeat-requires-in-
 run_child-run_repeat-requires-in-15 t c = (below_child _ c.decreases, to_kinds c.kind_at-kind.ensures.0 (inr c.in-15.is) c.requires)
 
 pub run_child-run_generate-requires : goal.run_child-run_generate-requires
-run_child-run_generate-requires t c = to_kind c.kind_at-kind.ensures.0 c.in-7.is c.requires
+run_child-run_generate-requires t c = (_, to_kind c.kind_at-kind.ensures.0 c.in-7.is c.requires)
 
 pub run_child-run_when-requires : goal.run_child-run_when-requires
 run_child-run_when-requires t c = (below_child _ c.decreases, to_kinds c.kind_at-kind.ensures.0 (inl c.in-9.is) c.requires)
@@ -129,10 +129,10 @@ run_child-run_local-requires t c =
     (below_child _ c.decreases, to_kind c.kind_at-kind.ensures.0 local c.requires)
 
 pub run_child-returns-in-0 : goal.run_child-returns-in-0
-run_child-returns-in-0 t c = handed (by_kind c.kind_at-kind.ensures.0 c.in-0.is) c.run_nothing.ensures
+run_child-returns-in-0 t c = handed (by_kind c.kind_at-kind.ensures.0 c.in-0.is) (alone c.run_nothing.ensures)
 
 pub run_child-returns-in-1 : goal.run_child-returns-in-1
-run_child-returns-in-1 t c = handed (by_kind c.kind_at-kind.ensures.0 c.in-1.is) c.run_stop.ensures
+run_child-returns-in-1 t c = handed (by_kind c.kind_at-kind.ensures.0 c.in-1.is) (alone c.run_stop.ensures)
 
 pub run_child-returns-in-2 : goal.run_child-returns-in-2
 run_child-returns-in-2 t c = handed (by_kind c.kind_at-kind.ensures.0 c.in-2.is) c.run_atom.ensures
@@ -147,7 +147,7 @@ pub run_child-returns-in-15 : goal.run_child-returns-in-15
 run_child-returns-in-15 t c = handed (by_kinds c.kind_at-kind.ensures.0 (inr c.in-15.is)) c.run_repeat-in-15.ensures
 
 pub run_child-returns-in-7 : goal.run_child-returns-in-7
-run_child-returns-in-7 t c = handed (by_kind c.kind_at-kind.ensures.0 c.in-7.is) c.run_generate.ensures
+run_child-returns-in-7 t c = handed (by_kind c.kind_at-kind.ensures.0 c.in-7.is) (alone c.run_generate.ensures)
 
 pub run_child-returns-in-9 : goal.run_child-returns-in-9
 run_child-returns-in-9 t c = handed (by_kinds c.kind_at-kind.ensures.0 (inl c.in-9.is)) c.run_when.ensures
@@ -592,7 +592,7 @@ run_repeat-loop-pass-init t c =
 pub run_repeat-run_nothing-f-requires : goal.run_repeat-run_nothing-f-requires
 run_repeat-run_nothing-f-requires t c =
     let (_, turn, same) = c.loop-pass.invariant in
-    can_then same.0 (to_kind c.kind_at-kind.ensures.0 c.if-kind-eq-NOTHING.true (times_body turn.can).1)
+    (_, can_then same.0 (to_kind c.kind_at-kind.ensures.0 c.if-kind-eq-NOTHING.true (times_body turn.can).1))
 
 pub run_repeat-run_child-f-requires : goal.run_repeat-run_child-f-requires
 run_repeat-run_child-f-requires t c =
@@ -606,7 +606,7 @@ turn_stays t c =
     let same = c.loop-pass.invariant.2 in
     elim c.if-kind-eq-NOTHING.branch [
       | run_repeat-then-kind-eq-NOTHING w ↦ rw (w.pass-is, w.f-is)
-          (by_kind c.kind_at-kind.ensures.0 w.if-kind-eq-NOTHING.true (ran_then same.0 w.run_nothing-f.ensures.has_run), named_then same w.run_nothing-f.ensures.named)
+          (by_kind c.kind_at-kind.ensures.0 w.if-kind-eq-NOTHING.true (ran_then same.0 (alone w.run_nothing-f.ensures).has_run), named_then same w.run_nothing-f.ensures.named)
       | run_repeat-else-kind-eq-NOTHING w ↦ rw (w.pass-is, w.f-is) (ran_then same.0 w.run_child-f.ensures.has_run, named_then same w.run_child-f.ensures.named)
     ]
 
@@ -617,7 +617,7 @@ turn_ends t c =
     let same = c.loop-pass.invariant.2 in
     elim c.if-kind-eq-NOTHING.branch [
       | run_repeat-then-kind-eq-NOTHING w ↦ rw (w.pass-is, w.f-is)
-          (by_kind c.kind_at-kind.ensures.0 w.if-kind-eq-NOTHING.true (ran_then same.0 w.run_nothing-f.ensures.has_run), named_then same w.run_nothing-f.ensures.named)
+          (by_kind c.kind_at-kind.ensures.0 w.if-kind-eq-NOTHING.true (ran_then same.0 (alone w.run_nothing-f.ensures).has_run), named_then same w.run_nothing-f.ensures.named)
       | run_repeat-else-kind-eq-NOTHING w ↦ rw (w.pass-is, w.f-is) (ran_then same.0 w.run_child-f.ensures.has_run, named_then same w.run_child-f.ensures.named)
     ]
 
@@ -628,7 +628,7 @@ turn_again t c =
     let same = c.loop-pass.invariant.2 in
     elim c.if-kind-eq-NOTHING.branch [
       | run_repeat-then-kind-eq-NOTHING w ↦ rw (w.pass-is, w.f-is)
-          (by_kind c.kind_at-kind.ensures.0 w.if-kind-eq-NOTHING.true (ran_then same.0 w.run_nothing-f.ensures.has_run), named_then same w.run_nothing-f.ensures.named)
+          (by_kind c.kind_at-kind.ensures.0 w.if-kind-eq-NOTHING.true (ran_then same.0 (alone w.run_nothing-f.ensures).has_run), named_then same w.run_nothing-f.ensures.named)
       | run_repeat-else-kind-eq-NOTHING w ↦ rw (w.pass-is, w.f-is) (ran_then same.0 w.run_child-f.ensures.has_run, named_then same w.run_child-f.ensures.named)
     ]
 
@@ -817,14 +817,14 @@ pub run_until-run_pending-requires : goal.run_until-run_pending-requires
 run_until-run_pending-requires t c =
     let (body, same) = stopped t (goal.at.run_until-run_pending-requires t c).Joined-phase-ne-STARRED in
     let kind = rw same.0 at c.kind_at.ensures.0 in
-    can_then same.0 (body.to_pending (sym kind ∙ c.if-kind_at-eq-FREEZABLE.true)).can
+    (_, can_then same.0 (body.to_pending (sym kind ∙ c.if-kind_at-eq-FREEZABLE.true)).can)
 
 pub run_until-returns-then-kind_at-eq-FREEZABLE : goal.run_until-returns-then-kind_at-eq-FREEZABLE
 run_until-returns-then-kind_at-eq-FREEZABLE t c =
     let (body, same) = stopped t (goal.at.run_until-returns-then-kind_at-eq-FREEZABLE t c).Joined-phase-ne-STARRED in
     let kind = rw same.0 at c.kind_at.ensures.0 in
     let on = body.to_pending (sym kind ∙ c.if-kind_at-eq-FREEZABLE.true) in
-    passed (on.has (ran_then same.0 c.run_pending.ensures.has_run)) (named_then same c.run_pending.ensures.named)
+    passed (on.has (ran_then same.0 (alone c.run_pending.ensures).has_run)) (named_then same c.run_pending.ensures.named)
 
 -- it is no Freezable: it is Until* now
 starred : (t : ℕ) (c : run_until-Else-kind_at-eq-FREEZABLE t) → let p = c.args.pass.now in let now = c.if-phase-ne-STARRED.pass in

@@ -7,7 +7,7 @@ use Rattle.steps.proofs.leaves.run_await.Goals as goal
 -- if lone_event(pass.table, i, &pass.progress) {
 pub lone_event-requires : goal.lone_event-requires
 lone_event-requires c =
-    await_tests c.if-pass-i-eq-GONE.false c.requires
+    await_tests c.if-pass-i-eq-GONE.false c.requires.1
 
 -- return run_lone(pass, i);
 pub run_lone-requires : goal.run_lone-requires
@@ -15,7 +15,7 @@ run_lone-requires c =
     record { can_pass = c.requires; lone_and_there = (c.if-pass-i-eq-GONE.false, sym c.lone_event.ensures ∙ c.if-lone_event.true) }
 
 pub bounds-pass-i : goal.bounds-pass-i
-bounds-pass-i c = phase_reads c.requires
+bounds-pass-i c = phase_reads c.requires.1
 
 pub run_tested-requires : goal.run_tested-requires
 run_tested-requires c = c.requires
