@@ -23,6 +23,9 @@ last_rank = 0
 pub lighter : {a b : ℕ} (rank lower : ℕ) {k : ℕ} → lower < 8 → b < a → 8 * a + rank ≡ k → 8 * b + lower < k
 lighter rank lower c l e = omega arith
 
+pub lower_rank : (n rank lower : ℕ) {k : ℕ} → lower < rank → n + rank ≡ k → n + lower < k
+lower_rank n rank lower l e = omega arith
+
 -- by the falling number of the laws over parts
 pub smaller_by : (table : List ℕ) (i j : ℕ) → falling table j 3 < falling table i 1 → size_at table j < size_at table i
 smaller_by table i j l = omega arith

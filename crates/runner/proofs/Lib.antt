@@ -15,6 +15,7 @@ pub mod Freezable
 pub mod If
 pub mod GoesOn
 pub mod EitherKind
+pub mod Told
 pub mod Branches
 pub mod Indices
 pub mod Handed

@@ -19,7 +19,7 @@ use Rattle.steps.specs.Progress.{words_of, tally_of}
 use Rattle.steps.specs.Parking.{stays_pending, piece_from, Parked}
 use Rattle.steps.specs.Lent.{lent, Around, Stands, CanRun, HasRun}
 use Rattle.steps.proofs.Children.{own_in, unseen}
-use Rattle.steps.proofs.Context.{byte_in, put_phase, put_part, part_there, phase_at_lem}
+use Rattle.steps.proofs.Context.{byte_in, phase_in, put_phase, put_part, part_there, phase_at_lem}
 use Rattle.steps.proofs.Kept.{kept_same}
 use Rattle.steps.proofs.FlagNumbers.{set_there}
 use Rattle.steps.proofs.Tested.{both_true}
@@ -76,6 +76,10 @@ module _ {table : List ℕ} {i : ℕ} {state : List ℕ} {m : Progress} {rooms :
 
   module _ {a : ℕ} (names : a ≡ argument_at table i) where
     module _ (on : marks (words_of m) a ≡ true) {state₁ : List ℕ} {m₁ : Progress} {store₁ : List ℕ} (p : Parked table i a state m rooms.store state₁ m₁ store₁) where
+      pub cleared_writes : CanRun 1 Pending (lent table state m rooms) i → 4 * i < length state₁
+      cleared_writes (before, part, behind, o) =
+          phase_in (around_cleared o p) (omega (arith, length-replicate {A = ℕ} (length part) 0, own_in o.live.2 0 (lit< tt)))
+
       pub freezes_now : m.ended ≡ false
           → HasRun 1 Pending (lent table state m rooms) i (lent table state₁ m₁ (rooms_of rooms.row store₁)) TERM
       freezes_now z before part behind o =
