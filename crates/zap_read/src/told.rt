@@ -3,7 +3,7 @@ ghost use Rattle.std.specs.Prelude.{◌+◌, ◌<◌, ◌≤◌, length};
 ghost use Rattle.zap_read.specs.Told.{OthersKept};
 
 use crate::expected::{begins, is_whole};
-use console::write_out;
+use console::{print_decimal, write_out};
 use std::io::Write;
 
 // At most so many bytes of the line are shown, and so many of these before the byte that fails.
@@ -16,7 +16,10 @@ pub fn tell_failure(out: &mut impl Write, text: &mut [u8], long: usize, k: usize
     requires { (k ≤ long) × (long < length text.old) }
     ensures { OthersKept k text.old text.new }
 {
-    let _ = writeln!(out, "text refused 21 {k}");
+    write_out(out, b"text refused 21 ");
+    // A number that can't be written is passed over, as a text is.
+    let _ = print_decimal(out, k as u64);
+    write_out(out, b"\n");
     let from = line_from(text, k);
     tell_line(out, text, from, k, long);
     tell_expected(out, text, k);

@@ -4,7 +4,7 @@
 // empty.
 #![tactic(auto)]
 
-use console::{TABLE, read_all, read_file, read_table, write_out};
+use console::{TABLE, print_decimal, read_all, read_file, read_table, write_out};
 use listing::read_events;
 use octets::split_once;
 use std::fs::OpenOptions;
@@ -61,8 +61,8 @@ fn event_in(line: &[u8]) -> Option<usize> {
 fn take_piece(files: &impl Files, out: &mut impl Write, event: usize) {
     let mut table = [0u8; TABLE];
     let mut store = [0u8; STORE];
-    let long = read_file(files, b"store.bin", &mut store).len();
     let table = read_table(files, &mut table);
+    let long = read_file(files, b"store.bin", &mut store).len();
     take_from(files, out, table, &mut store[..long], event);
 }
 
@@ -94,14 +94,19 @@ fn take_from(
 
 // Tells what was refused, and how.
 fn tell_refused(out: &mut impl Write, why: TakeRefusal) {
-    let what = match why {
-        TakeRefusal::BadStore => "store",
-        TakeRefusal::NoPiece => "event",
-        _ => "table",
+    let what: &[u8] = match why {
+        TakeRefusal::BadStore => b"store",
+        TakeRefusal::NoPiece => b"event",
+        _ => b"table",
     };
     let Numbered { number, index } = Numbered::from(why);
-    // A line that can't be written is passed over.
-    let _ = writeln!(out, "{what} refused {number} {index}");
+    // A number that can't be written is passed over, as a text is.
+    write_out(out, what);
+    write_out(out, b" refused ");
+    let _ = print_decimal(out, number as u64);
+    write_out(out, b" ");
+    let _ = print_decimal(out, index as u64);
+    write_out(out, b"\n");
 }
 
 // The store last: a piece that can't be written stays in it.
