@@ -1,7 +1,7 @@
 -- The phases at rest of each sort of kinds, how many parts a node of each has, and how often one repeats.
-use Prim.Native.Nat.{ℕ, ◌<◌}
+use Prim.Native.Nat.{ℕ, zero, suc, ◌<◌}
 use mathlib.Core.Bool.{true, false, ◌&&◌, or-false, and-true, false≢true}
-use mathlib.Core.Path.{◌≡◌, sym}
+use mathlib.Core.Path.{◌≡◌, refl, sym}
 use mathlib.Core.Logic.{◌⊎◌, inl, inr}
 use mathlib.Core.List.{List}
 use native.Mathlib.Omega.{arith}
@@ -31,6 +31,21 @@ second_children (inr (inl e)) = rw e
 second_children (inr (inr (inl e))) = rw e
 second_children (inr (inr (inr e))) = rw e
 
+-- a kind below 10 that has no part
+pub no_parts : (k : ℕ) → k < 10 → (k ≡ 3 → ⊥) → (k ≡ 4 → ⊥) → (k ≡ 5 → ⊥) → (k ≡ 6 → ⊥) → (k ≡ 9 → ⊥) → children k ≡ 0
+unfolding children
+no_parts zero h a b c d e = refl
+no_parts (suc zero) h a b c d e = refl
+no_parts (suc (suc zero)) h a b c d e = refl
+no_parts (suc (suc (suc zero))) h a b c d e = absurd (a refl)
+no_parts (suc (suc (suc (suc zero)))) h a b c d e = absurd (b refl)
+no_parts (suc (suc (suc (suc (suc zero))))) h a b c d e = absurd (c refl)
+no_parts (suc (suc (suc (suc (suc (suc zero)))))) h a b c d e = absurd (d refl)
+no_parts (suc (suc (suc (suc (suc (suc (suc zero))))))) h a b c d e = refl
+no_parts (suc (suc (suc (suc (suc (suc (suc (suc zero)))))))) h a b c d e = refl
+no_parts (suc (suc (suc (suc (suc (suc (suc (suc (suc zero))))))))) h a b c d e = absurd (e refl)
+no_parts (suc (suc (suc (suc (suc (suc (suc (suc (suc (suc k)))))))))) h a b c d e = absurd (omega arith)
+
 module _ (t s : List ℕ) (i : ℕ) where
   -- phase 0
   module _ {k : ℕ} where
@@ -50,13 +65,12 @@ module _ (t s : List ℕ) (i : ℕ) where
     body_fresh (inr (inl e)) = rw (e, or-false)
     body_fresh (inr (inr e)) = rw (e, or-false)
 
-    -- a Par, Control, Local or Freezable
-    pub plain_fresh : (k ≡ 4) ⊎ ((k ≡ 11) ⊎ ((k ≡ 12) ⊎ (k ≡ 13))) → phase_rests t s i k 0 ≡ true
-    unfolding phase_rests
-    plain_fresh (inl e) = rw e
-    plain_fresh (inr (inl e)) = rw e
-    plain_fresh (inr (inr (inl e))) = rw e
-    plain_fresh (inr (inr (inr e))) = rw e
+  -- any other kind
+  pub plain_fresh : (k : ℕ) → (k ≡ 3 → ⊥) → (k ≡ 5 → ⊥) → (k ≡ 6 → ⊥) → (k ≡ 9 → ⊥) → (k ≡ 10 → ⊥) → (k ≡ 14 → ⊥) → (k ≡ 15 → ⊥)
+      → phase_rests t s i k 0 ≡ true
+  unfolding phase_rests
+  plain_fresh k a b c d e f g =
+      simp (ne_eqb _ _ a, ne_eqb _ _ b, ne_eqb _ _ c, ne_eqb _ _ d, ne_eqb _ _ e, ne_eqb _ _ f, ne_eqb _ _ g)
 
   -- phase 2
   pub in_second : {k : ℕ} → (k ≡ 3) ⊎ ((k ≡ 9) ⊎ ((k ≡ 10) ⊎ (k ≡ 14))) → phase_rests t s i k 2 ≡ first_zero t s i

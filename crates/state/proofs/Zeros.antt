@@ -1,5 +1,5 @@
 -- Nodes with no byte but zeros: one by one, and in parts.
-use Prim.Native.Nat.{ℕ, zero, suc, ◌+◌, ◌*◌, ◌≤◌, ◌<◌}
+use Prim.Native.Nat.{ℕ, zero, suc, ◌+◌, ◌-◌, ◌*◌, ◌≤◌, ◌<◌}
 use mathlib.Core.Bool.{Bool, true, false, ◌&&◌, false≢true, and_assoc}
 use mathlib.Core.Path.{◌≡◌, refl, sym, ◌∙◌}
 use mathlib.Core.List.{List}
@@ -55,6 +55,19 @@ module _ (s : List ℕ) (i r : ℕ) (two : r ≡ own s i * 4294967296 + own s (i
   two_not_zero e z =
       let (a, b, c) = zero_owns s (i + 1) z in
       own_not_zero s i (λ f. e (two ∙ rw (f, a, b, c)))
+
+-- the first of some nodes, and the rest
+pub zero_rest : (s : List ℕ) (a m : ℕ) → 0 < m → zero_nodes s a m ≡ (zero_node s a && zero_nodes s (a + 1) (m - 1))
+unfolding zero_nodes
+zero_rest s a zero h = absurd (omega arith)
+zero_rest s a (suc m) h = let e : suc m - 1 ≡ m = omega arith in rw e
+
+-- what the first of them tells of all
+pub zeros_behind : (s : List ℕ) (a m : ℕ) → 0 < m → own s a ≡ 0 → zero_nodes s a m ≡ zero_nodes s (a + 1) (m - 1)
+zeros_behind s a m h e = rw (zero_rest s a m h, own_zero s a e)
+
+pub not_all_zero : (s : List ℕ) (a m : ℕ) → 0 < m → (own s a ≡ 0 → ⊥) → zero_nodes s a m ≡ false
+not_all_zero s a m h e = rw (zero_rest s a m h, own_not_zero s a e)
 
 -- some nodes, by each of them
 pub zero_all : (s : List ℕ) (a m : ℕ) → ((k : ℕ) → a ≤ k → k < a + m → zero_node s k ≡ true) → zero_nodes s a m ≡ true

@@ -1,12 +1,45 @@
--- Bytes that are written into a room, or moved down over a gap.
-use Prim.Native.Nat.{ℕ, ◌+◌, ◌-◌, ◌/◌, ◌%◌, ◌≤◌, ◌<◌}
+-- Bytes that are written into a room, copied to its front one by one, or moved down over a gap.
+use Prim.Native.Nat.{ℕ, suc, ◌+◌, ◌-◌, ◌≤◌, ◌<◌}
 use mathlib.Core.Path.{◌≡◌, sym, ap, ◌∙◌}
-use mathlib.Core.List.{List, ◌++◌, append_assoc}
+use mathlib.Core.List.{List, [], ◌∷◌, ◌++◌, append_assoc}
 use native.Mathlib.Omega.{arith}
-use lib.ListN.{length, take, drop, length-drop, take-append-drop}
-use lib.Seq.{length-take-le, take_all, take-add, drop_at, drop-drop, drop-append-le}
+use native.Mathlib.Numerals.{add-one}
+use lib.ListN.{length, get_or, set, take, drop, length-drop, take-append-drop}
+use lib.Seq.{length-take-le, take_all, take-suc, take-add, drop-cons, drop_at, drop-drop, drop-append-le, append_snoc, set_at, sets-eq}
+use lib.Seq.{get_or-append-add, get_or-drop}
 use borrow.Rule.Slice.PartMut.{mid_of, put_mid, mid_len}
 use Rattle.store.specs.Store.{in_use, two, without}
+
+-- two bytes in place
+pub two_set : (s : List ℕ) (i a b : ℕ) → i + 1 < length s → set (set s i a) (i + 1) b ≡ take i s ++ (a ∷ b ∷ drop (i + 2) s)
+two_set s i a b h =
+    rw (add-one i) (sets-eq (a ∷ b ∷ []) s i (omega arith) ∙ append_assoc (take i s) (a ∷ b ∷ []) (drop (i + 2) s))
+
+-- the first i bytes of l are those of `from`
+pub copies_more : (from l : List ℕ) (i : ℕ) → i < length from → i < length l
+    → set (take i from ++ drop i l) i (get_or from i 0) ≡ take (i + 1) from ++ drop (i + 1) l
+copies_more from l i h g =
+    rw (
+      drop-cons l i 0 g,
+      set_at (take i from) (get_or l i 0) (drop (suc i) l) (get_or from i 0) i (length-take-le i from (omega arith)),
+      add-one i,
+      take-suc from i 0 h,
+    )
+    (sym (append_snoc (take i from) (get_or from i 0) (drop (suc i) l)))
+
+-- the next byte has not been moved over yet
+pub moves_more : (l : List ℕ) (n i : ℕ) → n + i < length l
+    → set (take i (drop n l) ++ drop i l) i (get_or (take i (drop n l) ++ drop i l) (n + i) 0) ≡ take (i + 1) (drop n l) ++ drop (i + 1) l
+moves_more l n i h =
+    let inside : i < length (drop n l) = simp length-drop (omega arith) in
+    let front : length (take i (drop n l)) ≡ i = length-take-le i (drop n l) (omega arith) in
+    let at : n + i ≡ length (take i (drop n l)) + n = omega (arith, front) in
+    let back : i + n ≡ n + i = omega arith in
+    let next : get_or (take i (drop n l) ++ drop i l) (n + i) 0 ≡ get_or (drop n l) i 0 =
+    ap (λ (k : ℕ). get_or (take i (drop n l) ++ drop i l) k 0) at ∙ (get_or-append-add (take i (drop n l)) (drop i l) n 0
+    ∙ (get_or-drop i l n 0 ∙ (ap (λ (k : ℕ). get_or l k 0) back ∙ sym (get_or-drop n l i 0))))
+    in
+    rw next (copies_more (drop n l) l i inside (omega arith))
 
 -- a part to the end is all of the rest
 pub to_end : (b : ℕ) (l : List ℕ) → take (length l - b) (drop b l) ≡ drop b l

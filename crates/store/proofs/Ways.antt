@@ -5,8 +5,9 @@ use mathlib.Core.Bool.{Bool, true, false, ◌&&◌, and-false, false≢true}
 use mathlib.Core.Path.{◌≡◌, sym, ◌∙◌}
 use mathlib.Core.List.{List}
 use native.Mathlib.Omega.{arith}
+use native.Mathlib.Decide.{ℕ_discrete, dec_lt}
 use lib.Dec.{eqb}
-use borrow.Author.Tests.{lt-ltb, eq-eqb, ne_eqb, eqb-true}
+use borrow.Author.Tests.{lt-ltb, le-ltb, eq-eqb, ne_eqb, eqb-true}
 use Rattle.events.specs.Events.{lowest}
 use Rattle.events.proofs.Events.{before_lowest, lowest_is}
 use Rattle.table.specs.Records.{nodes, size_at, second_child}
@@ -46,7 +47,23 @@ module _ (t : List ℕ) (j : ℕ) where
         ne_eqb (lowest j (stops_at t j)) j (λ e.
         false≢true (sym (before_lowest j (stops_at t j) i (omega arith)) ∙ rw (is_above h, never)))
 
-    -- the way goes on
+    -- it isn't, and the way goes on
+    pub onward : {r : ℕ} → never_runs t i ≡ false → Free t j i → Next t i j r → Free t j r
+    onward {r} runs o n k h = go (dec_lt k i) (ℕ_discrete k i)
+      where
+        go : Dec (k < i) → Dec (k ≡ i) → stops_at t j k ≡ false
+        go (yes l) d = o k l
+        go (no m) (yes e) = rw (e, runs, and-false)
+        go (no m) (no e) = rw (le-ltb _ _ (n.passed k (omega arith) h), and-false)
+
+    pub to_first : i < j → j < second_child t i → Next t i j (i + 1)
+    to_first h b =
+        record {
+          down = omega arith;
+          under = record { loaded = u.loaded; among = u.among; from = omega arith; ends = b };
+          passed = λ k a c. absurd (omega arith);
+        }
+
     pub to_second : i < j → second_child t i ≤ j → Next t i j (second_child t i)
     to_second h b = go (laid_there (rooted u.loaded) i (omega (arith, u.among)))
       where
@@ -65,6 +82,13 @@ abbrev pub Run : List ℕ → ℕ → Type 0
 Run t i = (k : ℕ) → k < i → never_runs t k ≡ false
 
 module _ (t : List ℕ) where
+  pub run_more : (i : ℕ) → never_runs t i ≡ false → Run t i → Run t (i + 1)
+  run_more i here o k h = go (ℕ_discrete k i)
+    where
+      go : Dec (k ≡ i) → never_runs t k ≡ false
+      go (yes e) = rw e here
+      go (no e) = o k (omega arith)
+
   pub all_seen : (n : ℕ) → n ≡ nodes t → Run t n → all_run t ≡ true
   unfolding all_run
   all_seen n e all = eq-eqb _ _ (sym (lowest_is (nodes t) (nodes t) (never_runs t) (omega arith) (rw e at all) (λ h. absurd (omega arith))))

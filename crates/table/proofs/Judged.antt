@@ -5,10 +5,10 @@ use mathlib.Core.Path.{◌≡◌, refl, ap₂, sym, ◌∙◌}
 use mathlib.Core.List.{List, [], ◌∷◌}
 use native.Mathlib.Omega.{arith}
 use lib.Dec.{eqb, ltb}
-use lib.ListN.{get_or}
+use lib.ListN.{get_or, get_or-eq_default}
 use borrow.Author.Tests.{lt-ltb, le-ltb, le-leb, eq-eqb, leb-true, eqb-true}
 use Rattle.table.specs.Records.{nodes, configurations, events, kind_at, zero_at, argument_at, size_at}
-use Rattle.table.specs.Good.{known, children, argument_limits, argument_limit, is_laid_out, good_node}
+use Rattle.table.specs.Good.{known, child_counts, children, argument_limits, argument_limit, is_laid_out, good_node}
 use Rattle.table.proofs.Laid.{both}
 use Rattle.table.specs.Inside.Weighing.{SizedWhole, Within, HeadIs}
 use Rattle.table.specs.declared.kinds.Kind.{Kind}
@@ -116,10 +116,19 @@ most_at b [] d m h k = h
 most_at b (x ∷ l) d m h zero = m.0
 most_at b (x ∷ l) d m h (suc k) = most_at b l d m.1 h k
 
+-- other kinds have no children and no argument
+pub no_children : (k : ℕ) → 16 ≤ k → children k ≡ 0
+unfolding children
+no_children k h = get_or-eq_default child_counts 0 h
+
 pub limit_by : (t : List ℕ) {m v : ℕ} (k : ℕ) → m ≡ configurations t → v ≡ events t
     → argument_limit t k ≡ get_or (argument_limits v m) k 0
 unfolding argument_limit
 limit_by t k e f = ap₂ (λ v m. get_or (argument_limits v m) k 0) (sym f) (sym e)
+
+pub no_argument : (t : List ℕ) (k : ℕ) → 16 ≤ k → argument_limit t k ≡ 0
+unfolding argument_limit
+no_argument t k h = get_or-eq_default (argument_limits (events t) (configurations t)) 0 h
 
 module _ {t : List ℕ} {n i limit count : ℕ} (w : Within t n i) (k : Headed t i limit count) where
   judged : good_node t i ≡ (eqb (zero_at t i) 0 && (ltb (argument_at t i) limit && is_laid_out (size_at t) n i count))

@@ -333,3 +333,13 @@ fn first_deep(table: &[u8], i: usize, d: usize) -> usize
     }
     first_deep(table, second, d + 1)
 }
+
+// How many children kind k has; none where no kind has that number.
+pub fn children_of(k: usize) -> usize
+    ensures { children k ≡ result }
+{
+    match Kind::try_from(k) {
+        Ok(kind) => kind.children(),
+        Err(_) => 0,
+    }
+}

@@ -20,6 +20,17 @@ use Rattle.taking.specs.declared.TakeRefusal.{TakeRefusal}
 use Rattle.taking.specs.declared.TakeRefusal.TheVariants.{Table, BadStore, NoPiece, NoRoom}
 use Rattle.taking.specs.Taking.{on_accepted, has_rooms, take_outcome}
 
+-- 15, by the two rooms
+module _ (t : List ℕ) (j : ℕ) (tableRoom stateRoom : List ℕ) where
+  pub table_short : length tableRoom < part_length t j → has_rooms t j tableRoom stateRoom ≡ false
+  table_short h = rw (lt-leb (part_length t j) (length tableRoom) h)
+
+  pub state_short : length stateRoom < 4 * size_at t j → has_rooms t j tableRoom stateRoom ≡ false
+  state_short h = rw (lt-leb (4 * size_at t j) (length stateRoom) h) (and-false (leb (part_length t j) (length tableRoom)))
+
+  pub roomy : part_length t j ≤ length tableRoom → 4 * size_at t j ≤ length stateRoom → has_rooms t j tableRoom stateRoom ≡ true
+  roomy h g = rw (le-leb (part_length t j) (length tableRoom) h, le-leb (4 * size_at t j) (length stateRoom) g)
+
 module _ (t s : List ℕ) (e : ℕ) (tableRoom stateRoom : List ℕ) where
   pub table_refused : {why : TableRefusal} → verdict_of t ≡ Err why → take_outcome t s e tableRoom stateRoom ≡ Err (Table why)
   unfolding take_outcome

@@ -54,6 +54,12 @@ module _ (a room r : List ℕ) (k : ℕ) (long : length a ≡ k) (is : r ≡ a +
       put_is r a (drop k room) [] split k (length r) long (behind_end h) s
       ∙ (ap (λ (l : List ℕ). a ++ l) (append-nil s ∙ f) ∙ sym (append_assoc a b _))
 
+-- what is left of a room behind its first k bytes
+pub behind_long : (room r : List ℕ) (k q : ℕ) → length r ≡ length room → k + q ≤ length room → q ≤ length (mid_of k (length r - k) r)
+behind_long room r k q e h =
+    let long : length (mid_of k (length r - k) r) ≡ length r - k = length-take-le (length r - k) (drop k r) (simp length-drop (omega arith)) in
+    omega arith
+
 -- the part of a table at node j: its nodes, then what stands behind them
 module _ {t : List ℕ} (l : Loaded t) where
   pub part_ends : (j : ℕ) → j < nodes t → j + size_at t j ≤ nodes t
@@ -67,6 +73,19 @@ module _ {t : List ℕ} (l : Loaded t) where
 
   pub configurations_long : length (take (4 * configurations t) (drop (6 * nodes t) t)) ≡ 4 * configurations t
   configurations_long = length-take-le (4 * configurations t) (drop (6 * nodes t) t) (simp length-drop (omega (arith, l.framed.long)))
+
+  pub nodes_fit : (j n : ℕ) → j < nodes t → n ≡ size_at t j → (room : List ℕ) → part_length t j ≤ length room
+      → length (mid_of (6 * j) (6 * (j + n) - 6 * j) t) ≤ length room
+  nodes_fit j n h e room fits =
+      let span : 6 * (j + n) - 6 * j ≡ 6 * size_at t j = omega arith in
+      rw span (omega (arith, nodes_long j h))
+
+  pub configurations_fit : (m : ℕ) → m ≡ configurations t → (room : List ℕ) → 4 * configurations t + 10 ≤ length room
+      → length (mid_of (length t - 10 - 4 * m) (length t - 10 - (length t - 10 - 4 * m)) t) ≤ length room
+  configurations_fit m e room fits =
+      let from : length t - 10 - 4 * m ≡ 6 * nodes t = omega (arith, rest_begins) in
+      let span : length t - 10 - 6 * nodes t ≡ 4 * configurations t = omega (arith, l.framed.long) in
+      rw (from, span) (omega (arith, configurations_long))
 
   -- the nodes are copied, r being the room then, and the rest is written behind them
   pub table_written : (j n : ℕ) → j < nodes t → n ≡ size_at t j → (room r s : List ℕ) → part_length t j ≤ length room

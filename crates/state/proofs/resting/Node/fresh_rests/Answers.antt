@@ -1,5 +1,6 @@
 -- Kinds that rest by their own bytes, by their second part, and the others.
 use mathlib.Core.Path.{sym, ◌∙◌}
+use native.Mathlib.Omega.{arith}
 use Rattle.state.proofs.ByNumber.{of_two, of_four}
 use Rattle.state.proofs.Phases.{two_parts, parts_fresh, plain_fresh}
 use Rattle.state.proofs.Around.{not_fresh}
@@ -7,7 +8,9 @@ use Rattle.state.proofs.resting.Node.fresh_rests.Goals as goal
 
 -- Kind::Par | Kind::Control | Kind::Local | Kind::Freezable => true,
 pub returns-in-Par : goal.returns-in-Par
-returns-in-Par c = sym (plain_fresh _ _ _ (of_four c.kind.ensures c.in-Par.is))
+returns-in-Par c =
+    let plain = of_four c.kind.ensures c.in-Par.is in
+    sym (plain_fresh _ _ _ _ (λ e. omega arith) (λ e. omega arith) (λ e. omega arith) (λ e. omega arith) (λ e. omega arith) (λ e. omega arith) (λ e. omega arith))
 
 -- Kind::Seq | Kind::Until => self.second_zero(),
 pub second_zero-requires : goal.second_zero-requires
