@@ -25,6 +25,9 @@ module _ {n m : ℕ} {t : List ℕ} {f : Front} {s : SoFar} (h : Holds n m t f s
   pub nodes_part : take (f.middle - f.node) (drop f.node t) ≡ s.nodes
   nodes_part = rw h.middle_is (region_is h.nodes_there)
 
+  pub tests_end : f.end ≤ length t
+  tests_end = rw h.end_is (region_end h.tests_there)
+
   pub tests_part : take (f.end - f.part) (drop f.part t) ≡ s.tests
   tests_part = rw h.end_is (region_is h.tests_there)
 

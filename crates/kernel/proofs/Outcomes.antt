@@ -12,7 +12,7 @@ use Rattle.events.specs.Members.{places}
 use Rattle.std.specs.Prelude.{Ok, Err}
 use Rattle.table.specs.declared.TableRefusal.{TableRefusal}
 use Rattle.table.specs.Records.{nodes}
-use Rattle.table.specs.Verdict.{Verdict, accepted_with, verdict_of}
+use Rattle.table.specs.Verdict.{Verdict, accepted_with, no_figures, figures_of, verdict_of}
 use Rattle.table.proofs.Accepted.{chosen, passed}
 use Rattle.state.specs.Resting.{rests, blamed}
 use Rattle.store.specs.Store.{store_good, store_room}
@@ -20,6 +20,22 @@ use Rattle.kernel.specs.declared.Refusal.TheVariants.{Table, StateRoom, NotAtRes
 use Rattle.kernel.specs.declared.Refusal.TheVariants.{AtomRoom, BadStore, StoreRoom}
 use Rattle.kernel.specs.Answer.{Outcome, Rooms, on_accepted, has_room, start_outcome, unlisted, store_outcome, instant_outcome}
 use Rattle.kernel.proofs.Replies.{no_refusal}
+
+-- what the last arm of a match on a verdict knows: it isn't the accepted one
+abbrev pub NotAccepted : Verdict → Type 0
+NotAccepted c = (g a w f : ℕ) → c ≡ accepted_with g a w f → ⊥
+
+-- so it is a refusal, and that is the outcome
+pub refused_arm : (c : Verdict) → NotAccepted c → (go : ℕ → ℕ → Outcome)
+    → (why : TableRefusal) × (c ≡ Err why) × (Err (Table why) ≡ on_accepted c go)
+refused_arm (Ok x) o go = absurd (o x.generations x.atoms x.nodes x.parked refl)
+refused_arm (Err why) o go = (why, refl, refl)
+
+-- and there are no figures
+pub no_figures_of : (c : Verdict) → NotAccepted c → no_figures ≡ figures_of c
+unfolding figures_of
+no_figures_of (Ok x) o = absurd (o x.generations x.atoms x.nodes x.parked refl)
+no_figures_of (Err why) o = refl
 
 pub start_refused : (t s : List ℕ) {why : TableRefusal} → Err why ≡ verdict_of t → Err (Table why) ≡ start_outcome t s
 unfolding start_outcome

@@ -58,6 +58,21 @@ decimal_length (suc k) n h =
     (λ l. omega (arith, ap length (decimal_digit n l)))
     (λ l. omega (arith, more_long n l, decimal_length k (n / 10) (omega (arith, pow-suc 10 (suc k)))))
 
+-- no more digits than there is room for
+digits_few : (f n : ℕ) → length (digits f n) ≤ f
+unfolding digits
+digits_few zero n = omega arith
+digits_few (suc f) n = go (digits_few f (n / 10)) (ltb n 10)
+  where
+    go : length (digits f (n / 10)) ≤ f → (b : Bool) → length (cond b [] (digits f (n / 10)) ++ ((48 + n % 10) ∷ [])) ≤ suc f
+    go h true = omega arith
+    go h false = simp length-append (omega arith)
+
+-- nor than one more than the number
+pub decimal_few : (n : ℕ) → length (decimal n) ≤ n + 1
+unfolding decimal
+decimal_few n = omega (arith, digits_few (suc n) n)
+
 -- a byte by its figure
 pub figure_of_digit : (b : ℕ) → 48 ≤ b → b ≤ 57 → (b - 48 ≡ figure b) × (b - 48 < 10)
 unfolding figure

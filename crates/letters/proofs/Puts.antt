@@ -1,12 +1,12 @@
 -- Texts that are put into a room, one behind the other.
-use mathlib.Core.Path.{◌≡◌, refl, sym, ◌∙◌}
+use mathlib.Core.Path.{◌≡◌, refl, sym, ap, ◌∙◌}
 use mathlib.Core.List.{List, [], ◌∷◌, ◌++◌}
 use Prim.Native.Nat.{ℕ, ◌+◌, ◌^◌, ◌≤◌, ◌<◌, suc}
 use native.Mathlib.Omega.{arith}
 use native.Mathlib.Nat.{add-zero, zero-add}
 use native.Mathlib.Numerals.{add-one}
 use lib.ListN.{length, get_or, set, take, drop, length-append}
-use lib.Seq.{sets, take-suc, take_at}
+use lib.Seq.{sets, length-sets, take-suc, take_at}
 use Rattle.letters.specs.Decimal.{decimal}
 use Rattle.letters.specs.Rooms.{Puts}
 use Rattle.letters.proofs.Decimal.{decimal_length}
@@ -14,6 +14,10 @@ use Rattle.letters.proofs.Rooms.{sets_append, sets_front}
 
 pub puts_none : (l : List ℕ) (x : ℕ) → Puts l l x [] x
 puts_none l x = record { next = sym (add-zero x); room = refl }
+
+-- the room has as many bytes as before
+pub puts_long : {a b : List ℕ} {x r : ℕ} {u : List ℕ} → Puts a b x u r → length b ≡ length a
+puts_long {a} {x = x} {u = u} p = ap length p.room ∙ length-sets a x u
 
 pub puts_then : {a b c : List ℕ} {x r s : ℕ} {u v : List ℕ} → Puts a b x u r → Puts b c r v s → Puts a c x (u ++ v) s
 puts_then {a} {x = x} {u = u} {v = v} p q =

@@ -1,4 +1,4 @@
--- How long an output line is: a room of `enough` bytes has a place for every line of an instant that ran.
+-- How long an output line is: a room of `enough` bytes has a place for every line of an instant that ran, and one of 32,768 bytes for 4,096 atoms.
 use mathlib.Core.Path.{◌≡◌, refl, ap}
 use mathlib.Core.Bool.{Bool, true, false, cond}
 use mathlib.Core.List.{List, [], ◌∷◌}
@@ -89,3 +89,6 @@ unfolding table_refused_line
 table_refused_fits refusal index k l =
     simp (field_length, last_length)
     (omega (arith, decimal_length 19 refusal (omega arith), decimal_length 19 index (omega arith)))
+
+pub enough_4096 : enough 4096 ≤ 32768
+enough_4096 = lit≤ tt

@@ -2,7 +2,7 @@
 use Prim.Native.Nat.{ℕ, suc, ◌<◌, ◌≤◌}
 use mathlib.Core.Bool.{Bool, true, false}
 use mathlib.Core.Path.{◌≡◌, refl, subst, sym, ap, ◌∙◌}
-use mathlib.Core.List.{List, ◌++◌, append_assoc}
+use mathlib.Core.List.{List, [], ◌++◌, append_assoc, append-nil}
 use native.Mathlib.Omega.{arith}
 use lib.Dec.{eqb}
 use lib.ListN.{length, take, drop, take-append-drop, length-append}
@@ -14,9 +14,9 @@ use Rattle.text.specs.declared.ReadRefusal.TheVariants as answered
 use Rattle.form.specs.Form.{Says, whole}
 use Rattle.form.specs.Fails.{Begins, Fails}
 use Rattle.form.specs.Made.{table_of}
-use Rattle.text.specs.Answers.{Reads, fails, read}
+use Rattle.text.specs.Answers.{Reads, fails, no_room, refused, read}
 use Rattle.form.proofs.MadeLength.{table_length}
-use Rattle.zap_read.specs.Told.{Told}
+use Rattle.zap_read.specs.Told.{Told, HasReading}
 
 failed : {text room after : List ℕ} {k : ℕ} → Reads text room after (Err (answered.Fails k)) → Fails text k
 failed (fails k f) = f
@@ -24,6 +24,11 @@ failed (fails k f) = f
 pub fails_within : {text room after : List ℕ} {r : Result ℕ ReadRefusal} → Reads text room after r → {k : ℕ} → r ≡ Err (answered.Fails k)
     → k ≤ length text
 fails_within {text} {room} {after} o e = (failed (subst (Reads text room after) e o)).within
+
+-- a text that fails has no reading
+pub fails_not_whole : {text room after : List ℕ} {r : Result ℕ ReadRefusal} → Reads text room after r → {k : ℕ} → r ≡ Err (answered.Fails k)
+    → HasReading text → ⊥
+fails_not_whole {text} {room} {after} o e (p, d) = (failed (subst (Reads text room after) e o)).unread p d
 
 -- some text begins as a text that fails exactly if it fails at its length
 pub fails_begins : {text : List ℕ} {k : ℕ} → Fails text k → Told (eqb k (length text)) (Begins text)
@@ -45,3 +50,14 @@ read_fits {room = room} (read p d f v) =
 pub read_within : {text room after : List ℕ} {r : Result ℕ ReadRefusal} → Reads text room after r → {n : ℕ} → r ≡ Ok n
     → n ≤ length after
 read_within {text} {room} {after} o e = read_fits (subst (Reads text room after) e o)
+
+-- any other answer is of a text with a reading
+pub others_whole : {text room after : List ℕ} {r : Result ℕ ReadRefusal} → Reads text room after r
+    → ((k : ℕ) → r ≡ Err (answered.Fails k) → ⊥) → HasReading text
+others_whole (fails k f) o = absurd (o k refl)
+others_whole (no_room p d n) o = (p, d)
+others_whole (refused p d f n) o = (p, d)
+others_whole (read p d f n) o = (p, d)
+
+pub whole_begins : {text : List ℕ} → HasReading text → Begins text
+whole_begins {text} (p, d) = (p, [], subst (Says (whole p)) (sym (append-nil text)) d)

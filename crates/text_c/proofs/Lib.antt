@@ -1,0 +1,2 @@
+-- The law of the two calls.
+pub mod Lengths
