@@ -17,14 +17,15 @@ use Rattle.junior.specs.Term.{Term}
 use Rattle.table.specs.Records.{size_at, second_child}
 use Rattle.state.specs.Kinds.{until_kind}
 use Rattle.state.proofs.Parts.{first_of, with_first}
-use Rattle.steps.specs.Running.{Rooms, Ready, Any, TestRead}
+use Rattle.steps.specs.Running.{Rooms, rooms_of, Ready, Any, TestRead}
 use Rattle.steps.proofs.Children.{own_in}
 use Rattle.steps.proofs.Tally.{byte_read}
+use Rattle.steps.specs.declared.Pass.{Pass}
 use Rattle.steps.specs.Progress.{words_of, tally_of}
 use Rattle.steps.specs.Kinds.{OfKind, InSecond}
 use Rattle.runner.proofs.Stages.{Starred}
 use Rattle.steps.specs.Tests.{CanTest, TestIs, body_cleared, StarRead, waits, refused, satisfied_late, satisfied}
-use Rattle.steps.specs.Lent.{Lent, lent, Around, Stands, Went, CanRun, HasRun}
+use Rattle.steps.specs.Lent.{Lent, lent, lent_then, Around, Stands, Went, CanRun, HasRun}
 use Rattle.steps.proofs.Context.{inner, outer, phase_at_lem, put_phase, byte_in, put_part}
 use Rattle.steps.proofs.Kept.{kept_same, still}
 use Rattle.steps.proofs.Dispatch.{phase_is}
@@ -242,3 +243,10 @@ module _ {table : List ℕ} {i : ℕ} {state : List ℕ} {m : Progress} {rooms :
             has = λ run. on.has (λ before part behind o. handler_went o is reads e z run);
           };
         }
+
+-- the same where what is lent stands behind a pass's references
+pub star_read_in : {i : ℕ} {U : Term → Type 0} {L : Lent} (p p' : Pass) → GoesOnAs Starred U L i (lent_then p p')
+    → {v : Verdict} → TestIs p.table.now i p'.progress v → {second : ℕ} → second ≡ second_child p.table.now i
+    → {bytes : List ℕ} {f : Flag} → StarRead v p'.progress.ended (4 * i) (4 * second) p'.state.now bytes f
+    → AfterTest U L i (lent p.table.now bytes p'.progress (rooms_of p'.atoms.now p'.store.now)) f
+star_read_in p p' on reads is e = star_read on reads is e
