@@ -15,6 +15,10 @@ pub fn put(room: &mut [u8], at: usize, w: &[u8]) -> usize
     requires { Fits at w.now }
     ensures { Puts room.old room.new at w.now result }
 {
+    // Where the room has ended nothing is written: so a text is measured without going over its bytes.
+    if room.len() <= at {
+        return at + w.len();
+    }
     for (k, b) in w.iter().enumerate() {
         store(room, at + k, *b);
     }
