@@ -2,7 +2,7 @@
 ghost use Rattle.std.specs.Prelude.{◌≤◌, length, IfSome};
 ghost use Rattle.call_lines.specs.Rooms.{StateRoom, RowRoom, StoreRoom, AnswerRoom};
 
-use crate::{Rooms, bad_line};
+use crate::bad_line;
 use calls::{put_numbers, put_word, read_bytes, read_list, read_row};
 use events::EventSet;
 use letters::Writer;
@@ -23,38 +23,59 @@ struct HandedIn {
     store: usize,
 }
 
-pub fn answer_instant(words: &[u8], rooms: &mut Rooms, output: &mut [u8]) -> usize
-    requires { AnswerRoom output.old }
+pub fn answer_instant(
+    words: &[u8],
+    table: &mut [u8],
+    state: &mut [u8],
+    row: &mut [u16],
+    store: &mut [u8],
+    output: &mut [u8],
+) -> usize
+    requires { StateRoom state.old × RowRoom row.old × StoreRoom store.old × AnswerRoom output.old }
     ensures { result ≤ length output.old }
 {
-    match read_words(words, rooms) {
-        Some(handed) => call_instant(&handed, rooms, output),
+    match read_words(words, table, state, row, store) {
+        Some(handed) => call_instant(
+            &table[..handed.table],
+            &mut state[..handed.state],
+            handed.events,
+            &handed.values,
+            &mut row[..handed.row],
+            &mut store[..handed.store],
+            output,
+        ),
         None => bad_line(output),
     }
 }
 
 // Reads the words: a table, a state, events, values, which are sixteen bytes exactly, a row and a store.
-fn read_words(words: &[u8], rooms: &mut Rooms) -> Option<HandedIn>
-    ensures { IfSome result (λ h. (h.table ≤ length rooms.new.table.now)
-        × (h.state ≤ length rooms.new.state.now)
-        × (h.row ≤ length rooms.new.row.now)
-        × (h.store ≤ length rooms.new.store.now)) }
+fn read_words(
+    words: &[u8],
+    table: &mut [u8],
+    state: &mut [u8],
+    row: &mut [u16],
+    store: &mut [u8],
+) -> Option<HandedIn>
+    ensures { IfSome result (λ h. (h.table ≤ length table.new)
+        × (h.state ≤ length state.new)
+        × (h.row ≤ length row.new)
+        × (h.store ≤ length store.new)) }
 {
     let (table_word, behind_table) = split_once(words, b' ')?;
     let (state_word, behind_state) = split_once(behind_table, b' ')?;
     let (events_word, behind_events) = split_once(behind_state, b' ')?;
     let (values_word, behind_values) = split_once(behind_events, b' ')?;
     let (row_word, store_word) = split_once(behind_values, b' ')?;
-    let table = read_bytes(table_word, rooms.table)?;
-    let state = read_bytes(state_word, rooms.state)?;
+    let table = read_bytes(table_word, table)?;
+    let state = read_bytes(state_word, state)?;
     let events = read_list(events_word)?;
     let mut values = [0u8; VALUES];
     let count = read_bytes(values_word, &mut values)?;
     if count != VALUES {
         return None;
     }
-    let row = read_row(row_word, rooms.row)?;
-    let store = read_bytes(store_word, rooms.store)?;
+    let row = read_row(row_word, row)?;
+    let store = read_bytes(store_word, store)?;
     Some(HandedIn {
         events,
         values,
@@ -65,19 +86,19 @@ fn read_words(words: &[u8], rooms: &mut Rooms) -> Option<HandedIn>
     })
 }
 
-fn call_instant(handed: &HandedIn, rooms: &mut Rooms, output: &mut [u8]) -> usize
-    requires { (handed.now.table ≤ length rooms.old.table.now)
-        × (handed.now.state ≤ length rooms.old.state.now)
-        × (handed.now.row ≤ length rooms.old.row.now)
-        × (handed.now.store ≤ length rooms.old.store.now)
-        × AnswerRoom output.old }
+fn call_instant(
+    table: &[u8],
+    state: &mut [u8],
+    handed_in: EventSet,
+    values: &[u8; VALUES],
+    row: &mut [u16],
+    store: &mut [u8],
+    output: &mut [u8],
+) -> usize
+    requires { StateRoom state.old × RowRoom row.old × StoreRoom store.old × AnswerRoom output.old }
     ensures { result ≤ length output.old }
 {
-    let table = &rooms.table[..handed.table];
-    let state = &mut rooms.state[..handed.state];
-    let row = &mut rooms.row[..handed.row];
-    let store = &mut rooms.store[..handed.store];
-    let reply = kernel::instant(table, state, handed.events, &handed.values, row, store);
+    let reply = kernel::instant(table, state, handed_in, values, row, store);
     let refusal = Numbered::of(reply);
     let answer = reply.unwrap_or(kernel::no_answer());
     let mut out = Writer {

@@ -2,21 +2,10 @@
 #![tactic(auto)]
 
 ghost use Rattle.std.specs.Prelude.{◌≤◌, length};
-ghost use Rattle.call_lines.specs.Rooms.{Lengths, AnswerRoom};
+ghost use Rattle.call_lines.specs.Rooms.{AnswerRoom};
 
 pub mod instant;
 pub mod take;
-
-// The rooms that a line's words are read into, for a table, a state, a row, a text and a store. A longer word makes a bad line.
-#[derive(Drop)]
-pub struct Rooms<'a> {
-    pub table: &'a mut [u8],
-    pub state: &'a mut [u8],
-    pub row: &'a mut [u16],
-    pub text: &'a mut [u8],
-    pub store: &'a mut [u8],
-    ghost lengths: { Lengths table.now state.now row.now text.now store.now },
-}
 
 // The answer to a line that is no call.
 pub fn bad_line(output: &mut [u8]) -> usize

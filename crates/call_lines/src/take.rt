@@ -2,14 +2,14 @@
 ghost use Rattle.std.specs.Prelude.{◌≤◌, length, IfSome};
 ghost use Rattle.call_lines.specs.Rooms.{LongRoom, StateRoom, StoreRoom, AnswerRoom};
 
-use crate::{Rooms, bad_line};
+use crate::bad_line;
 use calls::{put_numbers, put_word, read_bytes};
 use letters::Writer;
 use listing::read_events;
 use octets::split_once;
 use table::numbers::Numbered;
 
-// What a line hands in: an event, and how much of each room its words fill. The piece's table goes into the room for a text.
+// What a line hands in: an event, and how much of each room its words fill.
 #[derive(Clone, Copy)]
 struct HandedIn {
     event: usize,
@@ -19,32 +19,52 @@ struct HandedIn {
     piece_state: usize,
 }
 
-pub fn answer_take(words: &[u8], rooms: &mut Rooms, output: &mut [u8]) -> usize
-    requires { AnswerRoom output.old }
+pub fn answer_take(
+    words: &[u8],
+    table: &mut [u8],
+    store: &mut [u8],
+    table_room: &mut [u8],
+    state_room: &mut [u8],
+    output: &mut [u8],
+) -> usize
+    requires { StoreRoom store.old × LongRoom table_room.old × StateRoom state_room.old × AnswerRoom output.old }
     ensures { result ≤ length output.old }
 {
-    match read_words(words, rooms) {
-        Some(handed) => call_take(&handed, rooms, output),
+    match read_words(words, table, store, table_room, state_room) {
+        Some(handed) => call_take(
+            &table[..handed.table],
+            &mut store[..handed.store],
+            handed.event,
+            &mut table_room[..handed.piece_table],
+            &mut state_room[..handed.piece_state],
+            output,
+        ),
         None => bad_line(output),
     }
 }
 
 // Reads the words: a table, a store, an event and two rooms. The event is one number: there is no space in a word, which would stand between two.
-fn read_words(words: &[u8], rooms: &mut Rooms) -> Option<HandedIn>
-    ensures { IfSome result (λ h. (h.table ≤ length rooms.new.table.now)
-        × (h.store ≤ length rooms.new.store.now)
-        × (h.piece_table ≤ length rooms.new.text.now)
-        × (h.piece_state ≤ length rooms.new.state.now)) }
+fn read_words(
+    words: &[u8],
+    table: &mut [u8],
+    store: &mut [u8],
+    table_room: &mut [u8],
+    state_room: &mut [u8],
+) -> Option<HandedIn>
+    ensures { IfSome result (λ h. (h.table ≤ length table.new)
+        × (h.store ≤ length store.new)
+        × (h.piece_table ≤ length table_room.new)
+        × (h.piece_state ≤ length state_room.new)) }
 {
     let (table_word, behind_table) = split_once(words, b' ')?;
     let (store_word, behind_store) = split_once(behind_table, b' ')?;
     let (event_word, behind_event) = split_once(behind_store, b' ')?;
     let (piece_table_word, piece_state_word) = split_once(behind_event, b' ')?;
-    let table = read_bytes(table_word, rooms.table)?;
-    let store = read_bytes(store_word, rooms.store)?;
+    let table = read_bytes(table_word, table)?;
+    let store = read_bytes(store_word, store)?;
     let events = read_events(event_word, b' ')?;
-    let piece_table = read_bytes(piece_table_word, rooms.text)?;
-    let piece_state = read_bytes(piece_state_word, rooms.state)?;
+    let piece_table = read_bytes(piece_table_word, table_room)?;
+    let piece_state = read_bytes(piece_state_word, state_room)?;
     Some(HandedIn {
         event: events.lowest(),
         table,
@@ -54,19 +74,18 @@ fn read_words(words: &[u8], rooms: &mut Rooms) -> Option<HandedIn>
     })
 }
 
-fn call_take(handed: &HandedIn, rooms: &mut Rooms, output: &mut [u8]) -> usize
-    requires { (handed.now.table ≤ length rooms.old.table.now)
-        × (handed.now.store ≤ length rooms.old.store.now)
-        × (handed.now.piece_table ≤ length rooms.old.text.now)
-        × (handed.now.piece_state ≤ length rooms.old.state.now)
-        × AnswerRoom output.old }
+fn call_take(
+    table: &[u8],
+    store: &mut [u8],
+    event: usize,
+    table_room: &mut [u8],
+    state_room: &mut [u8],
+    output: &mut [u8],
+) -> usize
+    requires { StoreRoom store.old × LongRoom table_room.old × StateRoom state_room.old × AnswerRoom output.old }
     ensures { result ≤ length output.old }
 {
-    let table = &rooms.table[..handed.table];
-    let store = &mut rooms.store[..handed.store];
-    let table_room = &mut rooms.text[..handed.piece_table];
-    let state_room = &mut rooms.state[..handed.piece_state];
-    let taken = taking::take(table, store, handed.event, table_room, state_room);
+    let taken = taking::take(table, store, event, table_room, state_room);
     let refusal = Numbered::of(taken);
     let lengths = taken.unwrap_or_default();
     let mut out = Writer {

@@ -1,10 +1,10 @@
 // The call that a line makes, and its answer line. Each function puts an answer line at the start of the output and answers its length.
 ghost use Rattle.std.specs.Prelude.{◌≤◌, length};
-ghost use Rattle.call_lines.specs.Rooms.{LongRoom, StateRoom, AnswerRoom};
+ghost use Rattle.call_lines.specs.Rooms.{LongRoom, StateRoom, Lengths, AnswerRoom};
 
+use call_lines::bad_line;
 use call_lines::instant::answer_instant;
 use call_lines::take::answer_take;
-use call_lines::{Rooms, bad_line};
 use calls::{put_numbers, put_word, read_bytes, read_pair};
 use letters::Writer;
 use octets::split_once;
@@ -13,6 +13,17 @@ use table::numbers::Numbered;
 
 // The bytes of the longest line that is a call.
 pub const LONGEST: usize = 400000;
+
+// The rooms that a line's words are read into, for a table, a state, a row, a text and a store. A longer word makes a bad line.
+#[derive(Drop)]
+pub struct Rooms<'a> {
+    pub table: &'a mut [u8],
+    pub state: &'a mut [u8],
+    pub row: &'a mut [u16],
+    pub text: &'a mut [u8],
+    pub store: &'a mut [u8],
+    ghost lengths: { Lengths table.now state.now row.now text.now store.now },
+}
 
 pub fn answer_call(line: &[u8], rooms: &mut Rooms, output: &mut [u8]) -> usize
     requires { AnswerRoom output.old }
@@ -27,10 +38,25 @@ pub fn answer_call(line: &[u8], rooms: &mut Rooms, output: &mut [u8]) -> usize
     match name {
         b"check" => answer_check(words, rooms, output),
         b"start" => answer_start(words, rooms, output),
-        b"instant" => answer_instant(words, rooms, output),
+        b"instant" => answer_instant(
+            words,
+            rooms.table,
+            rooms.state,
+            rooms.row,
+            rooms.store,
+            output,
+        ),
         b"read" => answer_read(words, rooms, output),
         b"print" => answer_print(words, rooms, output),
-        b"take" => answer_take(words, rooms, output),
+        // The piece's table goes into the room for a text.
+        b"take" => answer_take(
+            words,
+            rooms.table,
+            rooms.store,
+            rooms.text,
+            rooms.state,
+            output,
+        ),
         _ => bad_line(output),
     }
 }

@@ -4,8 +4,7 @@
 
 ghost use Rattle.std.specs.Prelude.{◌+◌, ◌≤◌, length};
 
-use call::{LONGEST, answer_call};
-use call_lines::Rooms;
+use call::{LONGEST, Rooms, answer_call};
 use console::{TURNS, keep_rest, read_some, write_out};
 use octets::split_once;
 use std::io::{Read, Write};
