@@ -3,7 +3,9 @@
 // Here is the reading and writing; what a line does is answer.rt's, and is proved to be what 01 and L1 say.
 #![tactic(auto)]
 
-ghost use Rattle.std.specs.Prelude.{◌≡◌, ◌+◌, ◌<◌, ◌≤◌, ◌^◌, length};
+ghost use Rattle.std.specs.Prelude.{◌≡◌, ◌+◌, ◌<◌, ◌≤◌, ◌^◌, length, take, drop, IfSome, MatchOption};
+ghost use Rattle.octets.specs.Octets.{index_of};
+ghost use Rattle.letters.specs.Text.{newline};
 ghost use Rattle.listing.specs.Output.{enough};
 ghost use Rattle.player.specs.Waiting.{room_under};
 
@@ -124,9 +126,22 @@ fn list_whole<W: Write>(player: &mut Player<'_>, output: &mut Output<W>, text: &
     ensures within { result ≤ length text.now }
 {
     let mut rest = text;
-    while let Some((line, behind)) = split_once(rest, b'\n') {
+    while let Some((line, behind)) = next_line(rest) {
         output.list_line(player, line);
         rest = behind;
     }
     rest.len()
+}
+
+// The first line of a text, its newline left out, and what stands behind it, if there is a whole one: here alone a contract says which byte ends a line.
+fn next_line(text: &[u8]) -> Option<(&[u8], &[u8])>
+    ensures split { MatchOption
+        result
+        (length text.now ≡ index_of newline text.now)
+        (λ parts. (index_of newline text.now < length text.now)
+        × (parts.0.now ≡ take (index_of newline text.now) text.now)
+        × (parts.1.now ≡ drop (index_of newline text.now + 1) text.now)) }
+    ensures shorter { IfSome result (λ parts. length parts.1.now + 1 + length parts.0.now ≡ length text.now) }
+{
+    split_once(text, b'\n')
 }
