@@ -28,10 +28,10 @@ const LINE: usize = 6 * (ROW + MORE) + ROOM_UNDER;
 
 // Lists the lines of standard input; `why` is whether it says what the program waits for.
 pub fn play(rt: &(impl Files + Input + Print), why: bool) {
+    // The rooms are made before anything is called: one that is made behind a call is cleared twice, on entry and there.
     let mut room = [0u8; TABLE];
-    let table = read_table(rt, &mut room);
     let mut player = Player {
-        table,
+        table: &[],
         state: [0; STATE],
         row: [0; ROW],
         store: [0; STORE],
@@ -44,7 +44,8 @@ pub fn play(rt: &(impl Files + Input + Print), why: bool) {
         filled: 0,
     };
     let mut input = [0u8; BLOCK];
-    let started = kernel::start(table, &mut player.state);
+    player.table = read_table(rt, &mut room);
+    let started = kernel::start(player.table, &mut player.state);
     if let Err(why) = started {
         let refusal = Numbered::from(why);
         output.filled = write_table_refused(&mut output.block, refusal.number, refusal.index);
