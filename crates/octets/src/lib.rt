@@ -14,7 +14,11 @@ pub fn find(text: &[u8], from: usize, to: usize, byte: u8) -> Option<usize>
         (to ≡ from + index_of byte (slice from to text.now))
         (λ place. (place ≡ from + index_of byte (slice from to text.now)) × (from ≤ place) × (place < to)) }
 {
-    Some(from + memchr(byte, &text[from..to])?)
+    // A match in place of `?`, so that an edit can turn what is answered where the byte doesn't stand, and nothing else.
+    match memchr(byte, &text[from..to]) {
+        Some(k) => Some(from + k),
+        None => None,
+    }
 }
 
 // What stands before the first such byte of a text and what stands behind it, if there is one.

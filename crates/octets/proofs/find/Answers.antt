@@ -12,24 +12,23 @@ part_is s from to h =
     let e : from + (to - from) ≡ to = omega arith in
     sym (drop-take from (to - from) s) ∙ ap (λ n. drop from (take n s)) e
 
--- Some(from + memchr(byte, &text[from..to])?)
-pub returns : goal.returns
-returns c =
+pub returns-in-Some : goal.returns-in-Some
+returns-in-Some c =
     let A = c.args in
     let e = place_is A.byte _ _ c.memchr.ensures in
     let h : A.from ≤ A.to = omega arith in
     let l : length (drop A.from A.text.now) ≡ length A.text.now - A.from = length-drop A.from A.text.now in
     let n : length (take (A.to - A.from) (drop A.from A.text.now)) ≡ A.to - A.from = length-take-le _ _ (omega arith) in (
-      ap (λ n. A.from + n) (sym (rw (part_is A.text.now A.from A.to h, c.in_ok-memchr.was) at e)),
+      ap (λ n. A.from + n) (sym (rw (part_is A.text.now A.from A.to h, c.in-Some.is) at e)),
       omega arith,
-      omega (arith, c.in_ok-memchr.ensures.0.high),
+      omega (arith, c.in-Some.ensures.0.high),
     )
 
-pub returns-in_err-memchr : goal.returns-in_err-memchr
-returns-in_err-memchr c =
+pub returns-in-None : goal.returns-in-None
+returns-in-None c =
     let A = c.args in
     let e = place_is A.byte _ _ c.memchr.ensures in
     let h : A.from ≤ A.to = omega arith in
     let l : length (drop A.from A.text.now) ≡ length A.text.now - A.from = length-drop A.from A.text.now in
     let n : length (take (A.to - A.from) (drop A.from A.text.now)) ≡ A.to - A.from = length-take-le _ _ (omega arith) in
-    rw c.from_residual.ensures (omega (arith, rw (c.in_err-memchr.was, n, part_is A.text.now A.from A.to h) at e))
+    omega (arith, rw (c.in-None.is, n, part_is A.text.now A.from A.to h) at e)
