@@ -35,9 +35,7 @@ struct Token {
     next: usize,
 }
 
-// The event at byte `at` of a line, if one stands there. In line: an answer of three words goes through memory, and a list of events then takes
-// half as long again.
-#[inline(always)]
+// The event at byte `at` of a line, if one stands there.
 fn event_at(line: &[u8], at: usize) -> Option<Token>
     requires { at < length line.now }
     ensures { EventAt line.now at result }
@@ -61,8 +59,10 @@ fn digit_at(line: &[u8], at: usize, number: usize) -> Option<usize>
     if line.len() <= at {
         return None;
     }
+    // The digit is asked for first: behind most numbers there is none.
+    let d = digit(line[at])?;
     if number == 0 || EventSet::PLACES <= number {
         return None;
     }
-    digit(line[at])
+    Some(d)
 }
