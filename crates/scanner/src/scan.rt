@@ -186,7 +186,7 @@ fn counted(names: &Names, k: Sizes, pc: usize, number: Option<usize>, b: u8) -> 
     }
 }
 
-// Reads a text: its sizes, or the place where it fails. Never in line, so that the ring is off the stack again before a table is built.
+// Reads a text: its sizes, or the place where it fails. Never in line: the ring is off the stack again before a table is built.
 #[inline(never)]
 pub fn scan(text: &[u8]) -> Result<Sizes, usize>
     ensures { Tells text.now result }

@@ -40,7 +40,8 @@ fn table_length(sizes: Sizes) -> usize
         .min(LONGEST + 1)
 }
 
-// Reads a text whose table is so long and fits the room.
+// Reads a text whose table is so long and fits the room. Never in line, as `scan`: so the two have their rooms on the stack one after the other.
+#[inline(never)]
 fn read_counted(
     text: &[u8],
     sizes: Sizes,
